@@ -1,0 +1,93 @@
+-- The laws of orders, each by cases on its answers. Assumes nothing.
+use Prim.Native.Nat.{ℕ}
+use mathlib.Core.Bool.{Bool, true, false}
+use mathlib.Core.List.{List, [], _∷_, _++_}
+use mathlib.Core.Logic.{_↔_, _⊎_, inl, inr, ⊎-elim}
+use mathlib.Core.Path.{_≡_, refl, sym, ap, _∙_}
+use native.Mathlib.Omega.{arith}
+use Rattle.answer.specs.declared.Reason.{Reason}
+use Rattle.answer.specs.declared.Answer.{Answer}
+use Rattle.answer.specs.declared.Answer.the-variants.{Accepted, Refused}
+use Rattle.answer.specs.Orders.{asked, _then_, first, movedBy, kept, Each, StopsAt, AskedAccepts, ThenAccepts, ThenRefuses, ThenGroups, FirstAccepts, FirstRefuses, FirstJoins, MovedNumber, MovedAccepts, MovedThen, MovedTwice, RefusalKeeps, AcceptedTakes, KeptSeen}
+
+-- an answer is accepted or refused, not both
+pub not-both : {X : Type 0} (a : Answer) {why : Reason} {p : ℕ} → a ≡ Refused why p → a ≡ Accepted → X
+not-both a e f = let z : _≡_ {A = ℕ} 0 1 = cc in absurd (omega arith)
+
+pub asked-accepts : AskedAccepts
+asked-accepts true why p = (λ e. refl, λ e. refl)
+asked-accepts false why p = (λ e. cc, λ e. cc)
+
+pub then-accepts : ThenAccepts
+then-accepts Accepted b = (λ e. (refl, e), λ h. h .1)
+then-accepts (Refused why p) b = (λ e. (e, not-both _ refl e), λ h. h .0)
+
+pub then-refuses : ThenRefuses
+then-refuses Accepted b why p = (λ e. inr (refl, e), λ h. ⊎-elim (λ e. not-both Accepted e refl) (λ e. e .1) h)
+then-refuses (Refused w q) b why p = (λ e. inl e, λ h. ⊎-elim (λ e. e) (λ e. not-both _ refl (e .0)) h)
+
+pub then-groups : ThenGroups
+then-groups Accepted b c = refl
+then-groups (Refused why p) b c = refl
+
+pub first-accepts : {A : Type 0} → FirstAccepts A
+first-accepts question [] = (λ e. tt, λ h. refl)
+first-accepts question (x ∷ xs) =
+    let both = then-accepts (question x) (first question xs) in
+    let rest = first-accepts question xs in
+    (λ e. (both .0 e .0, rest .0 (both .0 e .1)), λ h. both .1 (h .0, rest .1 (h .1)))
+
+pub first-joins : {A : Type 0} → FirstJoins A
+first-joins question [] ys = refl
+first-joins question (x ∷ xs) ys =
+    ap (λ (a : Answer). question x then a) (first-joins question xs ys) ∙ sym (then-groups (question x) (first question xs) (first question ys))
+
+stops : {A : Type 0} (question : A → Answer) (why : Reason) (p : ℕ) (xs : List A) → first question xs ≡ Refused why p → StopsAt question why p xs
+stops question why p [] e = not-both Accepted e refl
+stops question why p (x ∷ xs) e =
+    ⊎-elim (λ r. record { before = []; here = x; after = xs; is = refl; accepts = refl; refuses = r })
+    (λ r.
+    let later = stops question why p xs (r .1) in
+    record {
+      before = x ∷ later .before;
+      here = later .here;
+      after = later .after;
+      is = ap (λ l. x ∷ l) (later .is);
+      accepts = then-accepts (question x) (first question (later .before)) .1 (r .0, later .accepts);
+      refuses = later .refuses;
+    })
+    (then-refuses (question x) (first question xs) why p .0 e)
+
+pub first-refuses : {A : Type 0} → FirstRefuses A
+first-refuses question why p xs = (
+  stops question why p xs,
+  λ s. rw (s .is, first-joins question (s .before) (s .here ∷ s .after), s .accepts, s .refuses),
+)
+
+pub moved-number : MovedNumber
+moved-number move Accepted = refl
+moved-number move (Refused why p) = refl
+
+pub moved-accepts : MovedAccepts
+moved-accepts move Accepted = (λ e. refl, λ e. refl)
+moved-accepts move (Refused why p) = (λ e. not-both _ refl e, λ e. not-both _ refl e)
+
+pub moved-then : MovedThen
+moved-then move Accepted b = refl
+moved-then move (Refused why p) b = refl
+
+pub moved-twice : MovedTwice
+moved-twice move on Accepted = refl
+moved-twice move on (Refused why p) = refl
+
+pub refusal-keeps : {S : Type 0} → RefusalKeeps S
+refusal-keeps Accepted new old h = absurd (h refl)
+refusal-keeps (Refused why p) new old h = refl
+
+pub accepted-takes : {S : Type 0} → AcceptedTakes S
+accepted-takes Accepted new old h = refl
+accepted-takes (Refused why p) new old h = not-both _ refl h
+
+pub kept-seen : {S R : Type 0} → KeptSeen S R
+kept-seen see Accepted new old = refl
+kept-seen see (Refused why p) new old = refl

@@ -1,0 +1,106 @@
+-- The questions that every order of document 01 is written with, and their laws. Assumes nothing.
+use Prim.Native.Nat.{ℕ}
+use mathlib.Core.Bool.{Bool, true, false}
+use mathlib.Core.List.{List, [], _∷_, _++_}
+use mathlib.Core.Logic.{_↔_, _⊎_}
+use mathlib.Core.Path.{_≡_}
+use Rattle.answer.specs.declared.Reason.{Reason}
+use Rattle.answer.specs.declared.Answer.{Answer}
+use Rattle.answer.specs.declared.Answer.the-variants.{Accepted, Refused}
+use Rattle.answer.specs.Refusals.{answerNumber}
+
+-- one question: refused for this reason at this place, unless the test holds
+abbrev pub asked : Bool → Reason → ℕ → Answer
+asked true why place = Accepted
+asked false why place = Refused why place
+
+-- the first refusal of two
+infixr 20 _then_
+abbrev pub _then_ : Answer → Answer → Answer
+Accepted then next = next
+(Refused why place) then next = Refused why place
+
+-- the first refusal of a row of questions
+abbrev pub first {ℓ} : {A : Type ℓ} → (A → Answer) → List A → Answer
+first question [] = Accepted
+first question (x ∷ xs) = question x then first question xs
+
+-- an answer about a part, moved to the part's place in the whole
+abbrev pub movedBy : (ℕ → ℕ) → Answer → Answer
+movedBy move Accepted = Accepted
+movedBy move (Refused why place) = Refused why (move place)
+
+-- the new state where it is accepted, else the old
+abbrev pub kept {ℓ} : {S : Type ℓ} → Answer → S → S → S
+kept Accepted new old = new
+kept (Refused why place) new old = old
+
+-- Promises: of a question, of two, of a row.
+
+abbrev pub AskedAccepts : Type 0
+AskedAccepts = (t : Bool) (why : Reason) (p : ℕ) → (asked t why p ≡ Accepted) ↔ (t ≡ true)
+
+abbrev pub ThenAccepts : Type 0
+ThenAccepts = (a b : Answer) → (a then b ≡ Accepted) ↔ ((a ≡ Accepted) × (b ≡ Accepted))
+
+abbrev pub ThenRefuses : Type 0
+ThenRefuses =
+    (a b : Answer) (why : Reason) (p : ℕ)
+    → (a then b ≡ Refused why p) ↔ ((a ≡ Refused why p) ⊎ ((a ≡ Accepted) × (b ≡ Refused why p)))
+
+abbrev pub ThenGroups : Type 0
+ThenGroups = (a b c : Answer) → (a then b) then c ≡ a then (b then c)
+
+-- what holds of each of a row
+abbrev pub Each : {A : Type 0} → (A → Type 0) → List A → Type 0
+Each P [] = Unit {0}
+Each P (x ∷ xs) = P x × Each P xs
+
+abbrev pub FirstAccepts : Type 0 → Type 0
+FirstAccepts A =
+    (question : A → Answer) (xs : List A)
+    → (first question xs ≡ Accepted) ↔ Each (λ x. question x ≡ Accepted) xs
+
+-- the row stops at a question that refuses, when all before it accept
+pub record StopsAt {A : Type 0} (question : A → Answer) (why : Reason) (p : ℕ) (row : List A) : Type 0 where
+  pub before : List A
+  pub here : A
+  pub after : List A
+  pub is : row ≡ before ++ here ∷ after
+  pub accepts : first question before ≡ Accepted
+  pub refuses : question here ≡ Refused why p
+
+abbrev pub FirstRefuses : Type 0 → Type 0
+FirstRefuses A =
+    (question : A → Answer) (why : Reason) (p : ℕ) (xs : List A)
+    → (first question xs ≡ Refused why p) ↔ StopsAt question why p xs
+
+abbrev pub FirstJoins : Type 0 → Type 0
+FirstJoins A =
+    (question : A → Answer) (xs ys : List A)
+    → first question (xs ++ ys) ≡ first question xs then first question ys
+
+-- Promises: of an answer that is moved.
+
+abbrev pub MovedNumber : Type 0
+MovedNumber = (move : ℕ → ℕ) (a : Answer) → answerNumber (movedBy move a) ≡ answerNumber a
+
+abbrev pub MovedAccepts : Type 0
+MovedAccepts = (move : ℕ → ℕ) (a : Answer) → (movedBy move a ≡ Accepted) ↔ (a ≡ Accepted)
+
+abbrev pub MovedThen : Type 0
+MovedThen = (move : ℕ → ℕ) (a b : Answer) → movedBy move (a then b) ≡ movedBy move a then movedBy move b
+
+abbrev pub MovedTwice : Type 0
+MovedTwice = (move on : ℕ → ℕ) (a : Answer) → movedBy on (movedBy move a) ≡ movedBy (λ p. on (move p)) a
+
+-- Promises: of a state. A refusal changes nothing; what is seen of the kept state is what is kept of what is seen.
+
+abbrev pub RefusalKeeps : Type 0 → Type 0
+RefusalKeeps S = (a : Answer) (new old : S) → (a ≡ Accepted → ⊥) → kept a new old ≡ old
+
+abbrev pub AcceptedTakes : Type 0 → Type 0
+AcceptedTakes S = (a : Answer) (new old : S) → a ≡ Accepted → kept a new old ≡ new
+
+abbrev pub KeptSeen : Type 0 → Type 0 → Type 0
+KeptSeen S R = (see : S → R) (a : Answer) (new old : S) → see (kept a new old) ≡ kept a (see new) (see old)

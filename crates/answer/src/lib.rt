@@ -1,0 +1,86 @@
+// What a call answers: accepted, or one refusal with its place.
+ghost use mathlib.Core.Path.{_≡_};
+ghost use Rattle.answer.specs.Refusals.{numberOf, answerNumber, answerPlace};
+
+// What is wrong, in the order of document 01's refusal numbers.
+pub enum Reason {
+    WrongLength,
+    NoDigit,
+    WrongProduct,
+    UnknownSegment,
+    UnknownKind,
+    WrongBoxCheck,
+    WrongGeneralCheck,
+    NoText,
+    NotExpected,
+    FixedDiffers,
+    NoDate,
+    UnknownCode,
+    CountDiffers,
+    TotalDiffers,
+    FileFull,
+    FileTotalPassed,
+    BoardFull,
+    BoardTotalPassed,
+    FileOpen,
+    CheckTwoPlaces,
+    TooWide,
+}
+
+// A place counts from 1 in what was read; 0 where a refusal has none.
+pub enum Answer {
+    Accepted,
+    Refused(Reason, usize),
+}
+
+impl Reason {
+    pub fn number(self) -> u8
+        ensures { λ r. ⌜ r ≡ numberOf self ⌝ }
+    {
+        match self {
+            Reason::WrongLength => 1,
+            Reason::NoDigit => 2,
+            Reason::WrongProduct => 3,
+            Reason::UnknownSegment => 4,
+            Reason::UnknownKind => 5,
+            Reason::WrongBoxCheck => 6,
+            Reason::WrongGeneralCheck => 7,
+            Reason::NoText => 8,
+            Reason::NotExpected => 9,
+            Reason::FixedDiffers => 10,
+            Reason::NoDate => 11,
+            Reason::UnknownCode => 12,
+            Reason::CountDiffers => 13,
+            Reason::TotalDiffers => 14,
+            Reason::FileFull => 15,
+            Reason::FileTotalPassed => 16,
+            Reason::BoardFull => 17,
+            Reason::BoardTotalPassed => 18,
+            Reason::FileOpen => 19,
+            Reason::CheckTwoPlaces => 20,
+            Reason::TooWide => 21,
+        }
+    }
+}
+
+impl Answer {
+    // 0 where it is accepted.
+    pub fn number(self) -> u8
+        ensures { λ r. ⌜ r ≡ answerNumber self ⌝ }
+    {
+        match self {
+            Answer::Accepted => 0,
+            Answer::Refused(why, _) => why.number(),
+        }
+    }
+
+    // 0 where it is accepted.
+    pub fn place(self) -> usize
+        ensures { λ r. ⌜ r ≡ answerPlace self ⌝ }
+    {
+        match self {
+            Answer::Accepted => 0,
+            Answer::Refused(_, place) => place,
+        }
+    }
+}

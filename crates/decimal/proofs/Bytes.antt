@@ -1,0 +1,80 @@
+-- Laws of a part whose bytes are asked a test. They hold for every test. Assumes nothing.
+use Prim.Native.Nat.{ℕ, zero, suc, _+_, _<_, _≤_}
+use mathlib.Core.Bool.{Bool, true, false, cond, _&&_, and-eq-true-iff, and-assoc, and-true, and-false}
+use mathlib.Core.List.{List, [], _∷_, _++_}
+use mathlib.Core.Logic.{_↔_}
+use mathlib.Core.Path.{_≡_, refl, sym, ap, _∙_}
+use native.Mathlib.Nat.{add-suc, suc-add, add-zero}
+use native.Mathlib.Numerals.{add-one}
+use native.Mathlib.Omega.{arith}
+use borrow.Author.Tests.{ne-eqb}
+use lib.Bits.{bitOr, bitAnd, or-zero-r, or-add-and, and-le-l}
+use lib.Dec.{eqb}
+use lib.ListN.{length, getD, take, drop, drop-of-length-le}
+use lib.Seq.{drop-cons}
+use Rattle.answer.specs.declared.Reason.{Reason}
+use Rattle.answer.specs.declared.Answer.{Answer}
+use Rattle.answer.specs.declared.Answer.the-variants.{Accepted, Refused}
+use Rattle.answer.specs.Orders.{asked, _then_, movedBy}
+use Rattle.answer.proofs.Orders.{asked-accepts, then-accepts, moved-then}
+use Rattle.decimal.specs.Bytes.{all, eachIs, AllJoins, EachAccepts, EachRefuses, EachMoves}
+
+pub all-joins : AllJoins
+all-joins ok [] ys = refl
+all-joins ok (b ∷ xs) ys = ap (λ (t : Bool). ok b && t) (all-joins ok xs ys) ∙ sym (and-assoc (ok b) (all ok xs) (all ok ys))
+
+pub each-accepts : EachAccepts
+each-accepts ok why p [] = (λ e. refl, λ e. refl)
+each-accepts ok why p (b ∷ bs) =
+    let here = asked-accepts (ok b) why p in
+    let row = then-accepts (asked (ok b) why p) (eachIs ok why (suc p) bs) in
+    let rest = each-accepts ok why (suc p) bs in
+    let both = and-eq-true-iff (ok b) (all ok bs) in
+    (λ e. both .1 (here .0 (row .0 e .0), rest .0 (row .0 e .1)), λ h. row .1 (here .1 (both .0 h .0), rest .1 (both .0 h .1)))
+
+pub each-refuses : EachRefuses
+each-refuses ok why p i [] h a e = absurd (omega arith)
+each-refuses ok why p zero (b ∷ bs) h a e = rw (e, add-zero)
+each-refuses ok why p (suc i) (b ∷ bs) h a e =
+    let both = and-eq-true-iff (ok b) (all ok (take i bs)) .0 a in
+    let later = each-refuses ok why (suc p) i bs (omega arith) (both .1) e in
+    rw (both .0, later, add-suc, suc-add)
+
+asked-moves : (t : Bool) (why : Reason) (p by : ℕ) → asked t why (p + by) ≡ movedBy (λ q. q + by) (asked t why p)
+asked-moves true why p by = refl
+asked-moves false why p by = refl
+
+pub each-moves : EachMoves
+each-moves ok why p by [] = refl
+each-moves ok why p by (b ∷ bs) =
+    let rest = each-moves ok why (suc p) by bs in
+    let e : suc (p + by) ≡ suc p + by = sym (suc-add p by) in
+    rw (e, rest, asked-moves (ok b) why p by) (sym (moved-then (λ q. q + by) (asked (ok b) why p) (eachIs ok why (suc p) bs)))
+
+-- A loop at byte i, by what is known of the bytes from i on: the byte passes, it fails, there is none.
+module _ (ok : ℕ → Bool) (why : Reason) (bs : List ℕ) (i : ℕ) where
+  pub later : {r : Answer} → i < length bs → ok (getD bs i 0) ≡ true → eachIs ok why (i + 1) (drop i bs) ≡ r
+      → eachIs ok why (i + 1 + 1) (drop (i + 1) bs) ≡ r
+  later h e q = rw (add-one (i + 1), add-one) (rw (add-one, drop-cons bs i 0 h, e) at q)
+
+  pub here : {r : Answer} → i < length bs → ok (getD bs i 0) ≡ false → eachIs ok why (i + 1) (drop i bs) ≡ r → Refused why (i + 1) ≡ r
+  here h e q = rw (drop-cons bs i 0 h, e) at q
+
+  pub none : {r : Answer} → length bs ≤ i → eachIs ok why (i + 1) (drop i bs) ≡ r → Accepted ≡ r
+  none h q = rw (drop-of-length-le bs h) at q
+
+-- The flag of that loop: 0 as long as no byte failed.
+or-one : (n : ℕ) → eqb (bitOr n 1) 0 ≡ false
+or-one n = ne-eqb _ _ (λ (e : bitOr n 1 ≡ 0). omega (arith, or-add-and n 1, and-le-l n 1))
+
+flag-on : (t : Bool) (n : ℕ) (rest : Bool) → (eqb (bitOr n (cond t 0 1)) 0 && rest) ≡ (eqb n 0 && (t && rest))
+flag-on true n rest = rw or-zero-r
+flag-on false n rest = rw (or-one, and-false)
+
+module _ (ok : ℕ → Bool) (bs : List ℕ) (i n : ℕ) where
+  pub flag-step : {f : ℕ} {r : Bool} → i < length bs → f ≡ cond (ok (getD bs i 0)) 0 1 → (eqb n 0 && all ok (drop i bs)) ≡ r
+      → (eqb (bitOr n f) 0 && all ok (drop (i + 1) bs)) ≡ r
+  flag-step h e q = rw (e, add-one, flag-on (ok (getD bs i 0)) n (all ok (drop (suc i) bs))) (rw (drop-cons bs i 0 h) at q)
+
+  pub flag-end : {r : Bool} → length bs ≤ i → (eqb n 0 && all ok (drop i bs)) ≡ r → eqb n 0 ≡ r
+  flag-end h q = rw (drop-of-length-le bs h, and-true) at q

@@ -1,0 +1,151 @@
+// Bytes of a class, and numbers as decimal digits.
+ghost use mathlib.Core.Path.{_≡_};
+ghost use mathlib.Core.Bool.{cond};
+ghost use Prim.Native.Nat.{_+_, _*_, _^_};
+ghost use lib.Dec.{ltb};
+ghost use lib.ListN.{length};
+ghost use Rattle.answer.specs.Orders.{kept};
+ghost use Rattle.decimal.specs.Bytes.{within, isOf, all, eachIs};
+ghost use Rattle.decimal.specs.Numbers.{valueOf, numberOf, digitsOf, heldOf, widthAnswer};
+use answer::Answer;
+use answer::Reason;
+
+pub enum Class {
+    Digit,
+    Blank,
+    Text,
+}
+
+fn between(lo: u8, hi: u8, b: u8) -> bool
+    ensures { λ r. ⌜ r ≡ within lo hi b ⌝ }
+{
+    lo <= b && b <= hi
+}
+
+pub fn is_of(class: Class, b: u8) -> bool
+    ensures { λ r. ⌜ r ≡ isOf class b ⌝ }
+{
+    match class {
+        Class::Digit => between(48, 57, b),
+        Class::Blank => b == 32,
+        Class::Text => between(32, 126, b) || between(160, 255, b),
+    }
+}
+
+fn flag(class: Class, b: u8) -> u8
+    ensures { λ r. ⌜ r ≡ cond (isOf class b) 0 1 ⌝ }
+{
+    if is_of(class, b) { 0 } else { 1 }
+}
+
+// One flag over all bytes and no early end: such a loop is made wide by the compiler.
+pub fn all_of(class: Class, part: &[u8]) -> bool
+    ensures { λ r. ⌜ r ≡ all (isOf class) (now (part .entry)) ⌝ }
+{
+    let mut flags: u8 = 0;
+    let mut i = 0;
+    while i < part.len() {
+        flags = flags | flag(class, part[i]);
+        i += 1;
+    }
+    flags == 0
+}
+
+fn search(class: Class, why: Reason, part: &[u8]) -> Answer
+    ensures { λ r. ⌜ r ≡ eachIs (isOf class) why 1 (now (part .entry)) ⌝ }
+{
+    let mut i = 0;
+    while i < part.len() {
+        if !is_of(class, part[i]) {
+            return Answer::Refused(why, i + 1);
+        }
+        i += 1;
+    }
+    Answer::Accepted
+}
+
+// Refused at the first byte that is not of the class; its place is looked for only where there is one.
+pub fn first_not(class: Class, why: Reason, part: &[u8]) -> Answer
+    ensures { λ r. ⌜ r ≡ eachIs (isOf class) why 1 (now (part .entry)) ⌝ }
+{
+    if all_of(class, part) {
+        return Answer::Accepted;
+    }
+    search(class, why, part)
+}
+
+pub fn value(b: u8) -> u64
+    ensures { λ r. ⌜ r ≡ valueOf b ⌝ }
+{
+    if is_of(Class::Digit, b) {
+        (b - 48) as u64
+    } else {
+        0
+    }
+}
+
+// `n` with one digit more, or the largest number.
+fn with_digit(n: u64, digit: u64) -> u64
+    ensures { λ r. ⌜ r ≡ heldOf (n * 10 + digit) ⌝ }
+{
+    if 1844674407370955161 < n {
+        return 18446744073709551615;
+    }
+    let tens = n * 10;
+    if 18446744073709551615 - tens < digit {
+        return 18446744073709551615;
+    }
+    tens + digit
+}
+
+pub fn number(part: &[u8]) -> u64
+    ensures { λ r. ⌜ r ≡ heldOf (numberOf (now (part .entry))) ⌝ }
+{
+    let mut n: u64 = 0;
+    let mut i = 0;
+    while i < part.len() {
+        n = with_digit(n, value(part[i]));
+        i += 1;
+    }
+    n
+}
+
+// Whether a number has at most so many digits.
+pub fn fits_width(n: u64, width: usize) -> bool
+    ensures { λ r. ⌜ r ≡ ltb n (10 ^ width) ⌝ }
+{
+    let mut rest = n;
+    let mut left = width;
+    while 0 < left {
+        if rest == 0 {
+            return true;
+        }
+        rest = rest / 10;
+        left -= 1;
+    }
+    rest == 0
+}
+
+fn put_digits(n: u64, out: &mut [u8])
+    ensures { λ _. ⌜ now (out .exit) ≡ digitsOf (length (now (out .entry))) n ⌝ }
+{
+    let mut rest = n;
+    let mut i = out.len();
+    while 0 < i {
+        i -= 1;
+        out[i] = (48 + rest % 10) as u8;
+        rest = rest / 10;
+    }
+}
+
+// Fills the part with the digits of a number, zeros first.
+pub fn write_number(n: u64, out: &mut [u8]) -> Answer
+    ensures answer { λ r. ⌜ r ≡ widthAnswer (length (now (out .entry))) n ⌝ }
+    ensures bytes { λ r. ⌜ now (out .exit) ≡ kept r (digitsOf (length (now (out .entry))) n) (now (out .entry)) ⌝ }
+{
+    if !fits_width(n, out.len()) {
+        return Answer::Refused(Reason::TooWide, 1);
+    }
+    put_digits(n, out);
+    Answer::Accepted
+}
