@@ -10,18 +10,24 @@ use native.Mathlib.Omega.{arith}
 use borrow.Author.Tests.{ne-eqb}
 use lib.Bits.{bitOr, bitAnd, or-zero-r, or-add-and, and-le-l}
 use lib.Dec.{eqb}
-use lib.ListN.{length, getD, take, drop, drop-of-length-le}
+use lib.ListN.{length, getD, take, drop, drop-of-length-le, take-append-drop}
 use lib.Seq.{drop-cons}
 use Rattle.answer.specs.declared.Reason.{Reason}
 use Rattle.answer.specs.declared.Answer.{Answer}
 use Rattle.answer.specs.declared.Answer.the-variants.{Accepted, Refused}
 use Rattle.answer.specs.Orders.{asked, _then_, movedBy}
 use Rattle.answer.proofs.Orders.{asked-accepts, then-accepts, moved-then}
-use Rattle.decimal.specs.Bytes.{all, eachIs, AllJoins, EachAccepts, EachRefuses, EachMoves}
+use Rattle.decimal.specs.Bytes.{all, eachIs, AllJoins, AllOfPart, EachAccepts, EachRefuses, EachMoves}
 
 pub all-joins : AllJoins
 all-joins ok [] ys = refl
 all-joins ok (b ∷ xs) ys = ap (λ (t : Bool). ok b && t) (all-joins ok xs ys) ∙ sym (and-assoc (ok b) (all ok xs) (all ok ys))
+
+pub all-of-part : AllOfPart
+all-of-part ok from count bs h =
+    let whole : (n : ℕ) (l : List ℕ) → all ok l ≡ true → (all ok (take n l) ≡ true) × (all ok (drop n l) ≡ true) = λ n l t.
+    and-eq-true-iff (all ok (take n l)) (all ok (drop n l)) .0 (sym (all-joins ok (take n l) (drop n l)) ∙ ap (all ok) (take-append-drop n l) ∙ t) in
+    whole count (drop from bs) (whole from bs h .1) .0
 
 pub each-accepts : EachAccepts
 each-accepts ok why p [] = (λ e. refl, λ e. refl)

@@ -129,12 +129,14 @@ write-start out n = rw drop-length (append-nil (digitsOf (length out) n))
 
 pub write-step : (out : List ℕ) (i n : ℕ) → 0 < i → i ≤ length out
     → digitsOf (i - 1) (n / 10) ++ drop (i - 1) (set out (i - 1) (48 + n % 10)) ≡ digitsOf i n ++ drop i out
+unfolding digitsOf
 write-step out zero n h k = absurd (not-suc-le-zero h)
 write-step out (suc j) n h k =
     let e : suc j - 1 ≡ j = omega arith in
     rw (e, drop-set out j (48 + n % 10) k, append-assoc)
 
 pub write-end : (out : List ℕ) (i n : ℕ) {l : List ℕ} → i ≤ 0 → digitsOf i n ++ drop i out ≡ l → out ≡ l
+unfolding digitsOf
 write-end out zero n h q = q
 write-end out (suc j) n h q = absurd (not-suc-le-zero h)
 
@@ -150,6 +152,7 @@ digit-back d h =
     (t, value-digit (48 + d) t ∙ omega arith)
 
 pub number-of-digits : NumberOfDigits
+unfolding digitsOf
 number-of-digits zero n h = omega (arith, h)
 number-of-digits (suc w) n h =
     let ih : numberOf (digitsOf w (n / 10)) ≡ n / 10 = number-of-digits w (n / 10) (omega (arith, rw pow-suc at h)) in
@@ -159,6 +162,7 @@ all-snoc : (ok : ℕ → Bool) (bs : List ℕ) (b : ℕ) → all ok (bs ++ (b �
 all-snoc ok bs b = rw (all-joins, and-true)
 
 pub digits-fill : DigitsFill
+unfolding digitsOf
 digits-fill zero n = (refl, refl)
 digits-fill (suc w) n =
     let ih = digits-fill w (n / 10) in
@@ -167,6 +171,7 @@ digits-fill (suc w) n =
 
 digits-snoc : (w : ℕ) (bs : List ℕ) (b : ℕ) → isOf Digit b ≡ true → digitsOf w (numberOf bs) ≡ bs
     → digitsOf (suc w) (numberOf (bs ++ (b ∷ []))) ≡ bs ++ (b ∷ [])
+unfolding digitsOf
 digits-snoc w bs b t e =
     let d = digit-range b t in
     let v = value-digit b t in
@@ -175,6 +180,7 @@ digits-snoc w bs b t e =
     rw (number-snoc 0 bs b, q, r, e)
 
 digits-back : (w : ℕ) (bs : List ℕ) → length bs ≡ w → all (isOf Digit) bs ≡ true → digitsOf w (numberOf bs) ≡ bs
+unfolding digitsOf
 digits-back zero [] h t = refl
 digits-back zero (a ∷ bs) h t = absurd (omega arith)
 digits-back (suc w) bs h t =

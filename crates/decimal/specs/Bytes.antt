@@ -41,6 +41,9 @@ places first last l = take (last - (first - 1)) (drop (first - 1) l)
 abbrev pub AllJoins : Type 0
 AllJoins = (ok : ℕ → Bool) (xs ys : List ℕ) → all ok (xs ++ ys) ≡ (all ok xs && all ok ys)
 
+abbrev pub AllOfPart : Type 0
+AllOfPart = (ok : ℕ → Bool) (from count : ℕ) (bs : List ℕ) → all ok bs ≡ true → all ok (take count (drop from bs)) ≡ true
+
 abbrev pub EachAccepts : Type 0
 EachAccepts = (ok : ℕ → Bool) (why : Reason) (p : ℕ) (bs : List ℕ) → (eachIs ok why p bs ≡ Accepted) ↔ (all ok bs ≡ true)
 

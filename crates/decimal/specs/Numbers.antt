@@ -32,7 +32,7 @@ abbrev pub heldOf : ℕ → ℕ
 heldOf n = min n most
 
 -- the last w digits of n, as bytes, highest first
-abbrev pub digitsOf : ℕ → ℕ → List ℕ
+unfoldable pub digitsOf : ℕ → ℕ → List ℕ
 digitsOf zero n = []
 digitsOf (suc w) n = digitsOf w (n / 10) ++ ((48 + n % 10) ∷ [])
 

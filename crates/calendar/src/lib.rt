@@ -1,0 +1,82 @@
+// Gregorian dates as eight digit bytes, YYYYMMDD.
+ghost use mathlib.Core.Path.{_≡_};
+ghost use Rattle.calendar.specs.Dates.{isLeap, daysIn, isDate, dateOf};
+use decimal::Class;
+
+pub struct Date {
+    pub year: u64,
+    pub month: u64,
+    pub day: u64,
+}
+
+pub enum Dated {
+    On(Date),
+    NoDate,
+}
+
+fn is_leap(year: u64) -> bool
+    ensures { λ r. ⌜ r ≡ isLeap year ⌝ }
+{
+    if year % 4 != 0 {
+        return false;
+    }
+    if year % 100 != 0 {
+        return true;
+    }
+    year % 400 == 0
+}
+
+fn days_in(year: u64, month: u64) -> u64
+    ensures { λ r. ⌜ r ≡ daysIn year month ⌝ }
+{
+    if month == 2 {
+        if is_leap(year) {
+            return 29;
+        }
+        return 28;
+    }
+    if month == 0 {
+        return 0;
+    }
+    if 12 < month {
+        return 0;
+    }
+    // Odd months have 31 days up to July, even ones from August on.
+    30 + (month + month / 8) % 2
+}
+
+pub fn is_date(date: Date) -> bool
+    ensures { λ r. ⌜ r ≡ isDate date ⌝ }
+{
+    if date.year < 1900 {
+        return false;
+    }
+    if 2199 < date.year {
+        return false;
+    }
+    if date.day < 1 {
+        return false;
+    }
+    date.day <= days_in(date.year, date.month)
+}
+
+pub fn read_date(bytes: &[u8]) -> Dated
+    ensures { λ r. ⌜ r ≡ dateOf (now (bytes .entry)) ⌝ }
+{
+    if bytes.len() != 8 {
+        return Dated::NoDate;
+    }
+    if !decimal::all_of(Class::Digit, bytes) {
+        return Dated::NoDate;
+    }
+    let date = Date {
+        year: decimal::number(&bytes[0..4]),
+        month: decimal::number(&bytes[4..6]),
+        day: decimal::number(&bytes[6..8]),
+    };
+    if is_date(date) {
+        Dated::On(date)
+    } else {
+        Dated::NoDate
+    }
+}
