@@ -1,8 +1,8 @@
 -- A fact of every number below a numeral, from a test that antt computes over them all. Assumes nothing.
 use Prim.Native.Nat.{ℕ, zero, suc, _<_}
-use mathlib.Core.Bool.{Bool, true, false, cond, _&&_, and-eq-true-iff}
-use mathlib.Core.Logic.{⊎-elim}
-use mathlib.Core.Path.{_≡_, refl}
+use mathlib.Core.Bool.{Bool, true, false, cond, not, _&&_, _||_, and-eq-true-iff}
+use mathlib.Core.Logic.{_⊎_, inl, inr, ⊎-elim}
+use mathlib.Core.Path.{_≡_, refl, sym}
 use native.Mathlib.Nat.{not-suc-le-zero, le-of-suc-le-suc, eq-or-lt-of-le}
 
 abbrev pub below : ℕ → (ℕ → Bool) → Bool
@@ -22,7 +22,17 @@ pub at3 : (n m l : ℕ) (test : ℕ → ℕ → ℕ → Bool) → below n (λ p.
     → (p q r : ℕ) → p < n → q < m → r < l → test p q r ≡ true
 at3 n m l test t p q r hp hq hr = at l (test p q) (at2 n m (λ p q. below l (test p q)) t p q hp hq) r hr
 
--- a test with a premise: cond premise conclusion true
+-- tests that say if, and exactly if
 pub follows : (premise conclusion : Bool) → cond premise conclusion true ≡ true → premise ≡ true → conclusion ≡ true
 follows true conclusion h e = h
 follows false conclusion h e = cc
+
+pub agrees : (t u : Bool) → cond t u (not u) ≡ true → t ≡ u
+agrees true u h = sym h
+agrees false true h = h
+agrees false false h = refl
+
+-- a test of two cases
+pub or-cases : (t u : Bool) → (t || u) ≡ true → (t ≡ true) ⊎ (u ≡ true)
+or-cases true u h = inl refl
+or-cases false u h = inr h

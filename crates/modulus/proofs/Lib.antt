@@ -1,0 +1,4 @@
+pub mod Samples
+pub mod Slips
+pub mod Sums
+pub mod Terms

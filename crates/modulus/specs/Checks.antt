@@ -1,0 +1,96 @@
+-- The two check digits of document 01, over any list of bytes. Assumes nothing.
+use Prim.Native.Nat.{ℕ, _+_, _-_, _*_, _/_, _%_, _≤_, _<_}
+use mathlib.Core.Bool.{Bool, true, false, cond}
+use mathlib.Core.List.{List, [], _∷_, _++_}
+use mathlib.Core.Logic.{_↔_, _⊎_}
+use mathlib.Core.Path.{_≡_}
+use lib.Dec.{leb, eqb}
+use lib.ListN.{length, getD, set}
+use Rattle.decimal.specs.declared.Class.the-variants.{Digit}
+use Rattle.decimal.specs.Bytes.{isOf}
+use Rattle.decimal.specs.Numbers.{valueOf}
+use Rattle.modulus.specs.declared.Modulus.{Modulus}
+use Rattle.modulus.specs.declared.Modulus.the-variants.{Ten, Eleven}
+
+abbrev pub sizeOf : Modulus → ℕ
+sizeOf Ten = 10
+sizeOf Eleven = 11
+
+-- weights from the right: 2, 1, 2, 1 .., and 2 to 9, then 2 again. That of a digit with k digits to its right.
+abbrev pub weightOf : Modulus → ℕ → ℕ
+weightOf Ten k = 2 - k % 2
+weightOf Eleven k = 2 + k % 8
+
+-- what a product adds: its decimal digits (of a digit it has two at the most); under modulo 11 the whole product
+abbrev pub partOf : Modulus → ℕ → ℕ
+partOf Ten product = product / 10 + product % 10
+partOf Eleven product = product
+
+unfoldable pub termOf : Modulus → ℕ → ℕ → ℕ
+termOf m k b = partOf m (weightOf m k * valueOf b)
+
+-- the sum over a list that has k more digits to its right
+abbrev pub sumOf : Modulus → ℕ → List ℕ → ℕ
+sumOf m k [] = 0
+sumOf m k (b ∷ bs) = termOf m (k + length bs) b + sumOf m k bs
+
+abbrev pub restOf : Modulus → List ℕ → ℕ
+restOf m bs = sumOf m 0 bs % sizeOf m
+
+-- the check is 10 less the remainder by 10, and 0 for remainder 0; 11 less the remainder by 11, and 0 for remainders 0 and 1
+unfoldable pub ruleOf : Modulus → ℕ → ℕ
+ruleOf Ten rest = cond (eqb rest 0) 0 (10 - rest)
+ruleOf Eleven rest = cond (leb rest 1) 0 (11 - rest)
+
+abbrev pub checkOf : Modulus → List ℕ → ℕ
+checkOf m bs = ruleOf m (restOf m bs)
+
+-- Promises, over the modulus and over any list.
+
+-- a check is always one digit
+abbrev pub CheckIsOneDigit : Type 0
+CheckIsOneDigit = (m : Modulus) (bs : List ℕ) → checkOf m bs ≤ 9
+
+-- the sum of two parts: the left one has the right one's digits to its right too
+abbrev pub PartsCompose : Type 0
+PartsCompose = (m : Modulus) (k : ℕ) (left right : List ℕ) → sumOf m k (left ++ right) ≡ sumOf m (k + length right) left + sumOf m k right
+
+-- one digit changed into another moves the remainder
+abbrev pub OneDigitMoves : Type 0
+OneDigitMoves =
+    (m : Modulus) (k : ℕ) (bs : List ℕ) (i d : ℕ) → i < length bs → isOf Digit (getD bs i 0) ≡ true → isOf Digit d ≡ true
+    → sumOf m k (set bs i d) % sizeOf m ≡ sumOf m k bs % sizeOf m → d ≡ getD bs i 0
+
+-- two neighbours that changed places
+abbrev pub exchanged : List ℕ → ℕ → List ℕ
+exchanged bs i = set (set bs i (getD bs (i + 1) 0)) (i + 1) (getD bs i 0)
+
+-- the two are x and y, in either order
+abbrev pub Are : ℕ → ℕ → ℕ → ℕ → Type 0
+Are x y a b = ((a ≡ x) × (b ≡ y)) ⊎ ((a ≡ y) × (b ≡ x))
+
+-- the digits 0 and 9
+abbrev pub ZeroAndNine : ℕ → ℕ → Type 0
+ZeroAndNine = Are 48 57
+
+-- unequal digits exchanged under modulo 10 keep the remainder exactly when they are 0 and 9
+abbrev pub ExchangeKeeps : Type 0
+ExchangeKeeps =
+    (k : ℕ) (bs : List ℕ) (i : ℕ) → i + 1 < length bs → isOf Digit (getD bs i 0) ≡ true → isOf Digit (getD bs (i + 1) 0) ≡ true
+    → (getD bs i 0 ≡ getD bs (i + 1) 0 → ⊥)
+    → (sumOf Ten k (exchanged bs i) % 10 ≡ sumOf Ten k bs % 10) ↔ ZeroAndNine (getD bs i 0) (getD bs (i + 1) 0)
+
+-- an even number of digits more to the right changes no sum under modulo 10
+abbrev pub EvenShiftKeeps : Type 0
+EvenShiftKeeps = (n k : ℕ) (bs : List ℕ) → sumOf Ten (2 * n + k) bs ≡ sumOf Ten k bs
+
+-- a remainder that moves from 0 to 1, or from 1 to 0
+abbrev pub BetweenZeroAndOne : ℕ → ℕ → Type 0
+BetweenZeroAndOne = Are 0 1
+
+-- a check shows its remainder; under modulo 11 it does not tell 0 from 1
+abbrev pub CheckShowsTen : Type 0
+CheckShowsTen = (r q : ℕ) → r < 10 → q < 10 → ruleOf Ten r ≡ ruleOf Ten q → r ≡ q
+
+abbrev pub CheckShowsEleven : Type 0
+CheckShowsEleven = (r q : ℕ) → r < 11 → q < 11 → (ruleOf Eleven r ≡ ruleOf Eleven q) ↔ ((r ≡ q) ⊎ BetweenZeroAndOne r q)
