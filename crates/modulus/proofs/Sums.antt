@@ -8,13 +8,14 @@ use native.Mathlib.Numerals.{add-one}
 use native.Mathlib.Omega.{arith}
 use borrow.Author.Tests.{leb-true, leb-false, eqb-true, eqb-false}
 use lib.Dec.{leb, eqb}
-use lib.ListN.{length, getD, drop, set, length-drop, length-append, length-set}
-use lib.Seq.{drop-cons, drop-length}
+use lib.ListN.{length, getD, take, drop, length-drop, length-append, drop-of-length-le, take-append-drop}
+use lib.Seq.{drop-cons, drop-length, drop-drop}
 use Rattle.decimal.specs.Numbers.{valueOf}
 use Rattle.decimal.proofs.Numbers.{value-small}
 use Rattle.modulus.specs.declared.Modulus.{Modulus}
 use Rattle.modulus.specs.declared.Modulus.the-variants.{Ten, Eleven}
 use Rattle.modulus.specs.Checks.{sizeOf, weightOf, partOf, termOf, sumOf, ruleOf, checkOf, CheckIsOneDigit, PartsCompose}
+use Rattle.modulus.proofs.Terms.{period}
 
 pub weight-small : (m : Modulus) (k : ℕ) → weightOf m k ≤ 9
 weight-small Ten k = omega arith
@@ -24,7 +25,7 @@ pub part-small : (m : Modulus) (p : ℕ) → partOf m p ≤ p
 part-small Ten p = omega arith
 part-small Eleven p = omega arith
 
-pub remainder-small : (m : Modulus) (n : ℕ) → n % sizeOf m < 4294967296
+pub remainder-small : (m : Modulus) (n : ℕ) → n % sizeOf m ≤ 10
 remainder-small Ten n = omega arith
 remainder-small Eleven n = omega arith
 
@@ -50,26 +51,53 @@ parts-compose m k (b ∷ left) right =
     let e : k + length (left ++ right) ≡ k + length right + length left = omega (arith, length-append left right) in
     rw e (omega (arith, parts-compose m k left right))
 
--- the sum from i on is the term at i and the sum from the next on
-sum-step : (m : Modulus) (k : ℕ) (s : List ℕ) (i : ℕ) → i < length s
-    → sumOf m k (drop i s) ≡ termOf m (k + (length s - suc i)) (getD s i 0) + sumOf m k (drop (suc i) s)
-sum-step m k s i h = rw (drop-cons s i 0, length-drop)
+-- what a byte adds is small
+pub product-small : (m : Modulus) (k b : ℕ) → weightOf m k * valueOf b ≤ 81
+product-small m k b = mul-le-mul (weight-small m k) (value-small b)
 
--- A loop from the right, before and after its turn at index i - 1, and at its start.
-module _ (m : Modulus) (k : ℕ) (s : List ℕ) where
-  pub start : 0 % sizeOf m ≡ sumOf m k (drop (length s) s) % sizeOf m
-  start = rw (drop-length, zero-mod)
+pub term-small : (m : Modulus) (k b : ℕ) → termOf m k b ≤ 81
+unfolding termOf
+term-small m k b = le-trans (part-small m (weightOf m k * valueOf b)) (product-small m k b)
 
-  pub turn : (i sum r : ℕ) {w v p : ℕ} → 0 < i → i ≤ length s → w ≡ weightOf m (k + (length s - i)) → v ≡ valueOf (getD s (i - 1) 0)
-      → p ≡ partOf m (w * v) → r % sizeOf m ≡ (sum + p) % sizeOf m → sum % sizeOf m ≡ sumOf m k (drop i s) % sizeOf m
-      → r % sizeOf m ≡ sumOf m k (drop (i - 1) s) % sizeOf m
-  unfolding termOf
-  turn i sum r {w} {v} {p} h l ew ev ep er inv =
-      let j : suc (i - 1) ≡ i = omega arith in
-      let q : termOf m (k + (length s - i)) (getD s (i - 1) 0) ≡ p = cc in
-      let t : sumOf m k (drop (i - 1) s) ≡ sumOf m k (drop i s) + p = omega (arith, rw j at (sum-step m k s (i - 1) (omega arith))) in
-      rw t (er ∙ sym (mod-add-mod sum (sizeOf m) p) ∙ ap (λ (x : ℕ). (x + p) % sizeOf m) inv ∙ mod-add-mod (sumOf m k (drop i s)) (sizeOf m) p)
+pub sum-small : (m : Modulus) (k : ℕ) (bs : List ℕ) → sumOf m k bs ≤ 81 * length bs
+sum-small m k [] = omega arith
+sum-small m k (b ∷ bs) = omega (arith, term-small m (k + length bs) b, sum-small m k bs)
 
--- a product and what it adds are small, so that no sum wraps
-pub product-small : (m : Modulus) (k b : ℕ) {w v : ℕ} → w ≡ weightOf m k → v ≡ valueOf b → w * v ≤ 81
-product-small m k b ew ev = rw (ew, ev) (mul-le-mul (weight-small m k) (value-small b))
+-- A loop from the left at byte i: what it has, and the sum from i on, is the whole sum.
+module _ (m : Modulus) (k : ℕ) (bs : List ℕ) (i sum : ℕ) where
+  pub sum-step : {t : ℕ} → i < length bs → t ≡ termOf m (k + (length bs - 1 - i)) (getD bs i 0)
+      → (sum ≤ 81 * i) × (sum + sumOf m k (drop i bs) ≡ sumOf m k bs)
+      → (sum + t ≤ 81 * (i + 1)) × (sum + t + sumOf m k (drop (i + 1) bs) ≡ sumOf m k bs)
+  sum-step h e inv =
+      let l : length (drop (suc i) bs) ≡ length bs - 1 - i = omega (arith, length-drop (suc i) bs) in
+      let step : sumOf m k (drop i bs) ≡ termOf m (k + (length bs - 1 - i)) (getD bs i 0) + sumOf m k (drop (i + 1) bs) = rw (add-one, drop-cons bs i 0, l) in
+      let small = term-small m (k + (length bs - 1 - i)) (getD bs i 0) in
+      (omega arith, omega arith)
+
+  pub sum-end : length bs ≤ i → sum + sumOf m k (drop i bs) ≡ sumOf m k bs → sum ≡ sumOf m k bs
+  sum-end h inv = rw (drop-of-length-le bs h, add-zero) at inv
+
+-- the weights come again after eight digits
+pub sum-period : (m : Modulus) (k j : ℕ) (bs : List ℕ) → k % 8 ≡ j % 8 → sumOf m k bs ≡ sumOf m j bs
+sum-period m k j [] e = refl
+sum-period m k j (b ∷ bs) e =
+    let n : (k + length bs) % 8 ≡ (j + length bs) % 8 = omega arith in
+    let t : termOf m (k + length bs) b ≡ termOf m (j + length bs) b = cc (period m (k + length bs) b, period m (j + length bs) b) in
+    rw (t, sum-period m k j bs e)
+
+-- A loop over blocks from the right: a turn takes the bytes from index a up to index e.
+module _ (m : Modulus) (k : ℕ) (bs : List ℕ) where
+  pub blocks-start : 0 ≡ sumOf m k (drop (length bs) bs) % sizeOf m
+  blocks-start = rw (drop-length, zero-mod)
+
+  pub blocks-step : (a e j sum : ℕ) {t : ℕ} → a ≤ e → e ≤ length bs → j % 8 ≡ (k + (length bs - e)) % 8
+      → t ≡ sumOf m j (take (e - a) (drop a bs)) → sum ≡ sumOf m k (drop e bs) % sizeOf m
+      → (sum + t) % sizeOf m ≡ sumOf m k (drop a bs) % sizeOf m
+  blocks-step a e j sum {t} h l p q inv =
+      let n : a + (e - a) ≡ e = omega arith in
+      let d : take (e - a) (drop a bs) ++ drop e bs ≡ drop a bs = cc (take-append-drop (e - a) (drop a bs), drop-drop (e - a) a bs) in
+      let whole : sumOf m k (drop a bs) ≡ sumOf m (k + (length bs - e)) (take (e - a) (drop a bs)) + sumOf m k (drop e bs)
+      = rw (length-drop e bs, d) at (parts-compose m k (take (e - a) (drop a bs)) (drop e bs)) in
+      let same : t ≡ sumOf m (k + (length bs - e)) (take (e - a) (drop a bs)) = q ∙ sum-period m j (k + (length bs - e)) (take (e - a) (drop a bs)) p in
+      let f : sumOf m k (drop e bs) + t ≡ sumOf m k (drop a bs) = omega arith in
+      rw inv (mod-add-mod (sumOf m k (drop e bs)) (sizeOf m) t ∙ ap (λ (x : ℕ). x % sizeOf m) f)

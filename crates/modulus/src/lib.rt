@@ -1,8 +1,8 @@
 // Check digits under modulo 10 and modulo 11.
 ghost use mathlib.Core.Path.{_≡_};
-ghost use Prim.Native.Nat.{ℕ, _+_, _-_, _*_, _%_, _≤_, _<_};
-ghost use Rattle.decimal.specs.Numbers.{valueOf};
-ghost use Rattle.modulus.specs.Checks.{sizeOf, weightOf, partOf, sumOf, ruleOf, checkOf};
+ghost use Prim.Native.Nat.{_-_, _%_, _≤_, _<_};
+ghost use lib.ListN.{length};
+ghost use Rattle.modulus.specs.Checks.{sizeOf, weightOf, partOf, termOf, sumOf, ruleOf, checkOf};
 
 pub enum Modulus {
     Ten,
@@ -45,16 +45,6 @@ fn weight(m: Modulus, right: usize) -> u64
     }
 }
 
-// The weight of the digit to the left, by steps: no division for each digit.
-fn next_weight(m: Modulus, weight: u64) -> u64
-    ensures { λ r. ⌜ ((k : ℕ) → weight ≡ weightOf m k → r ≡ weightOf m (k + 1)) ⌝ }
-{
-    match m {
-        Modulus::Ten => if weight < 2 { 2 } else { 1 },
-        Modulus::Eleven => if weight < 9 { weight + 1 } else { 2 },
-    }
-}
-
 // What a product adds to the sum.
 fn part(m: Modulus, product: u64) -> u64
     ensures { λ r. ⌜ r ≡ partOf m product ⌝ }
@@ -65,31 +55,46 @@ fn part(m: Modulus, product: u64) -> u64
     }
 }
 
-// A sum with the same remainder that leaves room for more: a division only once in millions of digits.
-fn lowered(m: Modulus, sum: u64) -> u64
-    ensures same { λ r. ⌜ r % sizeOf m ≡ sum % sizeOf m ⌝ }
-    ensures small { λ r. ⌜ r < 4294967296 ⌝ }
+// What a byte adds that has `right` digits to its right.
+fn term(m: Modulus, right: usize, b: u8) -> u64
+    ensures { λ r. ⌜ r ≡ termOf m right b ⌝ }
 {
-    if sum < 4294967296 {
-        sum
-    } else {
-        remainder(m, sum)
-    }
+    part(m, weight(m, right) * decimal::value(b))
 }
 
-// The remainder of the sum over a part that has `right` more digits to its right.
+// The sum over a part short enough that no step of it needs a remainder.
+fn short_sum(m: Modulus, digits: &[u8], right: usize) -> u64
+    requires { ⌜ (length (now digits) ≤ 4096) × (right < 8) ⌝ }
+    ensures { λ r. ⌜ r ≡ sumOf m right (now (digits .entry)) ⌝ }
+{
+    let mut sum: u64 = 0;
+    let mut i = 0;
+    while i < digits.len() {
+        sum += term(m, right + (digits.len() - 1 - i), digits[i]);
+        i += 1;
+    }
+    sum
+}
+
+fn block_start(end: usize) -> usize
+    ensures { λ r. ⌜ r ≡ end - 4096 ⌝ }
+{
+    if 4096 < end { end - 4096 } else { 0 }
+}
+
+// The remainder of the sum over a part that has `right` more digits to its right; in blocks, so that no length wraps it.
 pub fn rest(m: Modulus, digits: &[u8], right: usize) -> u64
     ensures { λ r. ⌜ r ≡ sumOf m right (now (digits .entry)) % sizeOf m ⌝ }
 {
     let mut sum: u64 = 0;
-    let mut w = weight(m, right);
-    let mut i = digits.len();
-    while 0 < i {
-        i -= 1;
-        sum = lowered(m, sum + part(m, w * decimal::value(digits[i])));
-        w = next_weight(m, w);
+    let mut end = digits.len();
+    while 0 < end {
+        let start = block_start(end);
+        let behind = (right % 8 + (digits.len() - end)) % 8;
+        sum = remainder(m, sum + short_sum(m, &digits[start..end], behind));
+        end = start;
     }
-    remainder(m, sum)
+    sum
 }
 
 // The check digit of a stretch of digits.

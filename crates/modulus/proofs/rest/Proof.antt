@@ -1,105 +1,93 @@
-use Prim.Native.Nat.{_+_, _-_, _*_, _%_, _≤_, _<_}
-use mathlib.Core.Path.{_≡_, refl, sym, _∙_}
+use Prim.Native.Nat.{_+_, _-_, _%_, _≤_}
+use mathlib.Core.Path.{_≡_, refl, _∙_}
 use native.Mathlib.Omega.{arith}
-use lib.ListN.{length, getD, drop}
-use Rattle.modulus.specs.Checks.{sizeOf, weightOf, sumOf}
-use Rattle.modulus.proofs.Sums.{start, turn, product-small, part-small}
+use lib.Seq.{length-take-le}
+use lib.ListN.{length, take, drop, length-drop}
+use Rattle.modulus.specs.Checks.{sizeOf, sumOf}
+use Rattle.modulus.proofs.Sums.{blocks-start, blocks-step, sum-small, remainder-small}
 use borrow.Author.Needs.{needs}
 use Rattle.modulus.proofs.rest.Statement.{statement}
 use Rattle.modulus.proofs.rest.Tie as tie
 use Rattle.modulus.proofs.rest.Reads as reads
 use Rattle.modulus.proofs.rest.Lts as lts
-use Rattle.decimal.proofs.value.Reads as value-reads
-use Rattle.modulus.proofs.lowered.Reads as lowered-reads
-use Rattle.modulus.proofs.next_weight.Reads as next-weight-reads
-use Rattle.modulus.proofs.part.Reads as part-reads
+use Rattle.modulus.proofs.block_start.Reads as block-start-reads
 use Rattle.modulus.proofs.remainder.Reads as remainder-reads
-use Rattle.modulus.proofs.weight.Reads as weight-reads
+use Rattle.modulus.proofs.short_sum.Reads as short-sum-reads
 
 abbrev Inv-loop : tie.InvT-loop
-Inv-loop m digits right sum₀ w₀ i₀ sum w i =
-    (i ≤ length digits) × (w ≡ weightOf m (right + (length digits - i))) × (sum < 4294967296)
-    × (sum % sizeOf m ≡ sumOf m right (drop i digits) % sizeOf m)
+Inv-loop m digits right sum₀ end₀ sum end = (end ≤ length digits) × (sum ≤ 10) × (sum ≡ sumOf m right (drop end digits) % sizeOf m)
 
 abbrev μ-loop : tie.MeasureT-loop
-μ-loop m digits right sum₀ w₀ i₀ sum w i = i
+μ-loop m digits right sum₀ end₀ sum end = end
 
--- src/lib.rt:85:9
-weight-requires : tie.Need-weight-requires Inv-loop μ-loop
-weight-requires c κs = search needs
-
--- src/lib.rt:87:5
+-- src/lib.rt:91:5
 loop-holds : tie.Need-loop-holds Inv-loop μ-loop
-loop-holds c =
-    let a = c .before .before .args in
-    let n : a .right + (length (a .digits .now) - length (a .digits .now)) ≡ a .right = omega arith in
-    (search needs, rw n (c .weight .ensures), search needs, start (a .m) (a .right) (a .digits .now))
+loop-holds c = (search needs, search needs, blocks-start (c .before .args .m) (c .before .args .right) (c .before .args .digits .now))
 
--- src/lib.rt:88:9
-sub-i : tie.Need-sub-i Inv-loop μ-loop
-sub-i c = search needs
+-- src/lib.rt:92:13
+block-start-requires : tie.Need-block-start-requires Inv-loop μ-loop
+block-start-requires c κs = search needs
 
--- src/lib.rt:89:59
-shared-slice-read-value : tie.Need-shared-slice-read-value Inv-loop μ-loop
-shared-slice-read-value c = search needs
+-- src/lib.rt:93:36
+sub-behind : tie.Need-sub-behind Inv-loop μ-loop
+sub-behind c = search needs
 
--- src/lib.rt:89:44
-value-requires : tie.Need-value-requires Inv-loop μ-loop
-value-requires c κs = search needs
+-- src/lib.rt:93:23
+add-behind : tie.Need-add-behind Inv-loop μ-loop
+add-behind c = search needs
 
--- src/lib.rt:89:40
-mul-part : tie.Need-mul-part Inv-loop μ-loop
-mul-part c =
+-- src/lib.rt:94:47
+sub-short-sum : tie.Need-sub-short-sum Inv-loop μ-loop
+sub-short-sum c = search needs
+
+-- src/lib.rt:94:47
+part-short-sum-start : tie.Need-part-short-sum-start Inv-loop μ-loop
+part-short-sum-start c = search needs
+
+-- src/lib.rt:94:47
+part-short-sum-end : tie.Need-part-short-sum-end Inv-loop μ-loop
+part-short-sum-end c = search needs
+
+-- src/lib.rt:94:34
+short-sum-requires : tie.Need-short-sum-requires Inv-loop μ-loop
+short-sum-requires c κs = search needs
+
+-- src/lib.rt:94:28
+add-remainder : tie.Need-add-remainder Inv-loop μ-loop
+add-remainder c =
     let a = c .before .before .before .before .before .before .args in
-    let l = c .before .before .before .loop in
-    record { fits = omega (arith, product-small (a .m) (a .right + (length (a .digits .now) - l .i)) (getD (a .digits .now) (l .i - 1) 0) (l .inv .1) (c .value .ensures)) }
+    let bs = a .digits .now in
+    let end = c .before .before .before .before .loop .end in
+    let start = c .before .before .block-start .result in
+    let behind = (a .right % 8 + (length bs - end)) % 8 in
+    let l : length (take (end - start) (drop start bs)) ≡ end - start = length-take-le (end - start) (drop start bs) (omega (arith, length-drop start bs)) in
+    let small = sum-small (a .m) behind (take (end - start) (drop start bs)) in
+    record { fits = rw (c .short-sum .ensures) (omega arith) }
 
--- src/lib.rt:89:32
-part-requires : tie.Need-part-requires Inv-loop μ-loop
-part-requires c κs = search needs
-
--- src/lib.rt:89:26
-add-lowered : tie.Need-add-lowered Inv-loop μ-loop
-add-lowered c =
-    let a = c .before .before .before .before .before .before .before .args in
-    let l = c .before .before .before .before .loop in
-    let p = product-small (a .m) (a .right + (length (a .digits .now) - l .i)) (getD (a .digits .now) (l .i - 1) 0) (l .inv .1) (c .before .value .ensures) in
-    let q = part-small (a .m) (l .w * c .before .value .result) in
-    record { fits = rw (c .part .ensures) (omega arith) }
-
--- src/lib.rt:89:9
-lowered-requires : tie.Need-lowered-requires Inv-loop μ-loop
-lowered-requires c κs = search needs
-
--- src/lib.rt:90:9
-next-weight-requires : tie.Need-next-weight-requires Inv-loop μ-loop
-next-weight-requires c κs = search needs
-
--- src/lib.rt:87:5
-loop-less : tie.Need-loop-less Inv-loop μ-loop
-loop-less c = search needs
-
--- src/lib.rt:87:5
-loop-again : tie.Need-loop-again Inv-loop μ-loop
-loop-again c =
-    let a = c .before .before .before .before .before .before .before .before .before .args in
-    let l = c .before .before .before .before .before .before .loop in
-    let n : a .right + (length (a .digits .now) - l .i) + 1 ≡ a .right + (length (a .digits .now) - (l .i - 1)) = omega arith in (
-      search needs,
-      rw (← n) (c .next-weight .ensures (a .right + (length (a .digits .now) - l .i)) (l .inv .1)),
-      c .before .lowered .ensures .1,
-      turn (a .m) (a .right) (a .digits .now) (l .i) (l .sum) (c .before .lowered .result) (search needs) (l .inv .0) (l .inv .1) (c .before .before .before .value .ensures) (c .before .before .part .ensures) (c .before .lowered .ensures .0) (l .inv .3),
-    )
-
--- src/lib.rt:92:5
+-- src/lib.rt:94:9
 remainder-requires : tie.Need-remainder-requires Inv-loop μ-loop
 remainder-requires c κs = search needs
 
--- src/lib.rt:81:1
+-- src/lib.rt:91:5
+loop-less : tie.Need-loop-less Inv-loop μ-loop
+loop-less c = search needs
+
+-- src/lib.rt:91:5
+loop-again : tie.Need-loop-again Inv-loop μ-loop
+loop-again c =
+    let a = c .before .before .before .before .before .before .before .args in
+    let bs = a .digits .now in
+    let end = c .before .before .before .before .before .loop .end in
+    let start = c .before .before .before .block-start .result in
+    let behind = (a .right % 8 + (length bs - end)) % 8 in
+    let step = blocks-step (a .m) (a .right) bs start end behind (c .before .before .before .before .before .loop .sum) (omega arith) (omega arith) (omega arith) (c .before .short-sum .ensures) (c .before .before .before .before .before .loop .inv .2) in
+    (omega arith, rw (c .remainder .ensures) (remainder-small (a .m) _), c .remainder .ensures ∙ step)
+
+-- src/lib.rt:86:1
 returns : tie.Need-returns Inv-loop μ-loop
 returns c =
-    let e : c .before .before .loop .i ≡ 0 = omega arith in
-    c .remainder .ensures ∙ (rw e at (c .before .before .loop .inv .3))
+    let e : c .before .loop .end ≡ 0 = omega arith in
+    rw e at (c .before .loop .inv .2)
 
 pub rest-spec : {M : Type 1} → statement M
 rest-spec =
@@ -107,17 +95,16 @@ rest-spec =
     (tie.spec
     Inv-loop
     μ-loop
-    weight-requires
     loop-holds
-    sub-i
-    shared-slice-read-value
-    value-requires
-    mul-part
-    part-requires
-    add-lowered
-    lowered-requires
-    next-weight-requires
+    block-start-requires
+    sub-behind
+    add-behind
+    sub-short-sum
+    part-short-sum-start
+    part-short-sum-end
+    short-sum-requires
+    add-remainder
+    remainder-requires
     loop-less
     loop-again
-    remainder-requires
     returns)
