@@ -1,14 +1,14 @@
 -- The laws of orders, each by cases on its answers. Assumes nothing.
 use Prim.Native.Nat.{ℕ}
-use mathlib.Core.Bool.{Bool, true, false}
-use mathlib.Core.List.{List, [], _∷_, _++_}
-use mathlib.Core.Logic.{_↔_, _⊎_, inl, inr, ⊎-elim}
+use mathlib.Core.Bool.{true, false}
+use mathlib.Core.List.{List, [], _∷_}
+use mathlib.Core.Logic.{inl, inr, ⊎-elim}
 use mathlib.Core.Path.{_≡_, refl, sym, ap, _∙_}
 use native.Mathlib.Omega.{arith}
 use Rattle.answer.specs.declared.Reason.{Reason}
 use Rattle.answer.specs.declared.Answer.{Answer}
 use Rattle.answer.specs.declared.Answer.the-variants.{Accepted, Refused}
-use Rattle.answer.specs.Orders.{asked, _then_, first, movedBy, kept, Each, StopsAt, AskedAccepts, ThenAccepts, ThenRefuses, ThenGroups, FirstAccepts, FirstRefuses, FirstJoins, MovedNumber, MovedAccepts, MovedThen, MovedTwice, RefusalKeeps, AcceptedTakes, KeptSeen}
+use Rattle.answer.specs.Orders.{_then_, first, StopsAt, AskedAccepts, ThenAccepts, ThenRefuses, ThenGroups, FirstAccepts, FirstRefuses, FirstJoins, MovedNumber, MovedAccepts, MovedThen, MovedTwice, RefusalKeeps, AcceptedTakes, KeptSeen}
 
 -- an answer is accepted or refused, not both
 pub not-both : {X : Type 0} (a : Answer) {why : Reason} {p : ℕ} → a ≡ Refused why p → a ≡ Accepted → X

@@ -1,13 +1,12 @@
 -- A number names one reason: it is the reason's place in the row of them all. Assumes nothing.
 use Prim.Native.Nat.{ℕ, _<_}
-use mathlib.Core.List.{List, [], _∷_}
+use mathlib.Core.List.{[], _∷_}
 use mathlib.Core.Path.{_≡_, refl, sym, ap, _∙_}
 use native.Mathlib.Omega.{arith}
 use lib.Dec.{lit<}
 use lib.ListN.{getD}
 use Rattle.answer.specs.declared.Reason.{Reason}
 use Rattle.answer.specs.declared.Reason.the-variants.{WrongLength, NoDigit, WrongProduct, UnknownSegment, UnknownKind, WrongBoxCheck, WrongGeneralCheck, NoText, NotExpected, FixedDiffers, NoDate, UnknownCode, CountDiffers, TotalDiffers, FileFull, FileTotalPassed, BoardFull, BoardTotalPassed, FileOpen, CheckTwoPlaces, TooWide}
-use Rattle.answer.specs.declared.Answer.{Answer}
 use Rattle.answer.specs.declared.Answer.the-variants.{Accepted, Refused}
 use Rattle.answer.specs.Refusals.{numberOf, answerNumber, NumbersDiffer, ZeroIsAccepted}
 

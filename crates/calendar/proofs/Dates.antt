@@ -1,8 +1,8 @@
 -- Laws of dates and of the bytes that spell them. Assumes nothing.
-use Prim.Native.Nat.{ℕ, _+_, _-_, _^_, _≤_, _<_}
+use Prim.Native.Nat.{ℕ, _+_, _^_, _≤_, _<_}
 use mathlib.Core.Bool.{Bool, true, false, cond, _&&_, and-eq-true-iff}
-use mathlib.Core.List.{List, [], _∷_, _++_}
-use mathlib.Core.Path.{_≡_, refl, sym, ap, _∙_}
+use mathlib.Core.List.{List, _++_}
+use mathlib.Core.Path.{_≡_, refl, sym, _∙_}
 use native.Mathlib.Omega.{arith}
 use borrow.Author.Tests.{eq-eqb, ne-eqb, le-leb, eqb-true, leb-true, leb-false}
 use lib.Dec.{eqb, leb}
@@ -15,7 +15,6 @@ use Rattle.decimal.proofs.Bytes.{all-joins, all-of-part}
 use Rattle.decimal.proofs.Finite.{below, at}
 use Rattle.decimal.proofs.Numbers.{nineteen-are-held, number-of-digits, digits-of-number, digits-fill}
 use Rattle.calendar.specs.declared.Date.{Date}
-use Rattle.calendar.specs.declared.Dated.{Dated}
 use Rattle.calendar.specs.declared.Dated.the-variants.{On, NoDate}
 use Rattle.calendar.specs.Dates.{isLeap, months, daysIn, isDate, spelled, dateOf, spelling, DateIsItsSpelling, SpellingIsItsDate}
 use Rattle.calendar.proofs.Months.{no-month}

@@ -1,13 +1,13 @@
 -- The days of the months by their rule. Assumes nothing.
 use Prim.Native.Nat.{ℕ, _+_, _/_, _%_, _≤_, _<_}
-use mathlib.Core.Bool.{Bool, true, false, cond, _&&_}
+use mathlib.Core.Bool.{Bool, true, cond}
 use mathlib.Core.Path.{_≡_, refl, sym}
 use native.Mathlib.Omega.{arith}
 use borrow.Author.Tests.{eqb-true, ne-eqb, le-leb}
 use lib.Dec.{eqb, leb}
 use lib.ListN.{getD, List·getD-eq-default}
-use Rattle.decimal.proofs.Finite.{below, at, follows}
-use Rattle.calendar.specs.Dates.{isLeap, months, daysIn}
+use Rattle.decimal.proofs.Finite.{below, at}
+use Rattle.calendar.specs.Dates.{months, daysIn}
 
 -- of each month but the second
 rule : ℕ → Bool

@@ -1,21 +1,20 @@
 -- Laws of a part whose bytes are asked a test. They hold for every test. Assumes nothing.
 use Prim.Native.Nat.{ℕ, zero, suc, _+_, _<_, _≤_}
 use mathlib.Core.Bool.{Bool, true, false, cond, _&&_, and-eq-true-iff, and-assoc, and-true, and-false}
-use mathlib.Core.List.{List, [], _∷_, _++_}
-use mathlib.Core.Logic.{_↔_}
+use mathlib.Core.List.{List, [], _∷_}
 use mathlib.Core.Path.{_≡_, refl, sym, ap, _∙_}
 use native.Mathlib.Nat.{add-suc, suc-add, add-zero}
 use native.Mathlib.Numerals.{add-one}
 use native.Mathlib.Omega.{arith}
 use borrow.Author.Tests.{ne-eqb}
-use lib.Bits.{bitOr, bitAnd, or-zero-r, or-add-and, and-le-l}
+use lib.Bits.{bitOr, or-zero-r, or-add-and, and-le-l}
 use lib.Dec.{eqb}
 use lib.ListN.{length, getD, take, drop, drop-of-length-le, take-append-drop}
 use lib.Seq.{drop-cons}
 use Rattle.answer.specs.declared.Reason.{Reason}
 use Rattle.answer.specs.declared.Answer.{Answer}
 use Rattle.answer.specs.declared.Answer.the-variants.{Accepted, Refused}
-use Rattle.answer.specs.Orders.{asked, _then_, movedBy}
+use Rattle.answer.specs.Orders.{asked, movedBy}
 use Rattle.answer.proofs.Orders.{asked-accepts, then-accepts, moved-then}
 use Rattle.decimal.specs.Bytes.{all, eachIs, AllJoins, AllOfPart, EachAccepts, EachRefuses, EachMoves}
 

@@ -1,17 +1,17 @@
 -- Laws of digits and numbers. Assumes nothing.
-use Prim.Native.Nat.{ℕ, zero, suc, _+_, _-_, _*_, _/_, _%_, _^_, _<_, _≤_, min}
+use Prim.Native.Nat.{ℕ, zero, suc, _+_, _-_, _*_, _/_, _%_, _^_, _<_, _≤_}
 use mathlib.Core.Bool.{Bool, true, false, cond, _&&_, and-eq-true-iff, and-true}
 use mathlib.Core.List.{List, [], _∷_, _++_, append-assoc, append-nil}
 use mathlib.Core.Path.{_≡_, refl, ap, sym, _∙_, subst}
 use native.Mathlib.Omega.{arith}
 use native.Mathlib.Numerals.{add-one}
-use native.Mathlib.Nat.{le-refl, le-trans, lt-of-lt-of-le, not-suc-le-zero, pow-suc, pow-succ', pow-le-pow-right, mul-le-mul-right, mul-assoc, div-lt-iff-lt-mul, min-le-right, one-le-pow}
-use borrow.Author.Tests.{leb-true, leb-false, le-leb, lt-ltb, le-ltb, eq-eqb, ne-eqb, ltb-true, ltb-false, eqb-true, eqb-false}
-use lib.Dec.{lit<, lit≤, leb, ltb, eqb}
+use native.Mathlib.Nat.{le-refl, lt-of-lt-of-le, not-suc-le-zero, pow-suc, pow-succ', pow-le-pow-right, mul-le-mul-right, mul-assoc, min-le-right, one-le-pow}
+use borrow.Author.Tests.{leb-true, leb-false, le-leb, lt-ltb, le-ltb, ltb-true, ltb-false, eqb-true, eqb-false}
+use lib.Dec.{lit<, leb, ltb, eqb}
 use lib.ListN.{length, take, drop, getD, set, length-append, length-set, drop-of-length-le}
 use lib.Seq.{take-all, take-suc, length-take-le, drop-length, drop-cons, getD-set-same, drop-set-lt}
 use Rattle.decimal.specs.declared.Class.the-variants.{Digit}
-use Rattle.decimal.specs.Bytes.{within, isOf, all}
+use Rattle.decimal.specs.Bytes.{isOf, all}
 use Rattle.decimal.proofs.Bytes.{all-joins}
 use Rattle.decimal.specs.Numbers.{valueOf, numberFrom, numberOf, most, heldOf, digitsOf, NumberOfDigits, DigitsOfNumber, DigitsFill, NumberFits, NineteenAreHeld}
 

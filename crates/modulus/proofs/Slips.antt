@@ -1,21 +1,19 @@
 -- What a slip of the hand does to the sum over any list. Assumes nothing.
-use Prim.Native.Nat.{ℕ, zero, suc, _+_, _-_, _*_, _%_, _≤_, _<_}
-use mathlib.Core.Bool.{Bool, true, false, cond, not, _&&_, _||_, or-true}
+use Prim.Native.Nat.{ℕ, zero, suc, _+_, _-_, _*_, _%_}
+use mathlib.Core.Bool.{Bool, true, cond, not, _||_, or-true}
 use mathlib.Core.List.{List, [], _∷_}
-use mathlib.Core.Logic.{_↔_, _⊎_, inl, inr, ⊎-elim}
-use mathlib.Core.Path.{_≡_, refl, sym, ap, _∙_}
+use mathlib.Core.Logic.{inl, inr, ⊎-elim}
+use mathlib.Core.Path.{_≡_, refl, sym, _∙_}
 use native.Mathlib.Omega.{arith}
-use borrow.Author.Tests.{eqb-true, eqb-false, eq-eqb, ne-eqb, leb-true, leb-false, le-leb, lt-leb}
-use lib.Dec.{eqb, leb}
+use borrow.Author.Tests.{eqb-true, eq-eqb, ne-eqb}
+use lib.Dec.{eqb}
 use lib.ListN.{length, getD, set, length-set}
 use lib.Seq.{getD-set-other}
-use Rattle.decimal.specs.declared.Class.the-variants.{Digit}
-use Rattle.decimal.specs.Bytes.{isOf}
 use Rattle.decimal.proofs.Finite.{below, at2, follows, agrees, or-cases}
 use Rattle.modulus.specs.declared.Modulus.{Modulus}
 use Rattle.modulus.specs.declared.Modulus.the-variants.{Ten, Eleven}
-use Rattle.modulus.specs.Checks.{sizeOf, termOf, sumOf, ruleOf, exchanged, Are, ZeroAndNine, BetweenZeroAndOne, OneDigitMoves, ExchangeKeeps, EvenShiftKeeps, CheckShowsTen, CheckShowsEleven}
-use Rattle.modulus.proofs.Terms.{period, term-tells, are, are-tells, are-test, neighbours-tell}
+use Rattle.modulus.specs.Checks.{sizeOf, termOf, sumOf, ruleOf, exchanged, OneDigitMoves, ExchangeKeeps, EvenShiftKeeps, CheckShowsTen, CheckShowsEleven}
+use Rattle.modulus.proofs.Terms.{term-tells, are, are-tells, are-test, neighbours-tell}
 
 -- the byte at i, which has w bytes to its right in the list, set to d
 pub sum-set : (m : Modulus) (k : ℕ) (bs : List ℕ) (i d w : ℕ) → w + i + 1 ≡ length bs

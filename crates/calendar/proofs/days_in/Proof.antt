@@ -1,45 +1,35 @@
+-- `calendar::days_in` meets its contract. Assumes nothing.
 use mathlib.Core.Path.{sym, _∙_}
-use Rattle.calendar.specs.Dates.{daysIn}
-use Rattle.calendar.proofs.Months.{month-days, no-month}
 use borrow.Author.Needs.{needs}
+use Rattle.calendar.proofs.Months.{month-days, no-month}
+use Rattle.calendar.specs.Dates.{daysIn}
 use Rattle.calendar.proofs.days_in.Statement.{statement}
 use Rattle.calendar.proofs.days_in.Tie as tie
-use Rattle.calendar.proofs.days_in.Reads as reads
-use Rattle.calendar.proofs.days_in.Lts as lts
-use Rattle.calendar.proofs.is_leap.Reads as is-leap-reads
 
--- src/lib.rt:33:12
 is-leap-requires : tie.Need-is-leap-requires
 is-leap-requires c κs = search needs
 
--- src/lib.rt:34:13
 returns : tie.Need-returns
 unfolding daysIn
 returns c = simp (c .before .before .if1 .taken, sym (c .before .is-leap .ensures) ∙ c .if2 .taken)
 
--- src/lib.rt:36:9
 returns-2 : tie.Need-returns-2
 unfolding daysIn
 returns-2 c = simp (c .before .before .if1 .taken, sym (c .before .is-leap .ensures) ∙ c .if2 .left)
 
--- src/lib.rt:39:9
 returns-3 : tie.Need-returns-3
 unfolding daysIn
 returns-3 c = simp (c .if3 .taken)
 
--- src/lib.rt:42:9
 returns-4 : tie.Need-returns-4
 returns-4 c = no-month _ _ (c .if4 .taken)
 
--- src/lib.rt:45:11
 add-result : tie.Need-add-result
 add-result c = search needs
 
--- src/lib.rt:45:5
 add-result-2 : tie.Need-add-result-2
 add-result-2 c = search needs
 
--- src/lib.rt:29:1
 returns-5 : tie.Need-returns-5
 returns-5 c = month-days _ _ (c .before .before .if1 .left) (c .before .if3 .left) (c .if4 .left)
 

@@ -1,80 +1,59 @@
-use Rattle.calendar.proofs.Dates.{no-eight, no-digits, as-spelled, judged}
+-- `calendar::read_date` meets its contract. Assumes nothing.
 use mathlib.Core.Path.{sym, _∙_}
-use borrow.Author.Tests.{not-true, not-false}
 use borrow.Author.Needs.{needs}
+use borrow.Author.Tests.{not-true, not-false}
+use Rattle.calendar.proofs.Dates.{no-eight, no-digits, as-spelled, judged}
 use Rattle.calendar.proofs.read_date.Statement.{statement}
 use Rattle.calendar.proofs.read_date.Tie as tie
-use Rattle.calendar.proofs.read_date.Reads as reads
-use Rattle.calendar.proofs.read_date.Lts as lts
-use Rattle.calendar.proofs.is_date.Reads as is-date-reads
-use Rattle.decimal.proofs.all_of.Reads as all-of-reads
-use Rattle.decimal.proofs.number.Reads as number-reads
 
--- src/lib.rt:55:9
 returns : tie.Need-returns
 returns c = no-eight _ (c .if1 .taken)
 
--- src/lib.rt:57:9
 all-of-requires : tie.Need-all-of-requires
 all-of-requires c κs = search needs
 
--- src/lib.rt:58:9
 returns-2 : tie.Need-returns-2
 returns-2 c = no-digits _ (c .before .before .if1 .left) (sym (c .before .all-of .ensures) ∙ not-true _ (c .if2 .taken))
 
--- src/lib.rt:61:31
 sub-number : tie.Need-sub-number
 sub-number c = search needs
 
--- src/lib.rt:61:31
 part-number-start : tie.Need-part-number-start
 part-number-start c = search needs
 
--- src/lib.rt:61:31
 part-number-end : tie.Need-part-number-end
 part-number-end c = search needs
 
--- src/lib.rt:61:15
 number-requires : tie.Need-number-requires
 number-requires c κs = search needs
 
--- src/lib.rt:62:32
 sub-number-2 : tie.Need-sub-number-2
 sub-number-2 c = search needs
 
--- src/lib.rt:62:32
 part-number-start-2 : tie.Need-part-number-start-2
 part-number-start-2 c = search needs
 
--- src/lib.rt:62:32
 part-number-end-2 : tie.Need-part-number-end-2
 part-number-end-2 c = search needs
 
--- src/lib.rt:62:16
 number-requires-2 : tie.Need-number-requires-2
 number-requires-2 c κs = search needs
 
--- src/lib.rt:63:30
 sub-number-3 : tie.Need-sub-number-3
 sub-number-3 c = search needs
 
--- src/lib.rt:63:30
 part-number-start-3 : tie.Need-part-number-start-3
 part-number-start-3 c = search needs
 
--- src/lib.rt:63:30
 part-number-end-3 : tie.Need-part-number-end-3
 part-number-end-3 c = search needs
 
--- src/lib.rt:63:14
 number-requires-3 : tie.Need-number-requires-3
 number-requires-3 c κs = search needs
 
--- src/lib.rt:65:8
 is-date-requires : tie.Need-is-date-requires
 is-date-requires c κs = search needs
 
--- src/lib.rt:51:1
 returns-3 : tie.Need-returns-3
 returns-3 c =
     let bs = c .before .before .before .before .before .before .before .before .before .before .before .before .args .bytes .now in
@@ -84,7 +63,6 @@ returns-3 c =
     let t = sym (c .if3 .taken) ∙ c .before .is-date .ensures in
     judged bs n all d t
 
--- src/lib.rt:51:1
 returns-4 : tie.Need-returns-4
 returns-4 c =
     let bs = c .before .before .before .before .before .before .before .before .before .before .before .before .args .bytes .now in

@@ -1,16 +1,14 @@
+-- `decimal::all_of` meets its contract. Assumes nothing.
 use Prim.Native.Nat.{_≤_, _-_}
 use mathlib.Core.Bool.{_&&_}
 use mathlib.Core.Path.{_≡_, refl}
+use borrow.Author.Needs.{needs}
 use lib.Dec.{eqb}
 use lib.ListN.{length, drop}
-use Rattle.decimal.specs.Bytes.{isOf, all}
 use Rattle.decimal.proofs.Bytes.{flag-step, flag-end}
-use borrow.Author.Needs.{needs}
+use Rattle.decimal.specs.Bytes.{isOf, all}
 use Rattle.decimal.proofs.all_of.Statement.{statement}
 use Rattle.decimal.proofs.all_of.Tie as tie
-use Rattle.decimal.proofs.all_of.Reads as reads
-use Rattle.decimal.proofs.all_of.Lts as lts
-use Rattle.decimal.proofs.flag.Reads as flag-reads
 
 abbrev Inv-loop : tie.InvT-loop
 Inv-loop class part flags₀ i₀ flags i = (i ≤ length part) × ((eqb flags 0 && all (isOf class) (drop i part)) ≡ all (isOf class) part)
@@ -18,34 +16,27 @@ Inv-loop class part flags₀ i₀ flags i = (i ≤ length part) × ((eqb flags 0
 abbrev μ-loop : tie.MeasureT-loop
 μ-loop class part flags₀ i₀ flags i = length part - i
 
--- src/lib.rt:47:5
 loop-holds : tie.Need-loop-holds Inv-loop μ-loop
 loop-holds c = (search needs, refl)
 
--- src/lib.rt:48:37
 shared-slice-read-flag : tie.Need-shared-slice-read-flag Inv-loop μ-loop
 shared-slice-read-flag c = search needs
 
--- src/lib.rt:48:25
 flag-requires : tie.Need-flag-requires Inv-loop μ-loop
 flag-requires c κs = search needs
 
--- src/lib.rt:49:9
 add-i : tie.Need-add-i Inv-loop μ-loop
 add-i c = search needs
 
--- src/lib.rt:47:5
 loop-less : tie.Need-loop-less Inv-loop μ-loop
 loop-less c = search needs
 
--- src/lib.rt:47:5
 loop-again : tie.Need-loop-again Inv-loop μ-loop
 loop-again c =
     let a = c .before .before .before .before .before .args in
     let l = c .before .before .before .loop in
     (search needs, flag-step (isOf (a .class)) (a .part .now) (l .i) (l .flags) (c .before .before .loop-test .taken) (c .flag .ensures) (l .inv .1))
 
--- src/lib.rt:42:1
 returns : tie.Need-returns Inv-loop μ-loop
 returns c =
     let a = c .before .before .before .args in

@@ -1,29 +1,22 @@
+-- `decimal::first_not` meets its contract. Assumes nothing.
 use mathlib.Core.Path.{sym, _∙_}
-use Rattle.decimal.specs.Bytes.{isOf}
-use Rattle.decimal.proofs.Bytes.{each-accepts}
 use borrow.Author.Needs.{needs}
+use Rattle.decimal.proofs.Bytes.{each-accepts}
+use Rattle.decimal.specs.Bytes.{isOf}
 use Rattle.decimal.proofs.first_not.Statement.{statement}
 use Rattle.decimal.proofs.first_not.Tie as tie
-use Rattle.decimal.proofs.first_not.Reads as reads
-use Rattle.decimal.proofs.first_not.Lts as lts
-use Rattle.decimal.proofs.all_of.Reads as all-of-reads
-use Rattle.decimal.proofs.search.Reads as search-reads
 
--- src/lib.rt:71:8
 all-of-requires : tie.Need-all-of-requires
 all-of-requires c κs = search needs
 
--- src/lib.rt:72:9
 returns : tie.Need-returns
 returns c =
     let a = c .before .before .before .args in
     sym (each-accepts (isOf (a .class)) (a .why) 1 (a .part .now) .1 (sym (c .before .all-of .ensures) ∙ c .if1 .taken))
 
--- src/lib.rt:74:5
 search-requires : tie.Need-search-requires
 search-requires c κs = search needs
 
--- src/lib.rt:68:1
 returns-2 : tie.Need-returns-2
 returns-2 c = search needs
 

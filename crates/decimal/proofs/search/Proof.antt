@@ -1,15 +1,13 @@
+-- `decimal::search` meets its contract. Assumes nothing.
 use Prim.Native.Nat.{_≤_, _-_, _+_}
 use mathlib.Core.Path.{_≡_, refl, sym, _∙_}
+use borrow.Author.Needs.{needs}
 use borrow.Author.Tests.{not-true, not-false}
 use lib.ListN.{length, drop}
-use Rattle.decimal.specs.Bytes.{isOf, eachIs}
 use Rattle.decimal.proofs.Bytes.{later, here, none}
-use borrow.Author.Needs.{needs}
+use Rattle.decimal.specs.Bytes.{isOf, eachIs}
 use Rattle.decimal.proofs.search.Statement.{statement}
 use Rattle.decimal.proofs.search.Tie as tie
-use Rattle.decimal.proofs.search.Reads as reads
-use Rattle.decimal.proofs.search.Lts as lts
-use Rattle.decimal.proofs.is_of.Reads as is-of-reads
 
 abbrev Inv-loop : tie.InvT-loop
 Inv-loop class why part i₀ i = (i ≤ length part) × (eachIs (isOf class) why (i + 1) (drop i part) ≡ eachIs (isOf class) why 1 part)
@@ -17,39 +15,30 @@ Inv-loop class why part i₀ i = (i ≤ length part) × (eachIs (isOf class) why
 abbrev μ-loop : tie.MeasureT-loop
 μ-loop class why part i₀ i = length part - i
 
--- src/lib.rt:58:5
 loop-holds : tie.Need-loop-holds Inv-loop μ-loop
 loop-holds c = (search needs, refl)
 
--- src/lib.rt:59:26
 shared-slice-read-is-of : tie.Need-shared-slice-read-is-of Inv-loop μ-loop
 shared-slice-read-is-of c = search needs
 
--- src/lib.rt:59:13
 is-of-requires : tie.Need-is-of-requires Inv-loop μ-loop
 is-of-requires c κs = search needs
 
--- src/lib.rt:60:41
 add-t10 : tie.Need-add-t10 Inv-loop μ-loop
 add-t10 c = search needs
 
--- src/lib.rt:60:13
 returns : tie.Need-returns Inv-loop μ-loop
 returns c = here (isOf _) _ _ _ (c .before .before .before .loop-test .taken) (sym (c .before .is-of .ensures) ∙ not-true _ (c .if1 .taken)) (c .before .before .before .before .loop .inv .1)
 
--- src/lib.rt:62:9
 add-i : tie.Need-add-i Inv-loop μ-loop
 add-i c = search needs
 
--- src/lib.rt:58:5
 loop-less : tie.Need-loop-less Inv-loop μ-loop
 loop-less c = search needs
 
--- src/lib.rt:58:5
 loop-again : tie.Need-loop-again Inv-loop μ-loop
 loop-again c = (search needs, later (isOf _) _ _ _ (c .before .before .before .loop-test .taken) (sym (c .before .is-of .ensures) ∙ not-false _ (c .if1 .left)) (c .before .before .before .before .loop .inv .1))
 
--- src/lib.rt:54:1
 returns-2 : tie.Need-returns-2 Inv-loop μ-loop
 returns-2 c = none (isOf _) _ _ _ (c .loop-test .left) (c .before .loop .inv .1)
 

@@ -1,26 +1,20 @@
+-- `modulus::part` meets its contract. Assumes nothing.
 use borrow.Author.Needs.{needs}
 use Rattle.modulus.proofs.part.Statement.{statement}
 use Rattle.modulus.proofs.part.Tie as tie
-use Rattle.modulus.proofs.part.Reads as reads
-use Rattle.modulus.proofs.part.Lts as lts
 
--- src/lib.rt:63:25
 enum-told : tie.Need-enum-told
 enum-told c = search needs
 
--- src/lib.rt:63:25
 add-result : tie.Need-add-result
 add-result c = search needs
 
--- src/lib.rt:64:28
 enum-told-2 : tie.Need-enum-told-2
 enum-told-2 c = search needs
 
--- src/lib.rt:59:1
 returns : tie.Need-returns
 returns c = rw (c .enum-told .given .1)
 
--- src/lib.rt:59:1
 returns-2 : tie.Need-returns-2
 returns-2 c = search needs
 
