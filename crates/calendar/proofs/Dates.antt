@@ -9,7 +9,8 @@ use lib.Dec.{eqb, leb}
 use lib.ListN.{length, getD, take, drop, length-append, length-drop, take-append-drop}
 use lib.Seq.{length-take-le, take-all, take-at, drop-at, drop-drop}
 use Rattle.decimal.specs.declared.Class.the-variants.{Digit}
-use Rattle.decimal.specs.Bytes.{within, isOf, all, places}
+use Rattle.decimal.specs.Bytes.{within, isOf, all}
+use Rattle.decimal.specs.Places.{places}
 use Rattle.decimal.specs.Numbers.{numberOf, heldOf, digitsOf}
 use Rattle.decimal.proofs.Bytes.{all-joins, all-of-part}
 use Rattle.decimal.proofs.Finite.{below, at}

@@ -6,7 +6,8 @@ use mathlib.Core.Path.{_≡_}
 use lib.Dec.{eqb}
 use lib.ListN.{length, getD}
 use Rattle.decimal.specs.declared.Class.the-variants.{Digit}
-use Rattle.decimal.specs.Bytes.{within, isOf, all, places}
+use Rattle.decimal.specs.Bytes.{within, isOf, all}
+use Rattle.decimal.specs.Places.{places}
 use Rattle.decimal.specs.Numbers.{numberOf, digitsOf}
 use Rattle.calendar.specs.declared.Date.{Date}
 use Rattle.calendar.specs.declared.Dated.{Dated}

@@ -1,3 +1,4 @@
 pub mod Bytes
 pub mod Finite
 pub mod Numbers
+pub mod Places

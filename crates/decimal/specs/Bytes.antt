@@ -1,5 +1,5 @@
--- The classes of bytes, the places of a list, and a part whose bytes must be of a class. Assumes nothing.
-use Prim.Native.Nat.{ℕ, suc, _+_, _-_, _<_}
+-- The classes of bytes, and a part whose bytes must be of a class. Assumes nothing.
+use Prim.Native.Nat.{ℕ, suc, _+_, _<_}
 use mathlib.Core.Bool.{Bool, true, false, _&&_, _||_}
 use mathlib.Core.List.{List, [], _∷_, _++_}
 use mathlib.Core.Logic.{_↔_}
@@ -31,10 +31,6 @@ all ok (b ∷ bs) = ok b && all ok bs
 abbrev pub eachIs : (ℕ → Bool) → Reason → ℕ → List ℕ → Answer
 eachIs ok why p [] = Accepted
 eachIs ok why p (b ∷ bs) = asked (ok b) why p then eachIs ok why (suc p) bs
-
--- the bytes at the places from first to last. Places count from 1.
-abbrev pub places : ℕ → ℕ → List ℕ → List ℕ
-places first last l = take (last - (first - 1)) (drop (first - 1) l)
 
 -- Promises, over every test.
 

@@ -1,0 +1,81 @@
+-- Laws of pieces of a list. Assumes nothing.
+use Prim.Native.Nat.{ℕ, zero, suc, _+_, _-_, _≤_, _<_}
+use mathlib.Core.Bool.{Bool, true, false}
+use mathlib.Core.List.{List, [], _∷_, _++_}
+use mathlib.Core.Logic.{_⊎_, inl, inr, ⊎-elim}
+use mathlib.Core.Path.{_≡_, refl, ap, sym, _∙_}
+use native.Mathlib.Omega.{arith}
+use lib.ListN.{length, getD, set, take, drop, length-append, length-set, length-drop, List·getD-append}
+use lib.Seq.{length-take-le, take-set-lt, take-set-le, drop-set-lt, drop-set-add, set-append-left, getD-take, getD-drop, getD-append-add}
+use Rattle.decimal.specs.Bytes.{all}
+use Rattle.decimal.specs.Places.{places, Stretch, widthOf, partAt, gather, Lies, Beside, Outside, Within, GatherOutside, GatherWithin}
+use Rattle.decimal.proofs.Finite.{lt-or-le}
+use Rattle.decimal.proofs.Bytes.{all-joins, all-of-part}
+
+pub length-part : (s : Stretch) (l : List ℕ) → 1 ≤ s .first → s .first ≤ s .last → s .last ≤ length l → length (partAt s l) ≡ widthOf s
+length-part s l p q r = length-take-le (widthOf s) (drop (s .first - 1) l) (omega (arith, length-drop (s .first - 1) l))
+
+pub part-beside : (s : Stretch) (l : List ℕ) (i d : ℕ) → Beside s i → partAt s (set l i d) ≡ partAt s l
+part-beside s l i d (inl p) = ap (take (widthOf s)) (drop-set-lt (s .first - 1) l i d (omega arith))
+part-beside s l i d (inr p) =
+    let a = s .first - 1 in
+    ⊎-elim (λ (q : i < a). ap (take (widthOf s)) (drop-set-lt a l i d q))
+    (λ (q : a ≤ i).
+    let e : a + (i - a) ≡ i = omega arith in
+    let le : widthOf s ≤ i - a = omega arith in
+    cc (drop-set-add a l (i - a) d, take-set-le (widthOf s) (drop a l) (i - a) d le))
+    (lt-or-le i a)
+
+pub part-within : (s : Stretch) (l : List ℕ) (i d : ℕ) → 1 ≤ s .first → s .first ≤ i + 1 → i < s .last
+    → partAt s (set l i d) ≡ set (partAt s l) (i + 1 - s .first) d
+part-within s l i d o p q =
+    let a = s .first - 1 in
+    let j = i + 1 - s .first in
+    let e : a + j ≡ i = omega arith in
+    cc (drop-set-add a l j d, take-set-lt (widthOf s) (drop a l) j d (omega arith))
+
+pub gather-outside : GatherOutside
+gather-outside [] l i d o = refl
+gather-outside (s ∷ plan) l i d o = cc (part-beside s l i d (o .0), gather-outside plan l i d (o .1))
+
+set-right : (a b : List ℕ) (j d : ℕ) → length a ≤ j → set (a ++ b) j d ≡ a ++ set b (j - length a) d
+set-right [] b j d h = let z : j - 0 ≡ j = omega arith in rw z
+set-right (x ∷ a) b zero d h = absurd (omega arith)
+set-right (x ∷ a) b (suc j) d h =
+    let z : suc j - suc (length a) ≡ j - length a = omega arith in
+    rw z (ap (λ (t : List ℕ). x ∷ t) (set-right a b j d (omega arith)))
+
+getD-right : (a b : List ℕ) (j : ℕ) → length a ≤ j → getD (a ++ b) j 0 ≡ getD b (j - length a) 0
+getD-right a b j h = let e : length a + (j - length a) ≡ j = omega arith in cc (getD-append-add a b (j - length a) 0)
+
+pub part-byte : (s : Stretch) (l : List ℕ) (i : ℕ) → 1 ≤ s .first → s .first ≤ i + 1 → i < s .last → getD (partAt s l) (i + 1 - s .first) 0 ≡ getD l i 0
+part-byte s l i o p q =
+    let a = s .first - 1 in
+    let j = i + 1 - s .first in
+    let e : a + j ≡ i = omega arith in
+    cc (getD-take (widthOf s) (drop a l) j 0 (omega arith), getD-drop a l j 0)
+
+pub gather-within : GatherWithin
+gather-within [] l i j d n w = absurd w
+gather-within (s ∷ plan) l i j d n (inl w) =
+    let z = length-part s l (n .0) (n .1) (n .2) in
+    let e : i + 1 - s .first ≡ j = omega (arith, w .2) in
+    let lt : j < length (partAt s l) = omega (arith, w .1, n .0) in (
+      cc (part-within s l i d (n .0) (w .0) (w .1), gather-outside plan l i d (w .3), set-append-left (partAt s l) (gather plan l) j d lt),
+      cc (part-byte s l i (n .0) (w .0) (w .1), List·getD-append (partAt s l) (gather plan l) 0 j lt),
+      omega (arith, length-append (partAt s l) (gather plan l)),
+    )
+gather-within (s ∷ plan) l i j d n (inr w) =
+    let z = length-part s l (n .0) (n .1) (n .2) in
+    let ih = gather-within plan l i (j - widthOf s) d (n .3) (w .2) in
+    let le : length (partAt s l) ≤ j = omega (arith, w .1) in (
+      cc (part-beside s l i d (w .0), ih .0, set-right (partAt s l) (gather plan l) j d le),
+      cc (ih .1, getD-right (partAt s l) (gather plan l) j le),
+      omega (arith, ih .2, length-append (partAt s l) (gather plan l)),
+    )
+
+-- what holds of each byte holds of each that is gathered
+pub all-gathered : (ok : ℕ → Bool) (plan : List Stretch) (l : List ℕ) → all ok l ≡ true → all ok (gather plan l) ≡ true
+all-gathered ok [] l h = refl
+all-gathered ok (s ∷ plan) l h =
+    rw (all-joins ok (partAt s l) (gather plan l), all-of-part ok (s .first - 1) (widthOf s) l h, all-gathered ok plan l h)
