@@ -1,2 +1,3 @@
-pub mod Refusals
 pub mod Orders
+pub mod Refusals
+pub mod Steps

@@ -1,6 +1,6 @@
 -- The laws of orders, each by cases on its answers. Assumes nothing.
-use Prim.Native.Nat.{ℕ}
-use mathlib.Core.Bool.{true, false}
+use Prim.Native.Nat.{ℕ, _≤_}
+use mathlib.Core.Bool.{Bool, true, false}
 use mathlib.Core.List.{List, [], _∷_}
 use mathlib.Core.Logic.{inl, inr, ⊎-elim}
 use mathlib.Core.Path.{_≡_, refl, sym, ap, _∙_}
@@ -8,7 +8,8 @@ use native.Mathlib.Omega.{arith}
 use Rattle.answer.specs.declared.Reason.{Reason}
 use Rattle.answer.specs.declared.Answer.{Answer}
 use Rattle.answer.specs.declared.Answer.the-variants.{Accepted, Refused}
-use Rattle.answer.specs.Orders.{_then_, first, StopsAt, AskedAccepts, ThenAccepts, ThenRefuses, ThenGroups, FirstAccepts, FirstRefuses, FirstJoins, MovedNumber, MovedAccepts, MovedThen, MovedTwice, RefusalKeeps, AcceptedTakes, KeptSeen}
+use Rattle.answer.specs.Refusals.{answerPlace}
+use Rattle.answer.specs.Orders.{asked, _then_, first, StopsAt, AskedAccepts, ThenAccepts, ThenRefuses, ThenGroups, FirstAccepts, FirstRefuses, FirstJoins, MovedNumber, MovedAccepts, MovedThen, MovedTwice, RefusalKeeps, AcceptedTakes, KeptSeen}
 
 -- an answer is accepted or refused, not both
 pub not-both : {X : Type 0} (a : Answer) {why : Reason} {p : ℕ} → a ≡ Refused why p → a ≡ Accepted → X
@@ -91,3 +92,12 @@ accepted-takes (Refused why p) new old h = not-both _ refl h
 pub kept-seen : {S R : Type 0} → KeptSeen S R
 kept-seen see Accepted new old = refl
 kept-seen see (Refused why p) new old = refl
+
+-- no place is past n where none of the questions' is
+pub asked-place : (n : ℕ) (t : Bool) (why : Reason) (p : ℕ) → p ≤ n → answerPlace (asked t why p) ≤ n
+asked-place n true why p h = omega arith
+asked-place n false why p h = h
+
+pub then-place : (n : ℕ) (a b : Answer) → answerPlace a ≤ n → answerPlace b ≤ n → answerPlace (a then b) ≤ n
+then-place n Accepted b h k = k
+then-place n (Refused why p) b h k = h

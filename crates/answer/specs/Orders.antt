@@ -1,9 +1,10 @@
 -- The questions that every order of document 01 is written with, and their laws. Assumes nothing.
-use Prim.Native.Nat.{ℕ}
-use mathlib.Core.Bool.{Bool, true, false}
+use Prim.Native.Nat.{ℕ, _+_}
+use mathlib.Core.Bool.{Bool, true, false, cond}
 use mathlib.Core.List.{List, [], _∷_, _++_}
 use mathlib.Core.Logic.{_↔_, _⊎_}
 use mathlib.Core.Path.{_≡_}
+use lib.Dec.{eqb}
 use Rattle.answer.specs.declared.Reason.{Reason}
 use Rattle.answer.specs.declared.Answer.{Answer}
 use Rattle.answer.specs.declared.Answer.the-variants.{Accepted, Refused}
@@ -29,6 +30,10 @@ first question (x ∷ xs) = question x then first question xs
 abbrev pub movedBy : (ℕ → ℕ) → Answer → Answer
 movedBy move Accepted = Accepted
 movedBy move (Refused why place) = Refused why (move place)
+
+-- the place of a part that stands behind n bytes; what has no place, 0, gets none
+abbrev pub behind : ℕ → ℕ → ℕ
+behind n place = cond (eqb place 0) 0 (place + n)
 
 -- the new state where it is accepted, else the old
 abbrev pub kept {ℓ} : {S : Type ℓ} → Answer → S → S → S

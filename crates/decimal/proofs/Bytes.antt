@@ -14,8 +14,9 @@ use lib.Seq.{drop-cons}
 use Rattle.answer.specs.declared.Reason.{Reason}
 use Rattle.answer.specs.declared.Answer.{Answer}
 use Rattle.answer.specs.declared.Answer.the-variants.{Accepted, Refused}
+use Rattle.answer.specs.Refusals.{answerPlace}
 use Rattle.answer.specs.Orders.{asked, movedBy}
-use Rattle.answer.proofs.Orders.{asked-accepts, then-accepts, moved-then}
+use Rattle.answer.proofs.Orders.{asked-accepts, then-accepts, moved-then, asked-place, then-place}
 use Rattle.decimal.specs.Bytes.{all, eachIs, AllJoins, AllOfPart, EachAccepts, EachRefuses, EachMoves}
 
 pub all-joins : AllJoins
@@ -55,6 +56,12 @@ each-moves ok why p by (b ∷ bs) =
     let rest = each-moves ok why (suc p) by bs in
     let e : suc (p + by) ≡ suc p + by = sym (suc-add p by) in
     rw (e, rest, asked-moves (ok b) why p by) (sym (moved-then (λ q. q + by) (asked (ok b) why p) (eachIs ok why (suc p) bs)))
+
+pub each-place : (ok : ℕ → Bool) (why : Reason) (p : ℕ) (bs : List ℕ) → answerPlace (eachIs ok why p bs) ≤ p + length bs
+each-place ok why p [] = omega arith
+each-place ok why p (b ∷ bs) =
+    then-place (p + suc (length bs)) (asked (ok b) why p) (eachIs ok why (suc p) bs) (asked-place (p + suc (length bs)) (ok b) why p (omega arith))
+    (omega (arith, each-place ok why (suc p) bs))
 
 -- A loop at byte i, by what is known of the bytes from i on: the byte passes, it fails, there is none.
 module _ (ok : ℕ → Bool) (why : Reason) (bs : List ℕ) (i : ℕ) where

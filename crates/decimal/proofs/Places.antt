@@ -1,14 +1,14 @@
 -- Laws of pieces of a list. Assumes nothing.
 use Prim.Native.Nat.{ℕ, zero, suc, _+_, _-_, _≤_, _<_}
-use mathlib.Core.Bool.{Bool, true, false}
+use mathlib.Core.Bool.{Bool, true}
 use mathlib.Core.List.{List, [], _∷_, _++_}
-use mathlib.Core.Logic.{_⊎_, inl, inr, ⊎-elim}
-use mathlib.Core.Path.{_≡_, refl, ap, sym, _∙_}
+use mathlib.Core.Logic.{inl, inr, ⊎-elim}
+use mathlib.Core.Path.{_≡_, refl, ap}
 use native.Mathlib.Omega.{arith}
-use lib.ListN.{length, getD, set, take, drop, length-append, length-set, length-drop, List·getD-append}
+use lib.ListN.{length, getD, set, take, drop, length-append, length-drop, List·getD-append}
 use lib.Seq.{length-take-le, take-set-lt, take-set-le, drop-set-lt, drop-set-add, set-append-left, getD-take, getD-drop, getD-append-add}
 use Rattle.decimal.specs.Bytes.{all}
-use Rattle.decimal.specs.Places.{places, Stretch, widthOf, partAt, gather, Lies, Beside, Outside, Within, GatherOutside, GatherWithin}
+use Rattle.decimal.specs.Places.{Stretch, widthOf, partAt, gather, Beside, GatherOutside, GatherWithin}
 use Rattle.decimal.proofs.Finite.{lt-or-le}
 use Rattle.decimal.proofs.Bytes.{all-joins, all-of-part}
 

@@ -1,0 +1,36 @@
+-- How a row of tests in code meets a row of questions: a test that failed ends the row, one that held goes on. Assumes nothing.
+use Prim.Native.Nat.{ℕ}
+use mathlib.Core.Bool.{Bool, true, false}
+use mathlib.Core.Path.{_≡_}
+use Rattle.answer.specs.declared.Reason.{Reason}
+use Rattle.answer.specs.declared.Answer.{Answer}
+use Rattle.answer.specs.declared.Answer.the-variants.{Accepted, Refused}
+use Rattle.answer.specs.Orders.{asked, _then_, movedBy}
+
+-- one question
+module _ (t : Bool) (why : Reason) (p : ℕ) where
+  pub stop : t ≡ false → Refused why p ≡ asked t why p
+  stop h = rw h
+
+  pub pass : t ≡ true → Accepted ≡ asked t why p
+  pass h = rw h
+
+  pub stops : (next : Answer) → t ≡ false → Refused why p ≡ asked t why p then next
+  stops next h = rw h
+
+  pub goes : {next b : Answer} → t ≡ true → b ≡ next → b ≡ asked t why p then next
+  goes h e = rw h e
+
+-- an answer that is handed on, and one that goes on
+pub handed : {a b : Answer} (next : Answer) {why : Reason} {p : ℕ} → a ≡ b → a ≡ Refused why p → a ≡ b then next
+handed {a} {b} next {why} {p} e f = let g : b ≡ Refused why p = cc in rw (g, f)
+
+pub onward : {a b next x : Answer} → a ≡ b → a ≡ Accepted → x ≡ next → x ≡ b then next
+onward {a} {b} e f h = let g : b ≡ Accepted = cc in rw g h
+
+-- an answer that is moved
+pub moved-none : {a b : Answer} (move : ℕ → ℕ) → a ≡ b → a ≡ Accepted → Accepted ≡ movedBy move b
+moved-none {a} {b} move e f = let g : b ≡ Accepted = cc in rw g
+
+pub moved-to : {a b : Answer} (move : ℕ → ℕ) {why : Reason} {p q : ℕ} → a ≡ b → a ≡ Refused why p → q ≡ move p → Refused why q ≡ movedBy move b
+moved-to {a} {b} move {why} {p} e f h = let g : b ≡ Refused why p = cc in rw (g, h)

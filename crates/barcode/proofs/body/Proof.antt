@@ -1,0 +1,39 @@
+-- `barcode::body` meets its contract. Assumes nothing.
+use mathlib.Core.Path.{sym, _∙_}
+use borrow.Author.Needs.{needs}
+use Rattle.answer.proofs.Steps.{handed, onward, stop, pass}
+use Rattle.barcode.proofs.body.Statement.{statement}
+use Rattle.barcode.proofs.body.Tie as tie
+
+front-requires : tie.Need-front-requires
+front-requires c κs = search needs
+
+enum-told : tie.Need-enum-told
+enum-told c = search needs
+
+enum-told-2 : tie.Need-enum-told-2
+enum-told-2 c = search needs
+
+general-right-requires : tie.Need-general-right-requires
+general-right-requires c κs = search needs
+
+returns : tie.Need-returns
+returns c = handed _ (c .before .before .front .ensures) (c .enum-told .given .1)
+
+returns-2 : tie.Need-returns-2
+returns-2 c = onward (c .before .before .before .before .front .ensures) (c .before .before .enum-told2 .given .1) (pass _ _ _ (sym (c .before .general-right .ensures) ∙ c .if1 .taken))
+
+returns-3 : tie.Need-returns-3
+returns-3 c = onward (c .before .before .before .before .front .ensures) (c .before .before .enum-told2 .given .1) (stop _ _ _ (sym (c .before .general-right .ensures) ∙ c .if1 .left))
+
+pub body-spec : {M : Type 1} → statement M
+body-spec =
+    tie.close
+    (tie.spec
+    front-requires
+    enum-told
+    enum-told-2
+    general-right-requires
+    returns
+    returns-2
+    returns-3)

@@ -1,0 +1,115 @@
+-- The barcode of 44 digits (document 01, "The barcode"). Assumes nothing.
+use Prim.Native.Nat.{ℕ, _+_, _-_}
+use mathlib.Core.Bool.{Bool, cond, _||_}
+use mathlib.Core.List.{List, [], _∷_}
+use lib.Dec.{leb, eqb}
+use lib.ListN.{length, getD, take}
+use Rattle.answer.specs.declared.Reason.the-variants.{WrongLength, NoDigit, WrongProduct, UnknownSegment, UnknownKind, WrongGeneralCheck}
+use Rattle.answer.specs.declared.Answer.{Answer}
+use Rattle.answer.specs.declared.Answer.the-variants as answer
+use Rattle.answer.specs.Orders.{asked, _then_, kept}
+use Rattle.decimal.specs.declared.Class.the-variants.{Digit}
+use Rattle.decimal.specs.Bytes.{within, isOf, eachIs}
+use Rattle.decimal.specs.Numbers.{valueOf, numberOf}
+use Rattle.decimal.specs.Places.{Stretch, partAt, gather}
+use Rattle.calendar.specs.declared.Dated.the-variants.{NoDate}
+use Rattle.calendar.specs.Dates.{dateOf}
+use Rattle.modulus.specs.declared.Modulus.{Modulus}
+use Rattle.modulus.specs.declared.Modulus.the-variants.{Ten, Eleven}
+use Rattle.modulus.specs.Checks.{checkOf}
+use Rattle.barcode.specs.declared.Issuer.{Issuer}
+use Rattle.barcode.specs.declared.Fields.{Fields}
+use Rattle.barcode.specs.declared.Decoded.{Decoded}
+use Rattle.barcode.specs.declared.Decoded.the-variants.{Read, Refused}
+
+-- the digit at a place
+abbrev pub digitAt : ℕ → List ℕ → ℕ
+digitAt place l = valueOf (getD l (place - 1) 0)
+
+-- 1: product, 8
+abbrev pub product : ℕ
+product = 8
+
+-- 2: segment, 1 to 7 or 9
+abbrev pub isSegment : ℕ → Bool
+isSegment s = within 1 7 s || eqb s 9
+
+-- 3: value kind, 6 to 9; 6 and 7 name modulo 10, 8 and 9 modulo 11
+abbrev pub isKind : ℕ → Bool
+isKind k = within 6 9 k
+
+abbrev pub modulusOf : ℕ → Modulus
+modulusOf k = cond (leb k 7) Ten Eleven
+
+-- 4: general check, over the 43 digits without place 4
+abbrev pub checked : List Stretch
+checked = record { first = 1; last = 3 } ∷ record { first = 5; last = 44 } ∷ []
+
+-- 5-15: value
+abbrev pub value : Stretch
+value = record { first = 5; last = 15 }
+
+-- 16-19: issuer, free field 20-44; in segment 6 instead 16-23: 8 digits of the CNPJ, free field 24-44
+abbrev pub issuerEnd : ℕ → ℕ
+issuerEnd s = cond (eqb s 6) 23 19
+
+abbrev pub issuer : ℕ → Stretch
+issuer s = record { first = 16; last = issuerEnd s }
+
+abbrev pub free : ℕ → Stretch
+free s = record { first = issuerEnd s + 1; last = 44 }
+
+-- The fields. An issuer is the segment together with its number.
+
+abbrev pub issuerOf : List ℕ → Issuer
+issuerOf code = record { segment = digitAt 2 code; number = numberOf (partAt (issuer (digitAt 2 code)) code) }
+
+abbrev pub freeOf : List ℕ → List ℕ
+freeOf code = partAt (free (digitAt 2 code)) code
+
+-- if the free field's first eight digits are a real date, that is the due date
+abbrev pub fieldsOf : List ℕ → Fields
+fieldsOf code =
+    record { kind = digitAt 3 code; value = numberOf (partAt value code); issuer = issuerOf code; due = dateOf (take 8 (freeOf code)) }
+
+-- The answer.
+
+-- what a barcode and a typed line are asked first: 2 over all digits, 3, 4, 5
+unfoldable pub leadAnswer : List ℕ → Answer
+leadAnswer l =
+    asked (eqb (digitAt 1 l) product) WrongProduct 1
+    then asked (isSegment (digitAt 2 l)) UnknownSegment 2
+    then asked (isKind (digitAt 3 l)) UnknownKind 3
+
+abbrev pub frontAnswer : List ℕ → Answer
+frontAnswer l = eachIs (isOf Digit) NoDigit 1 l then leadAnswer l
+
+unfoldable pub generalRight : List ℕ → Bool
+generalRight code = eqb (getD code 3 0) (48 + checkOf (modulusOf (digitAt 3 code)) (gather checked code))
+
+-- of 44 bytes, wherever they stand
+abbrev pub bodyAnswer : List ℕ → Answer
+bodyAnswer code = frontAnswer code then asked (generalRight code) WrongGeneralCheck 4
+
+-- barcode: 1, 2 over all digits, 3, 4, 5, 7
+abbrev pub barcodeAnswer : List ℕ → Answer
+barcodeAnswer code = asked (eqb (length code) 44) WrongLength 0 then bodyAnswer code
+
+-- What is shown: the fields of an accepted barcode, and its free field; of a refused one the refusal, and the empty stretch.
+
+abbrev pub decoded : Answer → Fields → Decoded
+decoded answer.Accepted fields = Read fields
+decoded (answer.Refused why place) fields = Refused why place
+
+-- the fields of 44 bytes, checked or not; of other lengths none
+abbrev pub noFields : Fields
+noFields = record { kind = 0; value = 0; issuer = record { segment = 0; number = 0 }; due = NoDate }
+
+abbrev pub readOf : List ℕ → Fields
+readOf code = cond (eqb (length code) 44) (fieldsOf code) noFields
+
+abbrev pub decodeOf : List ℕ → Decoded
+decodeOf code = decoded (barcodeAnswer code) (fieldsOf code)
+
+abbrev pub shownFree : List ℕ → List ℕ
+shownFree code = kept (barcodeAnswer code) (freeOf code) []

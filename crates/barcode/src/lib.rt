@@ -1,0 +1,219 @@
+// The collection barcode of 44 digits.
+ghost use mathlib.Core.Path.{_≡_};
+ghost use mathlib.Core.Bool.{cond};
+ghost use Prim.Native.Nat.{_+_, _≤_};
+ghost use lib.Dec.{eqb};
+ghost use lib.ListN.{length, getD};
+ghost use Rattle.answer.specs.Orders.{behind, movedBy};
+ghost use Rattle.decimal.specs.Numbers.{valueOf};
+ghost use Rattle.barcode.specs.Codes.{isSegment, isKind, modulusOf, issuerEnd, leadAnswer, frontAnswer, generalRight, bodyAnswer, barcodeAnswer, fieldsOf, readOf, decodeOf, shownFree};
+use answer::Answer;
+use answer::Reason;
+use calendar::Dated;
+use decimal::Class;
+use modulus::Modulus;
+
+// An issuer is the segment together with its number.
+pub struct Issuer {
+    pub segment: u64,
+    pub number: u64,
+}
+
+pub struct Fields {
+    pub kind: u64,
+    pub value: u64,
+    pub issuer: Issuer,
+    pub due: Dated,
+}
+
+pub enum Decoded {
+    Read(Fields),
+    Refused(Reason, usize),
+}
+
+pub fn is_segment(segment: u64) -> bool
+    ensures { λ r. ⌜ r ≡ isSegment segment ⌝ }
+{
+    if segment == 9 {
+        return true;
+    }
+    1 <= segment && segment <= 7
+}
+
+pub fn is_kind(kind: u64) -> bool
+    ensures { λ r. ⌜ r ≡ isKind kind ⌝ }
+{
+    6 <= kind && kind <= 9
+}
+
+// The modulus that a value kind names.
+pub fn named(kind: u64) -> Modulus
+    ensures { λ r. ⌜ r ≡ modulusOf kind ⌝ }
+{
+    if kind <= 7 {
+        Modulus::Ten
+    } else {
+        Modulus::Eleven
+    }
+}
+
+fn wide(b: u8) -> u64
+    ensures { λ r. ⌜ r ≡ b ⌝ }
+{
+    b as u64
+}
+
+// The digit at an index; past the end there is none, and 0 stands in.
+fn digit(l: &[u8], i: usize) -> u64
+    ensures { λ r. ⌜ r ≡ valueOf (getD (now (l .entry)) i 0) ⌝ }
+{
+    if i < l.len() { decimal::value(l[i]) } else { 0 }
+}
+
+fn lead(l: &[u8]) -> Answer
+    ensures { λ r. ⌜ r ≡ leadAnswer (now (l .entry)) ⌝ }
+{
+    if digit(l, 0) != 8 {
+        return Answer::Refused(Reason::WrongProduct, 1);
+    }
+    if !is_segment(digit(l, 1)) {
+        return Answer::Refused(Reason::UnknownSegment, 2);
+    }
+    if !is_kind(digit(l, 2)) {
+        return Answer::Refused(Reason::UnknownKind, 3);
+    }
+    Answer::Accepted
+}
+
+// What a barcode and a typed line are asked first.
+pub fn front(l: &[u8]) -> Answer
+    ensures { λ r. ⌜ r ≡ frontAnswer (now (l .entry)) ⌝ }
+{
+    let digits = decimal::first_not(Class::Digit, Reason::NoDigit, l);
+    match digits {
+        Answer::Refused(_, _) => digits,
+        Answer::Accepted => lead(l),
+    }
+}
+
+// Whether place 4 is the check of the 43 other digits.
+fn general_right(code: &[u8]) -> bool
+    requires { ⌜ length (now code) ≡ 44 ⌝ }
+    ensures { λ r. ⌜ r ≡ generalRight (now (code .entry)) ⌝ }
+{
+    let m = named(digit(code, 2));
+    let left = modulus::rest(m, &code[0..3], 40);
+    let right = modulus::rest(m, &code[4..44], 0);
+    let check = modulus::rule(m, modulus::remainder(m, left + right));
+    wide(code[3]) == 48 + check
+}
+
+fn body(code: &[u8]) -> Answer
+    requires { ⌜ length (now code) ≡ 44 ⌝ }
+    ensures { λ r. ⌜ r ≡ bodyAnswer (now (code .entry)) ⌝ }
+{
+    let lead = front(code);
+    match lead {
+        Answer::Refused(_, _) => lead,
+        Answer::Accepted => {
+            if general_right(code) {
+                Answer::Accepted
+            } else {
+                Answer::Refused(Reason::WrongGeneralCheck, 4)
+            }
+        }
+    }
+}
+
+// Accepted, or the barcode's first refusal.
+pub fn check(code: &[u8]) -> Answer
+    ensures { λ r. ⌜ r ≡ barcodeAnswer (now (code .entry)) ⌝ }
+{
+    if code.len() != 44 {
+        return Answer::Refused(Reason::WrongLength, 0);
+    }
+    body(code)
+}
+
+// The same of a barcode that stands behind other bytes, as in a G record.
+pub fn check_behind(code: &[u8], before: u8) -> Answer
+    ensures { λ r. ⌜ r ≡ movedBy (behind before) (barcodeAnswer (now (code .entry))) ⌝ }
+{
+    match check(code) {
+        Answer::Accepted => Answer::Accepted,
+        Answer::Refused(why, place) => {
+            if place == 0 {
+                return Answer::Refused(why, 0);
+            }
+            Answer::Refused(why, place + before as usize)
+        }
+    }
+}
+
+// The index behind the issuer's number: four digits, in segment 6 eight of the CNPJ.
+fn issuer_end(segment: u64) -> usize
+    ensures { λ r. ⌜ r ≡ issuerEnd segment ⌝ }
+    ensures range { λ r. ⌜ (19 ≤ r) × (r ≤ 23) ⌝ }
+{
+    if segment == 6 { 23 } else { 19 }
+}
+
+fn fields_of(code: &[u8]) -> Fields
+    requires { ⌜ length (now code) ≡ 44 ⌝ }
+    ensures { λ r. ⌜ r ≡ fieldsOf (now (code .entry)) ⌝ }
+{
+    let segment = digit(code, 1);
+    let end = issuer_end(segment);
+    Fields {
+        kind: digit(code, 2),
+        value: decimal::number(&code[4..15]),
+        issuer: Issuer {
+            segment: segment,
+            number: decimal::number(&code[15..end]),
+        },
+        due: calendar::read_date(&code[end..end + 8]),
+    }
+}
+
+// The fields of 44 bytes that were checked before.
+pub fn read_fields(code: &[u8]) -> Fields
+    ensures { λ r. ⌜ r ≡ readOf (now (code .entry)) ⌝ }
+{
+    if code.len() != 44 {
+        return Fields {
+            kind: 0,
+            value: 0,
+            issuer: Issuer {
+                segment: 0,
+                number: 0,
+            },
+            due: Dated::NoDate,
+        };
+    }
+    fields_of(code)
+}
+
+pub fn decode(code: &[u8]) -> Decoded
+    ensures { λ r. ⌜ r ≡ decodeOf (now (code .entry)) ⌝ }
+{
+    match check(code) {
+        Answer::Refused(why, place) => Decoded::Refused(why, place),
+        Answer::Accepted => Decoded::Read(read_fields(code)),
+    }
+}
+
+// The free field as a part of the lent bytes; nothing of a refused barcode.
+pub fn free_field(code: &[u8]) -> &[u8]
+    ensures { λ r. ⌜ now r ≡ shownFree (now (code .entry)) ⌝ }
+{
+    match check(code) {
+        Answer::Refused(_, _) => &code[0..0],
+        Answer::Accepted => {
+            if code.len() != 44 {
+                return &code[0..0];
+            }
+            let end = issuer_end(digit(code, 1));
+            &code[end..44]
+        }
+    }
+}
