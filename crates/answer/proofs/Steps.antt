@@ -1,7 +1,7 @@
 -- How a row of tests in code meets a row of questions: a test that failed ends the row, one that held goes on. Assumes nothing.
 use Prim.Native.Nat.{ℕ}
 use mathlib.Core.Bool.{Bool, true, false}
-use mathlib.Core.Path.{_≡_}
+use mathlib.Core.Path.{_≡_, refl}
 use Rattle.answer.specs.declared.Reason.{Reason}
 use Rattle.answer.specs.declared.Answer.{Answer}
 use Rattle.answer.specs.declared.Answer.the-variants.{Accepted, Refused}
@@ -20,6 +20,11 @@ module _ (t : Bool) (why : Reason) (p : ℕ) where
 
   pub goes : {next b : Answer} → t ≡ true → b ≡ next → b ≡ asked t why p then next
   goes h e = rw h e
+
+-- a row that accepts: its first test held, and the rest accepts
+pub passed : (t : Bool) (why : Reason) (p : ℕ) {next : Answer} → asked t why p then next ≡ Accepted → (t ≡ true) × (next ≡ Accepted)
+passed true why p h = (refl, h)
+passed false why p h = (cc, cc)
 
 -- an answer that is handed on, and one that goes on
 pub handed : {a b : Answer} (next : Answer) {why : Reason} {p : ℕ} → a ≡ b → a ≡ Refused why p → a ≡ b then next

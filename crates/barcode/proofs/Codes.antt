@@ -7,7 +7,7 @@ use native.Mathlib.Nat.{mod-add-mod, add-mod-mod}
 use native.Mathlib.Omega.{arith}
 use borrow.Author.Tests.{eqb-true, eq-eqb}
 use lib.Dec.{eqb}
-use lib.ListN.{length, getD, take, drop, length-drop}
+use lib.ListN.{length, take, drop, length-drop}
 use lib.Seq.{length-take-le, take-take}
 use Rattle.answer.specs.declared.Reason.{Reason}
 use Rattle.answer.specs.declared.Reason.the-variants.{WrongLength, NoDigit, WrongProduct, UnknownSegment, UnknownKind, WrongGeneralCheck}
@@ -29,7 +29,7 @@ use Rattle.modulus.specs.Checks.{sizeOf, sumOf, ruleOf, checkOf}
 use Rattle.modulus.proofs.Sums.{parts-compose}
 use Rattle.barcode.specs.declared.Fields.{Fields}
 use Rattle.barcode.specs.declared.Decoded.the-variants as decoding
-use Rattle.barcode.specs.Codes.{digitAt, product, isSegment, isKind, modulusOf, checked, issuerEnd, leadAnswer, generalRight, frontAnswer, bodyAnswer, barcodeAnswer, fieldsOf, readOf, decodeOf, shownFree}
+use Rattle.barcode.specs.Codes.{digitAt, product, isSegment, isKind, modulusOf, checked, issuerEnd, leadAnswer, generalCheck, generalRight, frontAnswer, bodyAnswer, barcodeAnswer, fieldsOf, readOf, decodeOf, shownFree}
 
 -- past the end
 pub no-digit : 0 ≡ valueOf 0
@@ -46,13 +46,12 @@ general-check m code n ex ey =
     = rw l at (parts-compose m 0 (take 3 code) (b ++ [])) ∙ rw (append-nil b) in
     rw (ex, ey, mod-add-mod, add-mod-mod, s)
 
-pub general-as : (code : List ℕ) → length code ≡ 44 → {m : Modulus} {w d x y r k : ℕ} → w ≡ getD code 3 0 → d ≡ digitAt 3 code → m ≡ modulusOf d
+pub general-as : (code : List ℕ) → length code ≡ 44 → {m : Modulus} {d x y r k : ℕ} → d ≡ digitAt 3 code → m ≡ modulusOf d
     → x ≡ sumOf m 40 (take 3 code) % sizeOf m → y ≡ sumOf m 0 (take 40 (drop 4 code)) % sizeOf m → r ≡ (x + y) % sizeOf m → k ≡ ruleOf m r
-    → eqb w (48 + k) ≡ generalRight code
-unfolding generalRight
-general-as code n {m} ew ed em ex ey er ek =
+    → k ≡ generalCheck code
+general-as code n {m} ed em ex ey er ek =
     let e : m ≡ modulusOf (digitAt 3 code) = em ∙ ap modulusOf ed in
-    rw (ew, ek, er, ← e, general-check m code n ex ey)
+    rw (ek, er, ← e, general-check m code n ex ey)
 
 -- no place of its answer is past its end
 lead-place : (l : List ℕ) → answerPlace (leadAnswer l) ≤ 45

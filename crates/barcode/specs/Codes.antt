@@ -84,8 +84,11 @@ leadAnswer l =
 abbrev pub frontAnswer : List ℕ → Answer
 frontAnswer l = eachIs (isOf Digit) NoDigit 1 l then leadAnswer l
 
+abbrev pub generalCheck : List ℕ → ℕ
+generalCheck code = checkOf (modulusOf (digitAt 3 code)) (gather checked code)
+
 unfoldable pub generalRight : List ℕ → Bool
-generalRight code = eqb (getD code 3 0) (48 + checkOf (modulusOf (digitAt 3 code)) (gather checked code))
+generalRight code = eqb (getD code 3 0) (48 + generalCheck code)
 
 -- of 44 bytes, wherever they stand
 abbrev pub bodyAnswer : List ℕ → Answer

@@ -1,12 +1,15 @@
-// The collection barcode of 44 digits.
+// The collection barcode of 44 digits: checked, decoded, and built from its fields.
+pub mod builder;
+
 ghost use mathlib.Core.Path.{_≡_};
 ghost use mathlib.Core.Bool.{cond};
 ghost use Prim.Native.Nat.{_+_, _≤_};
 ghost use lib.Dec.{eqb};
 ghost use lib.ListN.{length, getD};
+ghost use Rattle.answer.specs.Refusals.{answerPlace};
 ghost use Rattle.answer.specs.Orders.{behind, movedBy};
 ghost use Rattle.decimal.specs.Numbers.{valueOf};
-ghost use Rattle.barcode.specs.Codes.{isSegment, isKind, modulusOf, issuerEnd, leadAnswer, frontAnswer, generalRight, bodyAnswer, barcodeAnswer, fieldsOf, readOf, decodeOf, shownFree};
+ghost use Rattle.barcode.specs.Codes.{isSegment, isKind, modulusOf, issuerEnd, leadAnswer, frontAnswer, generalCheck, generalRight, bodyAnswer, barcodeAnswer, fieldsOf, readOf, decodeOf, shownFree};
 use answer::Answer;
 use answer::Reason;
 use calendar::Dated;
@@ -96,16 +99,23 @@ pub fn front(l: &[u8]) -> Answer
     }
 }
 
-// Whether place 4 is the check of the 43 other digits.
-fn general_right(code: &[u8]) -> bool
+// The check of the 43 digits without place 4.
+fn general_check(code: &[u8]) -> u64
     requires { ⌜ length (now code) ≡ 44 ⌝ }
-    ensures { λ r. ⌜ r ≡ generalRight (now (code .entry)) ⌝ }
+    ensures { λ r. ⌜ r ≡ generalCheck (now (code .entry)) ⌝ }
+    ensures small { λ r. ⌜ r ≤ 9 ⌝ }
 {
     let m = named(digit(code, 2));
     let left = modulus::rest(m, &code[0..3], 40);
     let right = modulus::rest(m, &code[4..44], 0);
-    let check = modulus::rule(m, modulus::remainder(m, left + right));
-    wide(code[3]) == 48 + check
+    modulus::rule(m, modulus::remainder(m, left + right))
+}
+
+fn general_right(code: &[u8]) -> bool
+    requires { ⌜ length (now code) ≡ 44 ⌝ }
+    ensures { λ r. ⌜ r ≡ generalRight (now (code .entry)) ⌝ }
+{
+    wide(code[3]) == 48 + general_check(code)
 }
 
 fn body(code: &[u8]) -> Answer
@@ -135,19 +145,27 @@ pub fn check(code: &[u8]) -> Answer
     body(code)
 }
 
-// The same of a barcode that stands behind other bytes, as in a G record.
-pub fn check_behind(code: &[u8], before: u8) -> Answer
-    ensures { λ r. ⌜ r ≡ movedBy (behind before) (barcodeAnswer (now (code .entry))) ⌝ }
+// An answer about bytes that stand behind others.
+fn moved(a: Answer, before: usize) -> Answer
+    requires { ⌜ (answerPlace a ≤ 45) × (before ≤ 255) ⌝ }
+    ensures { λ r. ⌜ r ≡ movedBy (behind before) a ⌝ }
 {
-    match check(code) {
+    match a {
         Answer::Accepted => Answer::Accepted,
         Answer::Refused(why, place) => {
             if place == 0 {
                 return Answer::Refused(why, 0);
             }
-            Answer::Refused(why, place + before as usize)
+            Answer::Refused(why, place + before)
         }
     }
+}
+
+// The same of a barcode that stands behind other bytes, as in a G record.
+pub fn check_behind(code: &[u8], before: u8) -> Answer
+    ensures { λ r. ⌜ r ≡ movedBy (behind before) (barcodeAnswer (now (code .entry))) ⌝ }
+{
+    moved(check(code), before as usize)
 }
 
 // The index behind the issuer's number: four digits, in segment 6 eight of the CNPJ.

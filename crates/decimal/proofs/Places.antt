@@ -1,14 +1,16 @@
 -- Laws of pieces of a list. Assumes nothing.
 use Prim.Native.Nat.{ℕ, zero, suc, _+_, _-_, _≤_, _<_}
 use mathlib.Core.Bool.{Bool, true}
-use mathlib.Core.List.{List, [], _∷_, _++_}
+use mathlib.Core.List.{List, [], _∷_, _++_, append-assoc, append-nil}
 use mathlib.Core.Logic.{inl, inr, ⊎-elim}
-use mathlib.Core.Path.{_≡_, refl, ap}
+use mathlib.Core.Path.{_≡_, refl, ap, sym, _∙_}
 use native.Mathlib.Omega.{arith}
-use lib.ListN.{length, getD, set, take, drop, length-append, length-drop, List·getD-append}
-use lib.Seq.{length-take-le, take-set-lt, take-set-le, drop-set-lt, drop-set-add, set-append-left, getD-take, getD-drop, getD-append-add}
+use borrow.Author.Tests.{le-leb, lt-leb}
+use borrow.Rule.Slice.PartMut.{putMid}
+use lib.ListN.{length, getD, set, take, drop, length-append, length-drop, drop-of-length-le, List·getD-append}
+use lib.Seq.{length-take-le, take-set-lt, take-set-le, drop-set-lt, drop-set-add, set-append-left, getD-take, getD-drop, getD-append-add, take-append-seam, drop-append-add, drop-drop, take-length}
 use Rattle.decimal.specs.Bytes.{all}
-use Rattle.decimal.specs.Places.{Stretch, widthOf, partAt, gather, Beside, GatherOutside, GatherWithin}
+use Rattle.decimal.specs.Places.{Stretch, widthOf, partAt, gather, Beside, GatherOutside, GatherWithin, putAt, PutsJoin}
 use Rattle.decimal.proofs.Finite.{lt-or-le}
 use Rattle.decimal.proofs.Bytes.{all-joins, all-of-part}
 
@@ -79,3 +81,37 @@ pub all-gathered : (ok : ℕ → Bool) (plan : List Stretch) (l : List ℕ) → 
 all-gathered ok [] l h = refl
 all-gathered ok (s ∷ plan) l h =
     rw (all-joins ok (partAt s l) (gather plan l), all-of-part ok (s .first - 1) (widthOf s) l h, all-gathered ok plan l h)
+
+pub put-fits : (at : ℕ) (piece l : List ℕ) → at + length piece ≤ length l → putAt at piece l ≡ take at l ++ (piece ++ drop (at + length piece) l)
+unfolding putAt
+put-fits at piece l h = rw (le-leb _ _ h)
+
+pub put-none : (at : ℕ) (piece l : List ℕ) → length l < at + length piece → putAt at piece l ≡ l
+unfolding putAt
+put-none at piece l h = rw (lt-leb _ _ h)
+
+pub puts-join : PutsJoin
+puts-join l xs ys h =
+    let n : length xs + length ys ≤ length (xs ++ drop (length xs) l) = omega (arith, length-append xs (drop (length xs) l), length-drop (length xs) l) in
+    let d : drop (length xs + length ys) (xs ++ drop (length xs) l) ≡ drop (length (xs ++ ys)) l
+    = drop-append-add xs (drop (length xs) l) (length ys) ∙ drop-drop (length ys) (length xs) l ∙ ap (λ (k : ℕ). drop k l) (sym (length-append xs ys)) in
+    put-fits (length xs) ys (xs ++ drop (length xs) l) n ∙ rw (take-append-seam xs (drop (length xs) l), d) (sym (append-assoc xs ys (drop (length (xs ++ ys)) l)))
+
+pub put-whole : (piece l : List ℕ) → length piece ≡ length l → putAt 0 piece l ≡ piece
+put-whole piece l e =
+    let past : length l ≤ 0 + length piece = omega arith in
+    put-fits 0 piece l (omega arith) ∙ rw (drop-of-length-le l past) (append-nil piece)
+
+-- a lent part that was filled with a piece, back in its place
+pub put-mid : (at : ℕ) (piece l : List ℕ) {n : ℕ} {q : List ℕ} → length piece ≡ n → at + n ≤ length l → q ≡ piece
+    → putMid at (at + n - at) l q ≡ putAt at piece l
+put-mid at piece l {n} {q} e h f =
+    let k : at + n - at ≡ length piece = omega arith in
+    rw (k, f, drop-drop (length piece) at l) (sym (put-fits at piece l (omega arith)))
+
+pub copied : (at : ℕ) (piece l : List ℕ) {q : List ℕ} → at + length piece ≤ length l
+    → q ≡ take (length piece) piece ++ drop (length piece) (take (at + length piece - at) (drop at l)) → q ≡ piece
+copied at piece l h e =
+    let k : at + length piece - at ≡ length piece = omega arith in
+    let n : length (take (length piece) (drop at l)) ≤ length piece = omega (arith, length-take-le (length piece) (drop at l) (omega (arith, length-drop at l))) in
+    e ∙ rw (k, take-length piece, drop-of-length-le (take (length piece) (drop at l)) n) (append-nil piece)

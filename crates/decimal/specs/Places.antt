@@ -1,8 +1,10 @@
 -- Places of a list of bytes, and pieces of it by their places. Places count from 1. Assumes nothing.
 use Prim.Native.Nat.{ℕ, _+_, _-_, _≤_, _<_}
+use mathlib.Core.Bool.{cond}
 use mathlib.Core.List.{List, [], _∷_, _++_}
 use mathlib.Core.Logic.{_⊎_}
 use mathlib.Core.Path.{_≡_}
+use lib.Dec.{leb}
 use lib.ListN.{length, getD, set, take, drop}
 
 -- the bytes at the places from first to last
@@ -23,6 +25,10 @@ partAt s l = places (s .first) (s .last) l
 abbrev pub gather : List Stretch → List ℕ → List ℕ
 gather [] l = []
 gather (s ∷ plan) l = partAt s l ++ gather plan l
+
+-- a piece put into a list from an index on, where there is room for it
+unfoldable pub putAt : ℕ → List ℕ → List ℕ → List ℕ
+putAt at piece l = cond (leb (at + length piece) (length l)) (take at l ++ (piece ++ drop (at + length piece) l)) l
 
 -- every stretch lies in a list of n bytes
 abbrev pub Lies : ℕ → List Stretch → Type 0
@@ -52,3 +58,8 @@ abbrev pub GatherWithin : Type 0
 GatherWithin =
     (plan : List Stretch) (l : List ℕ) (i j d : ℕ) → Lies (length l) plan → Within plan i j
     → (gather plan (set l i d) ≡ set (gather plan l) j d) × (getD (gather plan l) j 0 ≡ getD l i 0) × (j < length (gather plan l))
+
+-- pieces put one behind the other make one piece
+abbrev pub PutsJoin : Type 0
+PutsJoin =
+    (l xs ys : List ℕ) → length xs + length ys ≤ length l → putAt (length xs) ys (xs ++ drop (length xs) l) ≡ (xs ++ ys) ++ drop (length (xs ++ ys)) l

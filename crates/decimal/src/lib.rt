@@ -6,6 +6,7 @@ ghost use lib.Dec.{ltb};
 ghost use lib.ListN.{length};
 ghost use Rattle.answer.specs.Orders.{kept};
 ghost use Rattle.decimal.specs.Bytes.{within, isOf, all, eachIs};
+ghost use Rattle.decimal.specs.Places.{putAt};
 ghost use Rattle.decimal.specs.Numbers.{valueOf, numberOf, digitsOf, heldOf, widthAnswer};
 use answer::Answer;
 use answer::Reason;
@@ -138,14 +139,35 @@ fn put_digits(n: u64, out: &mut [u8])
     }
 }
 
-// Fills the part with the digits of a number, zeros first.
-pub fn write_number(n: u64, out: &mut [u8]) -> Answer
-    ensures answer { λ r. ⌜ r ≡ widthAnswer (length (now (out .entry))) n ⌝ }
-    ensures bytes { λ r. ⌜ now (out .exit) ≡ kept r (digitsOf (length (now (out .entry))) n) (now (out .entry)) ⌝ }
+// Copies a piece into a lent part from an index on; nothing where there is no room.
+pub fn put(piece: &[u8], out: &mut [u8], at: usize)
+    ensures { λ _. ⌜ now (out .exit) ≡ putAt at (now (piece .entry)) (now (out .entry)) ⌝ }
 {
-    if !fits_width(n, out.len()) {
+    if out.len() < piece.len() {
+        return;
+    }
+    if out.len() - piece.len() < at {
+        return;
+    }
+    let end = at + piece.len();
+    bytes::copy(piece, &mut out[at..end]);
+}
+
+// Writes the digits of a number into a lent part, `width` of them from an index on.
+pub fn put_number(n: u64, width: usize, out: &mut [u8], at: usize) -> Answer
+    ensures answer { λ r. ⌜ r ≡ widthAnswer width n ⌝ }
+    ensures bytes { λ r. ⌜ now (out .exit) ≡ kept r (putAt at (digitsOf width n) (now (out .entry))) (now (out .entry)) ⌝ }
+{
+    if !fits_width(n, width) {
         return Answer::Refused(Reason::TooWide, 1);
     }
-    put_digits(n, out);
+    if out.len() < width {
+        return Answer::Accepted;
+    }
+    if out.len() - width < at {
+        return Answer::Accepted;
+    }
+    let end = at + width;
+    put_digits(n, &mut out[at..end]);
     Answer::Accepted
 }

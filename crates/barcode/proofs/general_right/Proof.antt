@@ -1,55 +1,8 @@
 -- `barcode::general_right` meets its contract. Assumes nothing.
-use native.Mathlib.Omega.{arith}
 use borrow.Author.Needs.{needs}
-use lib.ListN.{take, drop}
-use Rattle.barcode.proofs.Codes.{general-as}
-use Rattle.modulus.proofs.Sums.{remainder-small, rule-small}
-use Rattle.modulus.specs.Checks.{sumOf}
+use Rattle.barcode.specs.Codes.{generalRight}
 use Rattle.barcode.proofs.general_right.Statement.{statement}
 use Rattle.barcode.proofs.general_right.Tie as tie
-
-digit-requires : tie.Need-digit-requires
-digit-requires c κs = search needs
-
-named-requires : tie.Need-named-requires
-named-requires c κs = search needs
-
-sub-rest : tie.Need-sub-rest
-sub-rest c = search needs
-
-part-rest-start : tie.Need-part-rest-start
-part-rest-start c = search needs
-
-part-rest-end : tie.Need-part-rest-end
-part-rest-end c = search needs
-
-rest-requires : tie.Need-rest-requires
-rest-requires c κs = search needs
-
-sub-rest-2 : tie.Need-sub-rest-2
-sub-rest-2 c = search needs
-
-part-rest-start-2 : tie.Need-part-rest-start-2
-part-rest-start-2 c = search needs
-
-part-rest-end-2 : tie.Need-part-rest-end-2
-part-rest-end-2 c = search needs
-
-rest-requires-2 : tie.Need-rest-requires-2
-rest-requires-2 c κs = search needs
-
-add-remainder : tie.Need-add-remainder
-add-remainder c =
-    let m = c .before .before .before .before .named .result in
-    let a = remainder-small m (sumOf m 40 (take 3 (c .before .before .before .before .before .before .before .args .code .now))) in
-    let b = remainder-small m (sumOf m 0 (take 40 (drop 4 (c .before .before .before .before .before .before .before .args .code .now)))) in
-    record { fits = rw (c .before .before .rest .ensures, c .rest2 .ensures) (omega arith) }
-
-remainder-requires : tie.Need-remainder-requires
-remainder-requires c κs = search needs
-
-rule-requires : tie.Need-rule-requires
-rule-requires c κs = search needs
 
 shared-slice-read-wide : tie.Need-shared-slice-read-wide
 shared-slice-read-wide c = search needs
@@ -57,34 +10,17 @@ shared-slice-read-wide c = search needs
 wide-requires : tie.Need-wide-requires
 wide-requires c κs = search needs
 
+general-check-requires : tie.Need-general-check-requires
+general-check-requires c κs = search needs
+
 add-result : tie.Need-add-result
-add-result c =
-    let s = rule-small (c .before .before .before .before .before .before .before .before .named .result) (c .before .before .before .remainder .result) in
-    record { fits = rw (c .before .before .rule .ensures) (omega arith) }
+add-result c = search needs
 
 returns : tie.Need-returns
-returns c =
-    general-as (c .before .before .before .before .before .before .before .before .before .before .before .args .code .now) (c .before .before .before .before .before .before .before .before .before .before .before .pre) (c .wide .ensures) (c .before .before .before .before .before .before .before .before .before .digit .ensures) (c .before .before .before .before .before .before .before .before .named .ensures) (c .before .before .before .before .before .before .rest .ensures) (c .before .before .before .before .rest2 .ensures)
-    (c .before .before .before .remainder .ensures) (c .before .before .rule .ensures)
+unfolding generalRight
+returns c = rw (c .before .wide .ensures, c .general-check .ensures .0)
 
 pub general-right-spec : {M : Type 1} → statement M
 general-right-spec =
     tie.close
-    (tie.spec
-    digit-requires
-    named-requires
-    sub-rest
-    part-rest-start
-    part-rest-end
-    rest-requires
-    sub-rest-2
-    part-rest-start-2
-    part-rest-end-2
-    rest-requires-2
-    add-remainder
-    remainder-requires
-    rule-requires
-    shared-slice-read-wide
-    wide-requires
-    add-result
-    returns)
+    (tie.spec shared-slice-read-wide wide-requires general-check-requires add-result returns)

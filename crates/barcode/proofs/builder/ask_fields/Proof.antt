@@ -1,0 +1,40 @@
+-- `barcode::builder::ask_fields` meets its contract. Assumes nothing.
+use mathlib.Core.Path.{sym, _∙_}
+use borrow.Author.Needs.{needs}
+use borrow.Author.Tests.{not-true, not-false}
+use Rattle.answer.proofs.Steps.{stops, goes}
+use Rattle.barcode.specs.Building.{fieldsAnswer}
+use Rattle.barcode.proofs.builder.ask_fields.Statement.{statement}
+use Rattle.barcode.proofs.builder.ask_fields.Tie as tie
+
+is-segment-requires : tie.Need-is-segment-requires
+is-segment-requires c κs = search needs
+
+returns : tie.Need-returns
+unfolding fieldsAnswer
+returns c = stops _ _ _ _ (sym (c .before .is-segment .ensures) ∙ not-true _ (c .if1 .taken))
+
+is-kind-requires : tie.Need-is-kind-requires
+is-kind-requires c κs = search needs
+
+returns-2 : tie.Need-returns-2
+unfolding fieldsAnswer
+returns-2 c = goes _ _ _ (sym (c .before .before .before .is-segment .ensures) ∙ not-false _ (c .before .before .if1 .left)) (stops _ _ _ _ (sym (c .before .is-kind .ensures) ∙ not-true _ (c .if2 .taken)))
+
+ask-numbers-requires : tie.Need-ask-numbers-requires
+ask-numbers-requires c κs = search needs
+
+returns-3 : tie.Need-returns-3
+unfolding fieldsAnswer
+returns-3 c = goes _ _ _ (sym (c .before .before .before .before .is-segment .ensures) ∙ not-false _ (c .before .before .before .if1 .left)) (goes _ _ _ (sym (c .before .before .is-kind .ensures) ∙ not-false _ (c .before .if2 .left)) (c .ask-numbers .ensures))
+
+pub ask-fields-spec : {M : Type 1} → statement M
+ask-fields-spec =
+    tie.close
+    (tie.spec
+    is-segment-requires
+    returns
+    is-kind-requires
+    returns-2
+    ask-numbers-requires
+    returns-3)

@@ -1,0 +1,61 @@
+-- A barcode built from its fields: issuer, kind, value and free field (document 01). Assumes nothing.
+use Prim.Native.Nat.{ℕ, _+_, _^_, _≤_, _<_}
+use mathlib.Core.List.{List, [], _∷_, _++_}
+use mathlib.Core.Path.{_≡_}
+use lib.Dec.{leb, ltb, eqb}
+use lib.ListN.{length}
+use Rattle.answer.specs.declared.Reason.the-variants.{WrongLength, NoDigit, UnknownSegment, UnknownKind, CheckTwoPlaces, TooWide}
+use Rattle.answer.specs.declared.Answer.{Answer}
+use Rattle.answer.specs.Orders.{asked, _then_, behind, movedBy}
+use Rattle.decimal.specs.declared.Class.the-variants.{Digit}
+use Rattle.decimal.specs.Bytes.{isOf, eachIs}
+use Rattle.decimal.specs.Numbers.{digitsOf}
+use Rattle.decimal.specs.Places.{widthOf}
+use Rattle.modulus.specs.Checks.{checkOf}
+use Rattle.barcode.specs.declared.Issuer.{Issuer}
+use Rattle.barcode.specs.Codes.{product, isSegment, isKind, modulusOf, value, issuerEnd, issuer, free}
+
+-- the places before the check, and those behind it
+abbrev pub headOf : ℕ → ℕ → List ℕ
+headOf segment kind = (48 + product) ∷ (48 + segment) ∷ (48 + kind) ∷ []
+
+abbrev pub tailOf : Issuer → ℕ → List ℕ → List ℕ
+tailOf i amount rest = digitsOf (widthOf value) amount ++ (digitsOf (widthOf (issuer (i .segment))) (i .number) ++ rest)
+
+abbrev pub checkFor : Issuer → ℕ → ℕ → List ℕ → ℕ
+checkFor i kind amount rest = checkOf (modulusOf kind) (headOf (i .segment) kind ++ tailOf i amount rest)
+
+abbrev pub codeWith : ℕ → Issuer → ℕ → ℕ → List ℕ → List ℕ
+codeWith check i kind amount rest = headOf (i .segment) kind ++ (48 + check) ∷ tailOf i amount rest
+
+abbrev pub builtOf : Issuer → ℕ → ℕ → List ℕ → List ℕ
+builtOf i kind amount rest = codeWith (checkFor i kind amount rest) i kind amount rest
+
+-- 1 for the free field, 21 value, 21 issuer, 2
+unfoldable pub numbersAnswer : Issuer → ℕ → List ℕ → Answer
+numbersAnswer i amount rest =
+    asked (eqb (length rest) (widthOf (free (i .segment)))) WrongLength 0
+    then asked (ltb amount (10 ^ widthOf value)) TooWide (value .first)
+    then asked (ltb (i .number) (10 ^ widthOf (issuer (i .segment)))) TooWide ((issuer (i .segment)) .first)
+    then movedBy (behind (issuerEnd (i .segment))) (eachIs (isOf Digit) NoDigit 1 rest)
+
+-- 4, 5, then these
+unfoldable pub fieldsAnswer : Issuer → ℕ → ℕ → List ℕ → Answer
+fieldsAnswer i kind amount rest =
+    asked (isSegment (i .segment)) UnknownSegment 2 then asked (isKind kind) UnknownKind 3 then numbersAnswer i amount rest
+
+-- 20
+abbrev pub checkAnswer : Issuer → ℕ → ℕ → List ℕ → Answer
+checkAnswer i kind amount rest = asked (leb (checkFor i kind amount rest) 9) CheckTwoPlaces 4
+
+-- builder: 1 for the 44 bytes lent, 4, 5, 1 for the free field, 21 value, 21 issuer, 2, 20; every place but 0 is a place in the barcode
+abbrev pub buildAnswer : ℕ → Issuer → ℕ → ℕ → List ℕ → Answer
+buildAnswer lent i kind amount rest = asked (eqb lent 44) WrongLength 0 then fieldsAnswer i kind amount rest then checkAnswer i kind amount rest
+
+-- what accepted fields are
+pub record Fit (i : Issuer) (kind amount : ℕ) (rest : List ℕ) : Type 0 where
+  pub segment : i .segment ≤ 9
+  pub kinds : kind ≤ 9
+  pub room : length rest ≡ widthOf (free (i .segment))
+  pub amounts : amount < 10 ^ widthOf value
+  pub number : i .number < 10 ^ widthOf (issuer (i .segment))
