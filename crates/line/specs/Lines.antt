@@ -1,0 +1,65 @@
+-- The typed line of 48 digits (document 01, "The barcode"). Assumes nothing.
+use Prim.Native.Nat.{ℕ, _+_, _-_, _/_}
+use mathlib.Core.Bool.{Bool}
+use mathlib.Core.List.{List, [], _∷_, _++_}
+use lib.Dec.{eqb}
+use lib.ListN.{length, getD}
+use Rattle.answer.specs.declared.Reason.the-variants.{WrongLength, WrongBoxCheck}
+use Rattle.answer.specs.declared.Answer.{Answer}
+use Rattle.answer.specs.Orders.{asked, _then_, first, movedBy}
+use Rattle.decimal.specs.Places.{Stretch, partAt, gather}
+use Rattle.modulus.specs.declared.Modulus.{Modulus}
+use Rattle.modulus.specs.Checks.{checkOf}
+use Rattle.barcode.specs.declared.Decoded.{Decoded}
+use Rattle.barcode.specs.Codes.{digitAt, modulusOf, fieldsOf, frontAnswer, bodyAnswer, barcodeAnswer, decoded}
+
+-- four boxes of eleven barcode digits, each followed by its check: places 12, 24, 36, 48
+abbrev pub boxes : List Stretch
+boxes =
+    record { first = 1; last = 11 } ∷ record { first = 13; last = 23 } ∷ record { first = 25; last = 35 } ∷ record { first = 37; last = 47 } ∷ []
+
+-- the barcode that a line holds, and where a place of it stands in the line
+abbrev pub codeOf : List ℕ → List ℕ
+codeOf line = gather boxes line
+
+abbrev pub inLine : ℕ → ℕ
+inLine place = place + (place - 1) / 11
+
+-- a box is right where the byte behind it is its check under the modulus; the line's third digit names it for all
+unfoldable pub boxRight : Modulus → List ℕ → Stretch → Bool
+boxRight m line box = eqb (getD line (box .last) 0) (48 + checkOf m (partAt box line))
+
+abbrev pub boxAnswer : List ℕ → Stretch → Answer
+boxAnswer line box = asked (boxRight (modulusOf (digitAt 3 line)) line box) WrongBoxCheck (box .last + 1)
+
+-- typed line: 1, 2, 3, 4, 5, 6, lowest box first, 7. What is left of its barcode's own order is 7: the rest was asked of the line.
+abbrev pub lineAnswer : List ℕ → Answer
+lineAnswer line =
+    asked (eqb (length line) 48) WrongLength 0
+    then frontAnswer line
+    then first (boxAnswer line) boxes
+    then movedBy inLine (bodyAnswer (codeOf line))
+
+abbrev pub decodeOf : List ℕ → Decoded
+decodeOf line = decoded (lineAnswer line) (fieldsOf (codeOf line))
+
+-- Written from a barcode: its quarters, each followed by its check.
+
+abbrev pub quarters : List Stretch
+quarters =
+    record { first = 1; last = 11 } ∷ record { first = 12; last = 22 } ∷ record { first = 23; last = 33 } ∷ record { first = 34; last = 44 } ∷ []
+
+abbrev pub withChecks : Modulus → List Stretch → List ℕ → List ℕ
+withChecks m [] code = []
+withChecks m (q ∷ qs) code = partAt q code ++ (48 + checkOf m (partAt q code)) ∷ withChecks m qs code
+
+abbrev pub lineOf : List ℕ → List ℕ
+lineOf code = withChecks (modulusOf (digitAt 3 code)) quarters code
+
+-- Both conversions give 1 first if either lent length is wrong, then the refusals of what is read.
+
+abbrev pub toLineAnswer : ℕ → List ℕ → Answer
+toLineAnswer lent code = asked (eqb lent 48) WrongLength 0 then barcodeAnswer code
+
+abbrev pub toCodeAnswer : ℕ → List ℕ → Answer
+toCodeAnswer lent line = asked (eqb lent 44) WrongLength 0 then lineAnswer line

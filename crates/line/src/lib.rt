@@ -1,0 +1,1 @@
+// The typed line of 48 digits.
