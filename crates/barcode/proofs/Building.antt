@@ -19,7 +19,7 @@ use Rattle.decimal.specs.Numbers.{digitsOf, widthAnswer}
 use Rattle.decimal.specs.Places.{widthOf, putAt}
 use Rattle.decimal.proofs.Numbers.{digits-fill, digit-back}
 use Rattle.decimal.proofs.Finite.{or-cases}
-use Rattle.decimal.proofs.Places.{puts-join, put-whole}
+use Rattle.decimal.proofs.Places.{put-next, put-whole}
 use Rattle.barcode.specs.declared.Issuer.{Issuer}
 use Rattle.barcode.specs.Codes.{isSegment, isKind, value, issuerEnd, issuer, free, generalCheck}
 use Rattle.barcode.specs.Building.{headOf, tailOf, checkFor, codeWith, numbersAnswer, fieldsAnswer, checkAnswer, builtOf, Fit}
@@ -31,11 +31,6 @@ four-set (p ∷ []) a b c d h = absurd (omega arith)
 four-set (p ∷ q ∷ []) a b c d h = absurd (omega arith)
 four-set (p ∷ q ∷ r ∷ []) a b c d h = absurd (omega arith)
 four-set (p ∷ q ∷ r ∷ s ∷ l) a b c d h = refl
-
--- a piece put behind those that stand already
-put-next : (l xs ys : List ℕ) {at : ℕ} {q : List ℕ} → at ≡ length xs → length xs + length ys ≤ length l → q ≡ xs ++ drop (length xs) l
-    → putAt at ys q ≡ (xs ++ ys) ++ drop (length (xs ++ ys)) l
-put-next l xs ys e h f = rw (e, f) (puts-join l xs ys h)
 
 number-put : (w n at : ℕ) (l : List ℕ) {r : Answer} {q : List ℕ} → n < 10 ^ w → r ≡ widthAnswer w n → q ≡ kept r (putAt at (digitsOf w n) l) l → q ≡ putAt at (digitsOf w n) l
 number-put w n at l h e f = f ∙ rw (e, lt-ltb n (10 ^ w) h)

@@ -97,6 +97,11 @@ puts-join l xs ys h =
     = drop-append-add xs (drop (length xs) l) (length ys) ∙ drop-drop (length ys) (length xs) l ∙ ap (λ (k : ℕ). drop k l) (sym (length-append xs ys)) in
     put-fits (length xs) ys (xs ++ drop (length xs) l) n ∙ rw (take-append-seam xs (drop (length xs) l), d) (sym (append-assoc xs ys (drop (length (xs ++ ys)) l)))
 
+-- a piece put behind those that stand already
+pub put-next : (l xs ys : List ℕ) {at : ℕ} {q : List ℕ} → at ≡ length xs → length xs + length ys ≤ length l → q ≡ xs ++ drop (length xs) l
+    → putAt at ys q ≡ (xs ++ ys) ++ drop (length (xs ++ ys)) l
+put-next l xs ys e h f = rw (e, f) (puts-join l xs ys h)
+
 pub put-whole : (piece l : List ℕ) → length piece ≡ length l → putAt 0 piece l ≡ piece
 put-whole piece l e =
     let past : length l ≤ 0 + length piece = omega arith in

@@ -33,12 +33,14 @@ abbrev pub boxAnswer : List ℕ → Stretch → Answer
 boxAnswer line box = asked (boxRight (modulusOf (digitAt 3 line)) line box) WrongBoxCheck (box .last + 1)
 
 -- typed line: 1, 2, 3, 4, 5, 6, lowest box first, 7. What is left of its barcode's own order is 7: the rest was asked of the line.
+abbrev pub checksAnswer : List ℕ → Answer
+checksAnswer line = first (boxAnswer line) boxes then movedBy inLine (bodyAnswer (codeOf line))
+
+abbrev pub lineBody : List ℕ → Answer
+lineBody line = frontAnswer line then checksAnswer line
+
 abbrev pub lineAnswer : List ℕ → Answer
-lineAnswer line =
-    asked (eqb (length line) 48) WrongLength 0
-    then frontAnswer line
-    then first (boxAnswer line) boxes
-    then movedBy inLine (bodyAnswer (codeOf line))
+lineAnswer line = asked (eqb (length line) 48) WrongLength 0 then lineBody line
 
 abbrev pub decodeOf : List ℕ → Decoded
 decodeOf line = decoded (lineAnswer line) (fieldsOf (codeOf line))
@@ -49,9 +51,12 @@ abbrev pub quarters : List Stretch
 quarters =
     record { first = 1; last = 11 } ∷ record { first = 12; last = 22 } ∷ record { first = 23; last = 33 } ∷ record { first = 34; last = 44 } ∷ []
 
+abbrev pub checkedBox : Modulus → List ℕ → List ℕ
+checkedBox m part = part ++ (48 + checkOf m part) ∷ []
+
 abbrev pub withChecks : Modulus → List Stretch → List ℕ → List ℕ
 withChecks m [] code = []
-withChecks m (q ∷ qs) code = partAt q code ++ (48 + checkOf m (partAt q code)) ∷ withChecks m qs code
+withChecks m (q ∷ qs) code = checkedBox m (partAt q code) ++ withChecks m qs code
 
 abbrev pub lineOf : List ℕ → List ℕ
 lineOf code = withChecks (modulusOf (digitAt 3 code)) quarters code

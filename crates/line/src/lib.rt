@@ -1,1 +1,185 @@
-// The typed line of 48 digits.
+// The typed line of 48 digits: checked, decoded, and turned into a barcode and back.
+ghost use mathlib.Core.Path.{_≡_};
+ghost use Prim.Native.Nat.{_+_, _≤_, _<_};
+ghost use lib.ListN.{length};
+ghost use Rattle.answer.specs.Refusals.{answerPlace};
+ghost use Rattle.answer.specs.Orders.{first, movedBy, kept};
+ghost use Rattle.decimal.specs.Places.{putAt};
+ghost use Rattle.modulus.specs.Checks.{checkOf};
+ghost use Rattle.barcode.specs.Codes.{digitAt, modulusOf};
+ghost use Rattle.line.specs.Lines.{boxes, codeOf, inLine, boxRight, boxAnswer, checksAnswer, lineBody, lineAnswer, decodeOf, checkedBox, lineOf, toLineAnswer, toCodeAnswer};
+use answer::Answer;
+use answer::Reason;
+use barcode::Decoded;
+use modulus::Modulus;
+
+// The check digit of a box, as a byte.
+fn check_byte(m: Modulus, part: &[u8]) -> u8
+    ensures { λ r. ⌜ r ≡ 48 + checkOf m (now (part .entry)) ⌝ }
+{
+    (48 + modulus::check(m, part)) as u8
+}
+
+// Whether the eleven digits from an index on are followed by their check.
+fn box_right(m: Modulus, line: &[u8], from: usize) -> bool
+    requires { ⌜ from + 11 < length (now line) ⌝ }
+    ensures { λ r. ⌜ r ≡ boxRight m (now (line .entry)) (record { first = from + 1; last = from + 11 }) ⌝ }
+{
+    let end = from + 11;
+    line[end] == check_byte(m, &line[from..end])
+}
+
+// The four boxes, lowest first, all under the modulus that the line's third digit names.
+fn ask_boxes(m: Modulus, line: &[u8]) -> Answer
+    requires { ⌜ (length (now line) ≡ 48) × (m ≡ modulusOf (digitAt 3 (now line))) ⌝ }
+    ensures { λ r. ⌜ r ≡ first (boxAnswer (now (line .entry))) boxes ⌝ }
+{
+    if !box_right(m, line, 0) {
+        return Answer::Refused(Reason::WrongBoxCheck, 12);
+    }
+    if !box_right(m, line, 12) {
+        return Answer::Refused(Reason::WrongBoxCheck, 24);
+    }
+    if !box_right(m, line, 24) {
+        return Answer::Refused(Reason::WrongBoxCheck, 36);
+    }
+    if !box_right(m, line, 36) {
+        return Answer::Refused(Reason::WrongBoxCheck, 48);
+    }
+    Answer::Accepted
+}
+
+// An answer about the barcode, at its place in the line.
+fn moved(a: Answer) -> Answer
+    requires { ⌜ answerPlace a ≤ 45 ⌝ }
+    ensures { λ r. ⌜ r ≡ movedBy inLine a ⌝ }
+{
+    match a {
+        Answer::Accepted => Answer::Accepted,
+        Answer::Refused(why, place) => {
+            if place == 0 {
+                return Answer::Refused(why, 0);
+            }
+            Answer::Refused(why, place + (place - 1) / 11)
+        }
+    }
+}
+
+// The barcode that 48 bytes hold.
+fn put_code(line: &[u8], code: &mut [u8])
+    requires { ⌜ (length (now line) ≡ 48) × (length (now code) ≡ 44) ⌝ }
+    ensures { λ _. ⌜ now (code .exit) ≡ codeOf (now (line .entry)) ⌝ }
+{
+    decimal::put(&line[0..11], code, 0);
+    decimal::put(&line[12..23], code, 11);
+    decimal::put(&line[24..35], code, 22);
+    decimal::put(&line[36..47], code, 33);
+}
+
+// 6, then 7: the boxes, and what is left to ask of the barcode.
+fn ask_checks(line: &[u8], code: &[u8]) -> Answer
+    requires { ⌜ (length (now line) ≡ 48) × (now code ≡ codeOf (now line)) ⌝ }
+    ensures { λ r. ⌜ r ≡ checksAnswer (now (line .entry)) ⌝ }
+{
+    let boxes = ask_boxes(barcode::named(decimal::value(line[2])), line);
+    match boxes {
+        Answer::Refused(_, _) => boxes,
+        Answer::Accepted => moved(barcode::check(code)),
+    }
+}
+
+// Everything but the length.
+fn ask_body(line: &[u8], code: &[u8]) -> Answer
+    requires { ⌜ (length (now line) ≡ 48) × (now code ≡ codeOf (now line)) ⌝ }
+    ensures { λ r. ⌜ r ≡ lineBody (now (line .entry)) ⌝ }
+{
+    let front = barcode::front(line);
+    match front {
+        Answer::Refused(_, _) => front,
+        Answer::Accepted => ask_checks(line, code),
+    }
+}
+
+// Accepted, or the line's first refusal.
+pub fn check(line: &[u8]) -> Answer
+    ensures { λ r. ⌜ r ≡ lineAnswer (now (line .entry)) ⌝ }
+{
+    if line.len() != 48 {
+        return Answer::Refused(Reason::WrongLength, 0);
+    }
+    let mut code = [48u8; 44];
+    put_code(line, &mut code);
+    ask_body(line, &code)
+}
+
+pub fn decode(line: &[u8]) -> Decoded
+    ensures { λ r. ⌜ r ≡ decodeOf (now (line .entry)) ⌝ }
+{
+    if line.len() != 48 {
+        return Decoded::Refused(Reason::WrongLength, 0);
+    }
+    let mut code = [48u8; 44];
+    put_code(line, &mut code);
+    match ask_body(line, &code) {
+        Answer::Refused(why, place) => Decoded::Refused(why, place),
+        Answer::Accepted => Decoded::Read(barcode::read_fields(&code)),
+    }
+}
+
+// Puts the line's barcode into 44 lent bytes; a refusal leaves them as they were.
+pub fn to_barcode(line: &[u8], out: &mut [u8]) -> Answer
+    ensures answer { λ r. ⌜ r ≡ toCodeAnswer (length (now (out .entry))) (now (line .entry)) ⌝ }
+    ensures bytes { λ r. ⌜ now (out .exit) ≡ kept r (codeOf (now (line .entry))) (now (out .entry)) ⌝ }
+{
+    if out.len() != 44 {
+        return Answer::Refused(Reason::WrongLength, 0);
+    }
+    let a = check(line);
+    match a {
+        Answer::Refused(_, _) => a,
+        Answer::Accepted => {
+            put_code(line, out);
+            a
+        }
+    }
+}
+
+// A box with its check, twelve bytes from an index on.
+fn put_box(m: Modulus, part: &[u8], out: &mut [u8], at: usize)
+    requires { ⌜ length (now part) ≡ 11 ⌝ }
+    ensures { λ _. ⌜ now (out .exit) ≡ putAt at (checkedBox m (now (part .entry))) (now (out .entry)) ⌝ }
+{
+    let mut twelve = [48u8; 12];
+    decimal::put(part, &mut twelve, 0);
+    twelve[11] = check_byte(m, part);
+    decimal::put(&twelve, out, at);
+}
+
+fn put_line(code: &[u8], out: &mut [u8])
+    requires { ⌜ (length (now code) ≡ 44) × (length (now out) ≡ 48) ⌝ }
+    ensures { λ _. ⌜ now (out .exit) ≡ lineOf (now (code .entry)) ⌝ }
+{
+    let m = barcode::named(decimal::value(code[2]));
+    put_box(m, &code[0..11], out, 0);
+    put_box(m, &code[11..22], out, 12);
+    put_box(m, &code[22..33], out, 24);
+    put_box(m, &code[33..44], out, 36);
+}
+
+// Writes the line of a barcode into 48 lent bytes; a refusal leaves them as they were.
+pub fn from_barcode(code: &[u8], out: &mut [u8]) -> Answer
+    ensures answer { λ r. ⌜ r ≡ toLineAnswer (length (now (out .entry))) (now (code .entry)) ⌝ }
+    ensures bytes { λ r. ⌜ now (out .exit) ≡ kept r (lineOf (now (code .entry))) (now (out .entry)) ⌝ }
+{
+    if out.len() != 48 {
+        return Answer::Refused(Reason::WrongLength, 0);
+    }
+    let a = barcode::check(code);
+    match a {
+        Answer::Refused(_, _) => a,
+        Answer::Accepted => {
+            put_line(code, out);
+            a
+        }
+    }
+}

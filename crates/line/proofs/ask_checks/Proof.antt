@@ -1,0 +1,58 @@
+-- `line::ask_checks` meets its contract. Assumes nothing.
+use mathlib.Core.Path.{ap, _∙_}
+use borrow.Author.Needs.{needs}
+use Rattle.answer.proofs.Steps.{handed, onward}
+use Rattle.answer.specs.Orders.{movedBy}
+use Rattle.barcode.proofs.Codes.{code-place}
+use Rattle.barcode.specs.Codes.{modulusOf, barcodeAnswer}
+use Rattle.line.proofs.Lines.{code-body}
+use Rattle.line.specs.Lines.{inLine}
+use Rattle.line.proofs.ask_checks.Statement.{statement}
+use Rattle.line.proofs.ask_checks.Tie as tie
+
+shared-slice-read-value : tie.Need-shared-slice-read-value
+shared-slice-read-value c = search needs
+
+value-requires : tie.Need-value-requires
+value-requires c κs = search needs
+
+named-requires : tie.Need-named-requires
+named-requires c κs = search needs
+
+ask-boxes-requires : tie.Need-ask-boxes-requires
+ask-boxes-requires c κs = (c .before .before .before .before .before .pre .0, c .named .ensures ∙ ap modulusOf (c .before .value .ensures))
+
+enum-told : tie.Need-enum-told
+enum-told c = search needs
+
+enum-told-2 : tie.Need-enum-told-2
+enum-told-2 c = search needs
+
+check-requires : tie.Need-check-requires
+check-requires c κs = search needs
+
+moved-requires : tie.Need-moved-requires
+moved-requires c κs = rw (c .check .ensures) (code-place (c .before .before .before .before .before .before .before .before .before .args .code .now))
+
+returns : tie.Need-returns
+returns c = handed _ (c .before .before .ask-boxes .ensures) (c .enum-told .given .1)
+
+returns-2 : tie.Need-returns-2
+returns-2 c =
+    let code = c .before .check .ensures ∙ ap barcodeAnswer (c .before .before .before .before .before .before .before .before .before .before .pre .1) ∙ code-body (c .before .before .before .before .before .before .before .before .before .before .args .line .now) (c .before .before .before .before .before .before .before .before .before .before .pre .0) in
+    onward (c .before .before .before .before .ask-boxes .ensures) (c .before .before .enum-told2 .given .1) (c .moved .ensures ∙ ap (movedBy inLine) code)
+
+pub ask-checks-spec : {M : Type 1} → statement M
+ask-checks-spec =
+    tie.close
+    (tie.spec
+    shared-slice-read-value
+    value-requires
+    named-requires
+    ask-boxes-requires
+    enum-told
+    enum-told-2
+    check-requires
+    moved-requires
+    returns
+    returns-2)

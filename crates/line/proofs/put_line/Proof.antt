@@ -1,0 +1,110 @@
+-- `line::put_line` meets its contract. Assumes nothing.
+use Prim.Native.Nat.{ℕ, _+_, _≤_}
+use mathlib.Core.List.{List}
+use mathlib.Core.Path.{_≡_, ap, _∙_}
+use native.Mathlib.Omega.{arith}
+use borrow.Author.Needs.{needs}
+use lib.ListN.{length, take, drop}
+use Rattle.barcode.specs.Codes.{digitAt, modulusOf}
+use Rattle.line.proofs.Lines.{four-pieces, eleven, checked-length}
+use Rattle.line.specs.Lines.{checkedBox}
+use Rattle.line.proofs.put_line.Statement.{statement}
+use Rattle.line.proofs.put_line.Tie as tie
+
+shared-slice-read-value : tie.Need-shared-slice-read-value
+shared-slice-read-value c = search needs
+
+value-requires : tie.Need-value-requires
+value-requires c κs = search needs
+
+named-requires : tie.Need-named-requires
+named-requires c κs = search needs
+
+sub-put-box : tie.Need-sub-put-box
+sub-put-box c = search needs
+
+part-put-box-start : tie.Need-part-put-box-start
+part-put-box-start c = search needs
+
+part-put-box-end : tie.Need-part-put-box-end
+part-put-box-end c = search needs
+
+put-box-requires : tie.Need-put-box-requires
+put-box-requires c κs = search needs
+
+sub-put-box-2 : tie.Need-sub-put-box-2
+sub-put-box-2 c = search needs
+
+part-put-box-start-2 : tie.Need-part-put-box-start-2
+part-put-box-start-2 c = search needs
+
+part-put-box-end-2 : tie.Need-part-put-box-end-2
+part-put-box-end-2 c = search needs
+
+put-box-requires-2 : tie.Need-put-box-requires-2
+put-box-requires-2 c κs = search needs
+
+sub-put-box-3 : tie.Need-sub-put-box-3
+sub-put-box-3 c = search needs
+
+part-put-box-start-3 : tie.Need-part-put-box-start-3
+part-put-box-start-3 c = search needs
+
+part-put-box-end-3 : tie.Need-part-put-box-end-3
+part-put-box-end-3 c = search needs
+
+put-box-requires-3 : tie.Need-put-box-requires-3
+put-box-requires-3 c κs = search needs
+
+sub-put-box-4 : tie.Need-sub-put-box-4
+sub-put-box-4 c = search needs
+
+part-put-box-start-4 : tie.Need-part-put-box-start-4
+part-put-box-start-4 c = search needs
+
+part-put-box-end-4 : tie.Need-part-put-box-end-4
+part-put-box-end-4 c = search needs
+
+put-box-requires-4 : tie.Need-put-box-requires-4
+put-box-requires-4 c κs = search needs
+
+same-length : tie.Need-same-length
+same-length c = search needs
+
+returns : tie.Need-returns
+returns c =
+    let code = c .before .before .before .before .before .before .before .before .before .before .before .before .before .before .before .before .before .before .before .before .before .before .before .before .before .args .code .now in
+    let n = c .before .before .before .before .before .before .before .before .before .before .before .before .before .before .before .before .before .before .before .before .before .before .before .before .before .pre .0 in
+    let m = c .before .before .before .before .before .before .before .before .before .before .before .before .before .before .before .before .before .before .before .before .named .result in
+    let e : m ≡ modulusOf (digitAt 3 code) = c .before .before .before .before .before .before .before .before .before .before .before .before .before .before .before .before .before .before .before .before .named .ensures ∙ ap modulusOf (c .before .before .before .before .before .before .before .before .before .before .before .before .before .before .before .before .before .before .before .before .before .value .ensures) in
+    let box : ℕ → List ℕ = λ k. checkedBox m (take 11 (drop k code)) in
+    let twelve : (k : ℕ) → k + 11 ≤ 44 → length (box k) ≡ 12 = λ k h. checked-length m (take 11 (drop k code)) (eleven code k (omega arith)) in
+    rw (← e)
+    (four-pieces 12 (box 0) (box 11) (box 22) (box 33) (c .before .before .before .before .before .before .before .before .before .before .before .before .before .before .before .before .before .before .before .before .before .before .before .before .before .args .out .now) (twelve 0 (omega arith)) (twelve 11 (omega arith)) (twelve 22 (omega arith)) (twelve 33 (omega arith))
+    (c .before .before .before .before .before .before .before .before .before .before .before .before .before .before .before .before .before .before .before .before .before .before .before .before .before .pre .1) (c .before .before .before .before .before .before .before .before .before .before .before .before .before .before .before .before .before .put-box .ensures) (c .before .before .before .before .before .before .before .before .before .before .before .before .put-box2 .ensures) (c .before .before .before .before .before .before .before .put-box3 .ensures) (c .before .before .put-box4 .ensures))
+
+pub put-line-spec : {M : Type 1} → statement M
+put-line-spec =
+    tie.close
+    (tie.spec
+    shared-slice-read-value
+    value-requires
+    named-requires
+    sub-put-box
+    part-put-box-start
+    part-put-box-end
+    put-box-requires
+    sub-put-box-2
+    part-put-box-start-2
+    part-put-box-end-2
+    put-box-requires-2
+    sub-put-box-3
+    part-put-box-start-3
+    part-put-box-end-3
+    put-box-requires-3
+    sub-put-box-4
+    part-put-box-start-4
+    part-put-box-end-4
+    put-box-requires-4
+    same-length
+    returns)
