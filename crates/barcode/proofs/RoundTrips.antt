@@ -1,0 +1,259 @@
+-- Barcodes are their fields, both ways. Assumes nothing.
+use Prim.Native.Nat.{ℕ, zero, suc, _+_, _-_, _^_, _≤_, _<_}
+use mathlib.Core.Bool.{Bool, true, and-eq-true-iff}
+use mathlib.Core.List.{List, [], _∷_, _++_, append-nil}
+use mathlib.Core.Path.{_≡_, refl, sym, ap, _∙_}
+use native.Mathlib.Omega.{arith}
+use borrow.Author.Tests.{eqb-true, eq-eqb, lt-ltb, le-leb}
+use lib.Dec.{eqb, leb, ltb}
+use lib.ListN.{length, getD, take, drop, length-drop, take-append-drop}
+use lib.Seq.{length-take-le, take-all, take-at, drop-at, drop-drop}
+use Rattle.answer.specs.declared.Reason.the-variants.{WrongLength, NoDigit, WrongProduct, UnknownSegment, UnknownKind, WrongGeneralCheck, TooWide}
+use Rattle.answer.specs.declared.Answer.{Answer}
+use Rattle.answer.specs.declared.Answer.the-variants.{Accepted, Refused}
+use Rattle.answer.specs.Orders.{asked, behind}
+use Rattle.answer.proofs.Orders.{then-accepts, asked-accepts, moved-accepts, refusal-keeps}
+use Rattle.answer.proofs.Steps.{passed}
+use Rattle.decimal.specs.declared.Class.the-variants.{Digit}
+use Rattle.decimal.specs.Bytes.{isOf, all, eachIs}
+use Rattle.decimal.specs.Numbers.{valueOf, numberOf, digitsOf}
+use Rattle.decimal.specs.Places.{widthOf, partAt, gather}
+use Rattle.decimal.proofs.Bytes.{each-accepts, all-joins, all-of-part}
+use Rattle.decimal.proofs.Numbers.{digit-range, value-digit, digit-back, digits-fill, number-of-digits, digits-of-number, number-fits}
+use Rattle.modulus.specs.Checks.{checkOf}
+use Rattle.modulus.proofs.Sums.{check-is-one-digit}
+use Rattle.barcode.specs.declared.Issuer.{Issuer}
+use Rattle.barcode.specs.Codes.{digitAt, product, isSegment, isKind, modulusOf, checked, value, issuerEnd, issuer, free, issuerOf, freeOf, fieldsOf, leadAnswer, frontAnswer, generalCheck, generalRight, barcodeAnswer, decoded}
+use Rattle.barcode.specs.Building.{headOf, tailOf, checkFor, builtOf, numbersAnswer, fieldsAnswer, checkAnswer, buildAnswer, Fit}
+use Rattle.barcode.specs.RoundTrips.{answerOf, DecodedAnswers, FieldsAreItsPlaces, CodeIsItsFields, BuiltIsRead, FieldsWithinRangesBuild, RefusedBuildKeeps}
+use Rattle.barcode.proofs.Codes.{issuer-end-range}
+use Rattle.barcode.proofs.Building.{fit-of, written-check, code-length}
+
+pub decoded-answers : DecodedAnswers
+decoded-answers code = go (barcodeAnswer code)
+  where
+    go : (a : Answer) → answerOf (decoded a (fieldsOf code)) ≡ a
+    go Accepted = refl
+    go (Refused why p) = refl
+
+pub refused-build-keeps : RefusedBuildKeeps
+refused-build-keeps out i kind amount rest h = refusal-keeps (buildAnswer (length out) i kind amount rest) (builtOf i kind amount rest) out h
+
+-- what an accepting answer tells, and what makes it accept
+pub record Good (code : List ℕ) : Type 0 where
+  pub long : length code ≡ 44
+  pub digits : all (isOf Digit) code ≡ true
+  pub first : digitAt 1 code ≡ product
+  pub segment : isSegment (digitAt 2 code) ≡ true
+  pub kind : isKind (digitAt 3 code) ≡ true
+  pub general : generalRight code ≡ true
+
+pub good : (code : List ℕ) → barcodeAnswer code ≡ Accepted → Good code
+unfolding leadAnswer
+good code e =
+    let l = passed (eqb (length code) 44) WrongLength 0 e in
+    let body = then-accepts (frontAnswer code) (asked (generalRight code) WrongGeneralCheck 4) .0 (l .1) in
+    let front = then-accepts (eachIs (isOf Digit) NoDigit 1 code) (leadAnswer code) .0 (body .0) in
+    let p = passed (eqb (digitAt 1 code) product) WrongProduct 1 (front .1) in
+    let s = passed (isSegment (digitAt 2 code)) UnknownSegment 2 (p .1) in
+    record {
+      long = eqb-true _ _ (l .0);
+      digits = each-accepts (isOf Digit) NoDigit 1 code .0 (front .0);
+      first = eqb-true _ _ (p .0);
+      segment = s .0;
+      kind = asked-accepts (isKind (digitAt 3 code)) UnknownKind 3 .0 (s .1);
+      general = asked-accepts (generalRight code) WrongGeneralCheck 4 .0 (body .1);
+    }
+
+pub accepted : (code : List ℕ) → Good code → barcodeAnswer code ≡ Accepted
+unfolding leadAnswer
+accepted code g =
+    rw (eq-eqb _ _ (g .long), each-accepts (isOf Digit) NoDigit 1 code .1 (g .digits), eq-eqb _ _ (g .first), g .segment, g .kind, g .general)
+
+-- Of an accepted barcode.
+
+-- a digit is its value's byte
+byte-back : (b : ℕ) → isOf Digit b ≡ true → 48 + valueOf b ≡ b
+byte-back b h = let r = digit-range b h in let v = value-digit b h in omega arith
+
+joins : {a b c d : List ℕ} → a ≡ b → c ≡ d → a ++ c ≡ b ++ d
+joins p q = cc
+
+heads : {a b : ℕ} {c d : List ℕ} → a ≡ b → c ≡ d → _≡_ {A = List ℕ} (a ∷ c) (b ∷ d)
+heads p q = cc
+
+all-at : (ok : ℕ → Bool) (bs : List ℕ) (i : ℕ) → all ok bs ≡ true → i < length bs → ok (getD bs i 0) ≡ true
+all-at ok [] i h l = absurd (omega arith)
+all-at ok (b ∷ bs) zero h l = and-eq-true-iff (ok b) (all ok bs) .0 h .0
+all-at ok (b ∷ bs) (suc i) h l = all-at ok bs i (and-eq-true-iff (ok b) (all ok bs) .0 h .1) (omega arith)
+
+module _ (code : List ℕ) (g : Good code) where
+  part-digits : (from count : ℕ) → from + count ≤ 44 → digitsOf count (numberOf (take count (drop from code))) ≡ take count (drop from code)
+  part-digits from count fits =
+      let l : length (take count (drop from code)) ≡ count = length-take-le count (drop from code) (omega (arith, g .long, length-drop from code)) in
+      rw l at (digits-of-number (take count (drop from code)) (all-of-part (isOf Digit) from count code (g .digits)))
+
+  seams : (e : ℕ) → 19 ≤ e → e ≤ 23
+      → take 11 (drop 4 code) ++ (take (e - 15) (drop 15 code) ++ take (44 - e) (drop e code)) ≡ drop 4 code
+  seams e lo hi =
+      let n : 15 + (e - 15) ≡ e = omega arith in
+      let all : take (44 - e) (drop e code) ≡ drop e code = take-all (44 - e) (drop e code) (omega (arith, g .long, length-drop e code)) in
+      let two : take (e - 15) (drop 15 code) ++ take (44 - e) (drop e code) ≡ drop 15 code =
+      cc (drop-drop (e - 15) 15 code, take-append-drop (e - 15) (drop 15 code)) in
+      cc (drop-drop 11 4 code, take-append-drop 11 (drop 4 code))
+
+  tail-back : tailOf (issuerOf code) (numberOf (partAt value code)) (freeOf code) ≡ drop 4 code
+  tail-back =
+      let s = digitAt 2 code in
+      let range = issuer-end-range s in
+      let b : issuerEnd s + 1 - 1 ≡ issuerEnd s = omega arith in
+      rw (part-digits 4 11 (omega arith), part-digits 15 (issuerEnd s - 15) (omega arith), b) (seams (issuerEnd s) (range .0) (range .1))
+
+  digit-byte : (i : ℕ) → i < 44 → 48 + valueOf (getD code i 0) ≡ getD code i 0
+  digit-byte i h = byte-back (getD code i 0) (all-at (isOf Digit) code i (g .digits) (omega (arith, g .long)))
+
+  head-back : headOf (digitAt 2 code) (digitAt 3 code) ≡ getD code 0 0 ∷ getD code 1 0 ∷ getD code 2 0 ∷ []
+  head-back =
+      let p : 48 + product ≡ getD code 0 0 = omega (arith, g .first, digit-byte 0 (omega arith)) in
+      rw (digit-byte 1 (omega arith), digit-byte 2 (omega arith), p)
+
+  -- the 43 digits, and the whole
+  checked-back : gather checked code ≡ getD code 0 0 ∷ getD code 1 0 ∷ getD code 2 0 ∷ drop 4 code
+  checked-back =
+      let t : take 40 (drop 4 code) ++ [] ≡ drop 4 code = append-nil (take 40 (drop 4 code)) ∙ take-all 40 (drop 4 code) (omega (arith, g .long, length-drop 4 code)) in
+      rw t (three (drop 4 code) code (g .long))
+    where
+      three : (rest l : List ℕ) → length l ≡ 44 → take 3 l ++ rest ≡ getD l 0 0 ∷ getD l 1 0 ∷ getD l 2 0 ∷ rest
+      three rest [] h = absurd (omega arith)
+      three rest (a ∷ []) h = absurd (omega arith)
+      three rest (a ∷ b ∷ []) h = absurd (omega arith)
+      three rest (a ∷ b ∷ c ∷ l) h = refl
+
+  whole : code ≡ getD code 0 0 ∷ getD code 1 0 ∷ getD code 2 0 ∷ getD code 3 0 ∷ drop 4 code
+  whole = four code (g .long)
+    where
+      four : (l : List ℕ) → length l ≡ 44 → l ≡ getD l 0 0 ∷ getD l 1 0 ∷ getD l 2 0 ∷ getD l 3 0 ∷ drop 4 l
+      four [] h = absurd (omega arith)
+      four (a ∷ []) h = absurd (omega arith)
+      four (a ∷ b ∷ []) h = absurd (omega arith)
+      four (a ∷ b ∷ c ∷ []) h = absurd (omega arith)
+      four (a ∷ b ∷ c ∷ d ∷ l) h = refl
+
+  check-back : 48 + checkFor (issuerOf code) (digitAt 3 code) (numberOf (partAt value code)) (freeOf code) ≡ getD code 3 0
+  unfolding generalRight
+  check-back =
+      let same : headOf (digitAt 2 code) (digitAt 3 code) ++ tailOf (issuerOf code) (numberOf (partAt value code)) (freeOf code) ≡ gather checked code
+      = joins head-back tail-back ∙ sym checked-back in
+      ap (λ (l : List ℕ). 48 + checkOf (modulusOf (digitAt 3 code)) l) same ∙ sym (eqb-true (getD code 3 0) (48 + generalCheck code) (g .general))
+
+  built-back : builtOf (issuerOf code) (digitAt 3 code) (numberOf (partAt value code)) (freeOf code) ≡ code
+  built-back = joins head-back (heads check-back tail-back) ∙ sym whole
+
+-- Of fields.
+
+pub fields-within-ranges-build : FieldsWithinRangesBuild
+unfolding fieldsAnswer numbersAnswer
+fields-within-ranges-build i kind amount rest s k a n l d =
+    let digits = moved-accepts (behind (issuerEnd (i .segment))) (eachIs (isOf Digit) NoDigit 1 rest) .1 (each-accepts (isOf Digit) NoDigit 1 rest .1 d) in
+    let one : leb (checkFor i kind amount rest) 9 ≡ true = le-leb _ _ (check-is-one-digit (modulusOf kind) (headOf (i .segment) kind ++ tailOf i amount rest)) in
+    rw (s, k, eq-eqb _ _ l, lt-ltb _ _ a, lt-ltb _ _ n, digits, one)
+
+part-length : (code : List ℕ) (from count : ℕ) → length code ≡ 44 → from + count ≤ 44 → length (take count (drop from code)) ≡ count
+part-length code from count n h = length-take-le count (drop from code) (omega (arith, length-drop from code))
+
+part-below : (code : List ℕ) (from count : ℕ) → length code ≡ 44 → from + count ≤ 44 → numberOf (take count (drop from code)) < 10 ^ count
+part-below code from count n h = rw (part-length code from count n h) at (number-fits (take count (drop from code)))
+
+pub code-is-its-fields : CodeIsItsFields
+code-is-its-fields code e =
+    let g = good code e in
+    let s = digitAt 2 code in
+    let range = issuer-end-range s in
+    let n = g .long in (
+      fields-within-ranges-build (issuerOf code) (digitAt 3 code) (numberOf (partAt value code)) (freeOf code) (g .segment) (g .kind) (part-below code 4 11 n (omega arith))
+          (part-below code 15 (issuerEnd s - 15) n (omega arith)) (part-length code (issuerEnd s + 1 - 1) (44 - (issuerEnd s + 1 - 1)) n (omega arith))
+          (all-of-part (isOf Digit) (issuerEnd s + 1 - 1) (44 - (issuerEnd s + 1 - 1)) code (g .digits)),
+      built-back code g,
+    )
+
+pub fields-are-its-places : FieldsAreItsPlaces
+fields-are-its-places code e =
+    let g = good code e in
+    let range = issuer-end-range (digitAt 2 code) in
+    record { amount = part-digits code g 4 11 (omega arith); number = part-digits code g 15 (issuerEnd (digitAt 2 code) - 15) (omega arith); rest = rw e }
+
+-- What was built.
+module _ (i : Issuer) (kind amount : ℕ) (rest : List ℕ) (fit : Fit i kind amount rest) (s : isSegment (i .segment) ≡ true) (k : isKind kind ≡ true)
+    (d : all (isOf Digit) rest ≡ true) where
+  tail-digits : all (isOf Digit) (tailOf i amount rest) ≡ true
+  tail-digits =
+      let w = widthOf (issuer (i .segment)) in
+      all-joins (isOf Digit) (digitsOf 11 amount) (digitsOf w (i .number) ++ rest)
+      ∙ rw (digits-fill 11 amount .1, all-joins (isOf Digit) (digitsOf w (i .number)) rest, digits-fill w (i .number) .1, d)
+
+  built-digits : all (isOf Digit) (builtOf i kind amount rest) ≡ true
+  built-digits =
+      let one = check-is-one-digit (modulusOf kind) (headOf (i .segment) kind ++ tailOf i amount rest) in
+      rw (digit-back 8 (omega arith) .0, digit-back (i .segment) (fit .segment) .0, digit-back kind (fit .kinds) .0, digit-back (checkFor i kind amount rest) one .0, tail-digits)
+
+  built-good : Good (builtOf i kind amount rest)
+  unfolding generalRight
+  built-good = record {
+    long = code-length i kind amount rest fit (checkFor i kind amount rest);
+    digits = built-digits;
+    first = digit-back 8 (omega arith) .1;
+    segment = rw (digit-back (i .segment) (fit .segment) .1) s;
+    kind = rw (digit-back kind (fit .kinds) .1) k;
+    general = eq-eqb _ _ (ap (λ (n : ℕ). 48 + n) (sym (written-check i kind amount rest fit (checkFor i kind amount rest))));
+  }
+
+  -- its parts, one behind the other
+  amount-read : numberOf (partAt value (builtOf i kind amount rest)) ≡ amount
+  amount-read =
+      ap numberOf (take-at (digitsOf 11 amount) (digitsOf (widthOf (issuer (i .segment))) (i .number) ++ rest) 11 (digits-fill 11 amount .0))
+      ∙ number-of-digits 11 amount (fit .amounts)
+
+  behind-amount : drop 11 (tailOf i amount rest) ≡ digitsOf (widthOf (issuer (i .segment))) (i .number) ++ rest
+  behind-amount = drop-at (digitsOf 11 amount) (digitsOf (widthOf (issuer (i .segment))) (i .number) ++ rest) 11 (digits-fill 11 amount .0)
+
+  number-read : numberOf (partAt (issuer (i .segment)) (builtOf i kind amount rest)) ≡ i .number
+  number-read =
+      let w = widthOf (issuer (i .segment)) in
+      ap (λ (l : List ℕ). numberOf (take w l)) behind-amount ∙ ap numberOf (take-at (digitsOf w (i .number)) rest w (digits-fill w (i .number) .0)) ∙ number-of-digits w (i .number) (fit .number)
+
+  free-read : partAt (free (i .segment)) (builtOf i kind amount rest) ≡ rest
+  free-read =
+      let e = issuerEnd (i .segment) in
+      let w = widthOf (issuer (i .segment)) in
+      let code = builtOf i kind amount rest in
+      let range = issuer-end-range (i .segment) in
+      let b : e + 1 - 1 ≡ e = omega arith in
+      let n : 15 + w ≡ e = omega arith in
+      let f : drop e code ≡ rest =
+      ap (λ (x : ℕ). drop x code) (sym n) ∙ sym (drop-drop w 15 code) ∙ ap (drop w) behind-amount ∙ drop-at (digitsOf w (i .number)) rest w (digits-fill w (i .number) .0) in
+      rw (b, f) (take-all (44 - e) rest (omega (arith, fit .room)))
+
+-- the rest of what accepted fields tell
+told : (i : Issuer) (kind amount : ℕ) (rest : List ℕ) → fieldsAnswer i kind amount rest ≡ Accepted
+    → (isSegment (i .segment) ≡ true) × (isKind kind ≡ true) × (all (isOf Digit) rest ≡ true)
+unfolding fieldsAnswer numbersAnswer
+told i kind amount rest e =
+    let s = passed (isSegment (i .segment)) UnknownSegment 2 e in
+    let k = passed (isKind kind) UnknownKind 3 (s .1) in
+    let r = passed (eqb (length rest) (widthOf (free (i .segment)))) WrongLength 0 (k .1) in
+    let a = passed (ltb amount (10 ^ widthOf value)) TooWide 5 (r .1) in
+    let n = passed (ltb (i .number) (10 ^ widthOf (issuer (i .segment)))) TooWide 16 (a .1) in
+    (s .0, k .0, each-accepts (isOf Digit) NoDigit 1 rest .0 (moved-accepts (behind (issuerEnd (i .segment))) (eachIs (isOf Digit) NoDigit 1 rest) .0 (n .1)))
+
+pub built-is-read : BuiltIsRead
+built-is-read i kind amount rest e =
+    let f = then-accepts (fieldsAnswer i kind amount rest) (checkAnswer i kind amount rest) .0 e .0 in
+    let fit = fit-of i kind amount rest f in
+    let t = told i kind amount rest f in
+    let a = accepted (builtOf i kind amount rest) (built-good i kind amount rest fit (t .0) (t .1) (t .2)) in
+    let sg = digit-back (i .segment) (fit .segment) .1 in
+    let free = free-read i kind amount rest fit (t .0) (t .1) (t .2) in
+    let number = number-read i kind amount rest fit (t .0) (t .1) (t .2) in
+    let amounts = amount-read i kind amount rest fit (t .0) (t .1) (t .2) in
+    let kinds = digit-back kind (fit .kinds) .1 in
+    (rw (a, kinds, amounts, sg, number, free), rw (a, sg) free)

@@ -1,0 +1,74 @@
+-- What is promised of barcodes: they are their fields, and fields within their ranges are barcodes. Assumes nothing.
+use Prim.Native.Nat.{ℕ, _^_, _<_}
+use mathlib.Core.Bool.{true}
+use mathlib.Core.List.{List}
+use mathlib.Core.Path.{_≡_}
+use lib.ListN.{length, take}
+use Rattle.answer.specs.declared.Answer.{Answer}
+use Rattle.answer.specs.declared.Answer.the-variants as answer
+use Rattle.answer.specs.Orders.{kept}
+use Rattle.decimal.specs.declared.Class.the-variants.{Digit}
+use Rattle.decimal.specs.Bytes.{isOf, all}
+use Rattle.decimal.specs.Numbers.{digitsOf}
+use Rattle.decimal.specs.Places.{widthOf, partAt}
+use Rattle.calendar.specs.Dates.{dateOf}
+use Rattle.barcode.specs.declared.Issuer.{Issuer}
+use Rattle.barcode.specs.declared.Fields.{Fields}
+use Rattle.barcode.specs.declared.Decoded.{Decoded}
+use Rattle.barcode.specs.declared.Decoded.the-variants.{Read, Refused}
+use Rattle.barcode.specs.Codes.{isSegment, isKind, value, issuer, free, fieldsOf, freeOf, barcodeAnswer, noFields, decodeOf, shownFree}
+use Rattle.barcode.specs.Building.{builtOf, buildAnswer}
+
+-- the paper's answer to a decoded barcode, by its cases, and the fields that it shows
+abbrev pub answerOf : Decoded → Answer
+answerOf (Read fields) = answer.Accepted
+answerOf (Refused why place) = answer.Refused why place
+
+abbrev pub shownFields : Decoded → Fields
+shownFields (Read fields) = fields
+shownFields (Refused why place) = noFields
+
+abbrev pub DecodedAnswers : Type 0
+DecodedAnswers = (code : List ℕ) → answerOf (decodeOf code) ≡ barcodeAnswer code
+
+-- a barcode built of these fields and free field
+abbrev pub builtFrom : Fields → List ℕ → List ℕ
+builtFrom f rest = builtOf (f .issuer) (f .kind) (f .value) rest
+
+abbrev pub fromAnswer : Fields → List ℕ → Answer
+fromAnswer f rest = buildAnswer 44 (f .issuer) (f .kind) (f .value) rest
+
+-- value, issuer and free field of an accepted barcode are exactly its places 5 to 15, 16 to 19 or 23, and the rest
+pub record ShowsItsPlaces (code : List ℕ) (f : Fields) : Type 0 where
+  pub amount : digitsOf (widthOf value) (f .value) ≡ partAt value code
+  pub number : digitsOf (widthOf (issuer (f .issuer .segment))) (f .issuer .number) ≡ partAt (issuer (f .issuer .segment)) code
+  pub rest : shownFree code ≡ partAt (free (f .issuer .segment)) code
+
+abbrev pub FieldsAreItsPlaces : Type 0
+FieldsAreItsPlaces = (code : List ℕ) → barcodeAnswer code ≡ answer.Accepted → ShowsItsPlaces code (fieldsOf code)
+
+-- the fields of an accepted barcode and its free field build the same 44 bytes
+abbrev pub CodeIsItsFields : Type 0
+CodeIsItsFields =
+    (code : List ℕ) → barcodeAnswer code ≡ answer.Accepted
+    → (fromAnswer (fieldsOf code) (freeOf code) ≡ answer.Accepted) × (builtFrom (fieldsOf code) (freeOf code) ≡ code)
+
+-- what the builder accepted decodes to what it was given
+abbrev pub BuiltIsRead : Type 0
+BuiltIsRead =
+    (i : Issuer) (kind amount : ℕ) (rest : List ℕ) → buildAnswer 44 i kind amount rest ≡ answer.Accepted
+    → (decodeOf (builtOf i kind amount rest) ≡ Read (record { kind = kind; value = amount; issuer = i; due = dateOf (take 8 rest) }))
+    × (shownFree (builtOf i kind amount rest) ≡ rest)
+
+-- nothing is refused that the layout allows
+abbrev pub FieldsWithinRangesBuild : Type 0
+FieldsWithinRangesBuild =
+    (i : Issuer) (kind amount : ℕ) (rest : List ℕ) → isSegment (i .segment) ≡ true → isKind kind ≡ true → amount < 10 ^ widthOf value
+    → i .number < 10 ^ widthOf (issuer (i .segment)) → length rest ≡ widthOf (free (i .segment)) → all (isOf Digit) rest ≡ true
+    → buildAnswer 44 i kind amount rest ≡ answer.Accepted
+
+-- a refused build leaves every lent byte as it was
+abbrev pub RefusedBuildKeeps : Type 0
+RefusedBuildKeeps =
+    (out : List ℕ) (i : Issuer) (kind amount : ℕ) (rest : List ℕ) → (buildAnswer (length out) i kind amount rest ≡ answer.Accepted → ⊥)
+    → kept (buildAnswer (length out) i kind amount rest) (builtOf i kind amount rest) out ≡ out
