@@ -1,0 +1,180 @@
+-- Laws of a sound board: what it accepts, what it answers, and that a fresh one holds its payments gathered. Assumes nothing.
+use Prim.Native.Nat.{ℕ, zero, suc, _≤_, _<_}
+use mathlib.Core.Bool.{Bool, true, false, cond, _&&_, and-false, false≢true}
+use mathlib.Core.List.{List, [], _∷_, _++_}
+use mathlib.Core.Logic.{_↔_, _⊎_, inl, inr, ⊎-elim}
+use mathlib.Core.Path.{_≡_, refl, sym, ap, ap₂, _∙_}
+use native.Mathlib.Numerals.{add-one}
+use native.Mathlib.Omega.{arith}
+use borrow.Author.Tests.{lt-ltb, le-leb, ltb-true, ltb-false}
+use lib.Dec.{ltb, leb}
+use lib.ListN.{length, getD, length-set, length-append}
+use lib.Seq.{getD-take}
+use Rattle.answer.specs.declared.Reason.the-variants.{BoardFull, BoardTotalPassed}
+use Rattle.answer.specs.declared.Answer.the-variants.{Accepted}
+use Rattle.answer.specs.Orders.{asked, _then_}
+use Rattle.answer.proofs.Orders.{then-accepts}
+use Rattle.barcode.specs.declared.Issuer.{Issuer}
+use Rattle.board.specs.declared.Tally.{Tally}
+use Rattle.board.specs.declared.Lane.{Lane}
+use Rattle.board.specs.declared.Board.{Board}
+use Rattle.board.proofs.Tallies.{low, low-fits, plus-swap, plus-groups, plus-none}
+use Rattle.board.proofs.Find.{index-within}
+use Rattle.board.proofs.Lanes.{place-kept, sum-is-kept, one-payment-more}
+use Rattle.board.proofs.Posting.{place-found, place-new, length-lanes, Fit, fit, with-placed, with-sound, stays-sound}
+use Rattle.board.specs.Lanes.{mostLanes, none, plus, fits, isOf, grown, place, gather, lanesFrom, sumOf, issuersOf, named}
+use Rattle.board.specs.Boards.{blank, freshBoard, lanesOf, indexOf, slotOf, ownOf, slotAnswer, postAnswer, boardWith, postAnswers, boardWithAll, Sound, AnswersAsPayments, PostAccepts, FreshBoardTakes, FreshBoardHolds}
+
+-- What a sound board accepts.
+
+-- a lane has no more than the sum
+lane-below : (ls : List Lane) (k : ℕ) → k < length ls
+    → (getD ls k blank .tally .payments ≤ sumOf ls .payments) × (getD ls k blank .tally .centavos ≤ sumOf ls .centavos)
+lane-below [] k h = absurd (omega arith)
+lane-below (l ∷ ls) zero h = (omega arith, omega arith)
+lane-below (l ∷ ls) (suc k) h =
+    let r = lane-below ls k (omega arith) in
+    (omega arith, omega arith)
+
+-- where the total fits, the lane does
+own-fits : (b : Board) (p : Lane) → Sound b → (k : ℕ) → k ≤ length (lanesOf b) → fits (plus (b .total) (p .tally)) ≡ true
+    → (t : Bool) → ltb k (b .used) ≡ t → fits (plus (cond t (getD (b .lanes) k blank .tally) none) (p .tally)) ≡ true
+own-fits b p s k h e true t =
+    let f = low (plus (b .total) (p .tally)) e in
+    let m : k < b .used = ltb-true k (b .used) t in
+    let r = rw (getD-take (b .used) (b .lanes) k blank m, ← s .total) at (lane-below (lanesOf b) k (omega (arith, length-lanes b s))) in
+    low-fits _ (record { payments = omega (arith, f .payments, r .0); centavos = omega (arith, f .centavos, r .1) })
+own-fits b p s k h e false t =
+    let f = low (plus (b .total) (p .tally)) e in
+    low-fits _ (record { payments = omega (arith, f .payments); centavos = omega (arith, f .centavos) })
+
+pub sound-fit : (b : Board) (p : Lane) → Sound b → indexOf (p .issuer) (lanesOf b) < mostLanes → fits (plus (b .total) (p .tally)) ≡ true → Fit b p
+unfolding ownOf
+sound-fit b p s free e =
+    record {
+      free = free;
+      own = own-fits b p s (indexOf (p .issuer) (lanesOf b)) (index-within (p .issuer) (lanesOf b)) e (ltb (indexOf (p .issuer) (lanesOf b)) (b .used)) refl;
+      low = e;
+    }
+
+-- an issuer is among the lanes where its index is
+known : (i : Issuer) (ls : List Lane) (t : Bool) → named i (issuersOf ls) ≡ t → cond t (indexOf i ls < length ls) (indexOf i ls ≡ length ls)
+known i [] true e = absurd (false≢true e)
+known i [] false e = refl
+known i (l ∷ ls) t e = go (isOf i l) t e (known i ls t)
+  where
+    go : (u t : Bool) → cond u true (named i (issuersOf ls)) ≡ t
+        → (named i (issuersOf ls) ≡ t → cond t (indexOf i ls < length ls) (indexOf i ls ≡ length ls))
+        → cond t (cond u 0 (suc (indexOf i ls)) < suc (length ls)) (cond u 0 (suc (indexOf i ls)) ≡ suc (length ls))
+    go true true q later = omega arith
+    go true false q later = absurd (false≢true (sym q))
+    go false true q later = let r = later q in omega arith
+    go false false q later = let r = later q in omega arith
+
+pub post-accepts : PostAccepts
+post-accepts b p s =
+    let i = p .issuer in
+    let n = length-lanes b s in (
+      λ e.
+          let f = fit b p .0 e in
+          (room f (named i (issuersOf (lanesOf b))) refl, f .low),
+      λ h. fit b p .1 (sound-fit b p s (⊎-elim (λ k. let r = known i (lanesOf b) true k in omega (arith, s .few)) (λ k. omega (arith, index-within i (lanesOf b))) (h .0)) (h .1)),
+    )
+  where
+    room : Fit b p → (t : Bool) → named (p .issuer) (issuersOf (lanesOf b)) ≡ t → (named (p .issuer) (issuersOf (lanesOf b)) ≡ true) ⊎ (b .used < mostLanes)
+    room f true e = inl e
+    room f false e = let r = known (p .issuer) (lanesOf b) false e in inr (omega (arith, f .free, length-lanes b s))
+
+-- Its answer, from the lanes that the payment leaves and the total.
+
+-- a lane is free for a payment exactly where the lanes with it are no more than there may be
+free-lane : (p : Lane) (ls : List Lane) → length ls ≤ mostLanes → ltb (indexOf (p .issuer) ls) mostLanes ≡ leb (length (place p ls)) mostLanes
+free-lane p ls few = go (ltb (indexOf (p .issuer) ls) (length ls)) refl
+  where
+    go : (t : Bool) → ltb (indexOf (p .issuer) ls) (length ls) ≡ t → ltb (indexOf (p .issuer) ls) mostLanes ≡ leb (length (place p ls)) mostLanes
+    go true e =
+        let h = ltb-true (indexOf (p .issuer) ls) (length ls) e in
+        rw (← place-found p ls h, length-set, lt-ltb (indexOf (p .issuer) ls) mostLanes (omega arith), le-leb (length ls) mostLanes few)
+    go false e =
+        let h = ltb-false (indexOf (p .issuer) ls) (length ls) e in
+        let last : indexOf (p .issuer) ls ≡ length ls = omega (arith, index-within (p .issuer) ls) in
+        rw (last, ← place-new p ls h, length-append ls (p ∷ []), add-one (length ls))
+
+-- of a sound board, the lane's own sums need no question
+own-follows : (b : Board) (p : Lane) → Sound b
+    → (fits (plus (ownOf (slotOf b (p .issuer))) (p .tally)) && fits (plus (b .total) (p .tally))) ≡ fits (plus (b .total) (p .tally))
+unfolding ownOf
+own-follows b p s = go (fits (plus (b .total) (p .tally))) refl
+  where
+    at : ℕ
+    at = indexOf (p .issuer) (lanesOf b)
+
+    go : (t : Bool) → fits (plus (b .total) (p .tally)) ≡ t
+        → (fits (plus (cond (ltb at (b .used)) (getD (b .lanes) at blank .tally) none) (p .tally)) && t) ≡ t
+    go true e = rw (own-fits b p s at (index-within (p .issuer) (lanesOf b)) e (ltb at (b .used)) refl)
+    go false e = and-false (fits (plus (cond (ltb at (b .used)) (getD (b .lanes) at blank .tally) none) (p .tally)))
+
+pub answers-as-payments : AnswersAsPayments
+unfolding slotAnswer
+answers-as-payments b ps p s e =
+    let after : place p (lanesOf b) ≡ lanesFrom (ps ++ (p ∷ [])) = ap (place p) e ∙ sym (one-payment-more ps p) in
+    let sum : plus (b .total) (p .tally) ≡ sumOf (ps ++ (p ∷ [])) =
+    plus-swap (b .total) (p .tally) ∙ ap (plus (p .tally)) (s .total) ∙ sym (place-kept p (lanesOf b)) ∙ ap sumOf after ∙ sum-is-kept (ps ++ (p ∷ [])) in
+    ap₂ (λ (t u : Bool). asked t BoardFull 53 then asked u BoardTotalPassed 82)
+    (free-lane p (lanesOf b) (omega (arith, length-lanes b s, s .few)) ∙ ap (λ (ls : List Lane). leb (length ls) mostLanes) after)
+    (own-follows b p s ∙ ap fits sum)
+
+-- A fresh board and any payments.
+
+-- a payment's place is among the lanes it leaves, and no lane goes
+place-longer : (p : Lane) (ls : List Lane) → (indexOf (p .issuer) ls < length (place p ls)) × (length ls ≤ length (place p ls))
+place-longer p [] = (omega arith, omega arith)
+place-longer p (l ∷ ls) = go (isOf (p .issuer) l) (place-longer p ls)
+  where
+    go : (t : Bool) → (indexOf (p .issuer) ls < length (place p ls)) × (length ls ≤ length (place p ls))
+        → (cond t 0 (suc (indexOf (p .issuer) ls)) < length (cond t (grown (l .tally) p ∷ ls) (l ∷ place p ls)))
+        × (suc (length ls) ≤ length (cond t (grown (l .tally) p ∷ ls) (l ∷ place p ls)))
+    go true h = (omega arith, omega arith)
+    go false h = (omega arith, omega arith)
+
+gather-longer : (ls ps : List Lane) → length ls ≤ length (gather ls ps)
+gather-longer ls [] = omega arith
+gather-longer ls (p ∷ ps) = omega (arith, place-longer p ls .1, gather-longer (place p ls) ps)
+
+-- what fits with more fits without it
+fits-less : (a b : Tally) → fits (plus a b) ≡ true → fits a ≡ true
+fits-less a b e =
+    let f = low (plus a b) e in
+    low-fits a (record { payments = omega (arith, f .payments); centavos = omega (arith, f .centavos) })
+
+takes : (b : Board) → Sound b → (ps : List Lane)
+    → (postAnswers b ps ≡ Accepted) ↔ ((length (gather (lanesOf b) ps) ≤ mostLanes) × (fits (plus (b .total) (sumOf ps)) ≡ true))
+takes b s [] = (λ e. (omega (arith, length-lanes b s, s .few), rw (plus-none (b .total)) (s .low)), λ h. refl)
+takes b s (p ∷ ps) =
+    let two = then-accepts (postAnswer b p) (postAnswers (boardWith b p) ps) in
+    let rest : Fit b p → (postAnswers (boardWith b p) ps ≡ Accepted)
+    ↔ ((length (gather (place p (lanesOf b)) ps) ≤ mostLanes) × (fits (plus (b .total) (plus (p .tally) (sumOf ps))) ≡ true)) =
+    λ f. rw (with-placed b p s (f .free), plus-groups (b .total) (p .tally) (sumOf ps)) at (takes (boardWith b p) (with-sound b p s f) ps) in (
+      λ e. rest (fit b p .0 (two .0 e .0)) .0 (two .0 e .1),
+      λ h.
+          let sum = fits-less (plus (b .total) (p .tally)) (sumOf ps) (rw (plus-groups (b .total) (p .tally) (sumOf ps)) (h .1)) in
+          let free : indexOf (p .issuer) (lanesOf b) < mostLanes = omega (arith, place-longer p (lanesOf b) .0, gather-longer (place p (lanesOf b)) ps, h .0) in
+          let f = sound-fit b p s free sum in
+          two .1 (fit b p .1 f, rest f .1 h),
+    )
+
+pub fresh-board-takes : FreshBoardTakes
+fresh-board-takes ps = rw (plus-swap none (sumOf ps), plus-none (sumOf ps)) at (takes freshBoard (stays-sound .0) ps)
+
+holds : (b : Board) → Sound b → (ps : List Lane) → postAnswers b ps ≡ Accepted
+    → (lanesOf (boardWithAll b ps) ≡ gather (lanesOf b) ps) × Sound (boardWithAll b ps)
+holds b s [] e = (refl, s)
+holds b s (p ∷ ps) e =
+    let h = then-accepts (postAnswer b p) (postAnswers (boardWith b p) ps) .0 e in
+    let f = fit b p .0 (h .0) in
+    rw (with-placed b p s (f .free)) at (holds (boardWith b p) (with-sound b p s f) ps (h .1))
+
+pub fresh-board-holds : FreshBoardHolds
+fresh-board-holds ps e =
+    let h = holds freshBoard (stays-sound .0) ps e in
+    (h .0, h .1 .total ∙ ap sumOf (h .0) ∙ sum-is-kept ps, h .1)

@@ -1,0 +1,138 @@
+-- Laws of one payment: what is accepted is placed among the lanes, and the board stays sound. Assumes nothing.
+use Prim.Native.Nat.{ℕ, suc, _+_, _≤_, _<_}
+use mathlib.Core.Bool.{Bool, true, false, cond, _&&_, and-eq-true-iff}
+use mathlib.Core.List.{List, [], _∷_, _++_}
+use mathlib.Core.Logic.{_↔_}
+use mathlib.Core.Path.{_≡_, refl, sym, ap, _∙_}
+use native.Mathlib.Numerals.{add-one}
+use native.Mathlib.Omega.{arith}
+use borrow.Author.Tests.{lt-ltb, ltb-true, ltb-false}
+use lib.Dec.{ltb}
+use lib.ListN.{length, getD, set, take, length-set, length-replicate}
+use lib.Seq.{getD-take, take-set-lt, take-suc-set, length-take-le}
+use Rattle.answer.specs.declared.Reason.the-variants.{BoardFull, BoardTotalPassed}
+use Rattle.answer.specs.declared.Answer.{Answer}
+use Rattle.answer.specs.declared.Answer.the-variants.{Accepted, Refused}
+use Rattle.answer.specs.Orders.{asked, kept}
+use Rattle.answer.proofs.Orders.{asked-accepts, then-accepts, refusal-keeps}
+use Rattle.board.specs.declared.Tally.{Tally}
+use Rattle.board.specs.declared.Lane.{Lane}
+use Rattle.board.specs.declared.Board.{Board}
+use Rattle.board.proofs.Tallies.{low, low-fits, alike, plus-swap}
+use Rattle.board.proofs.Find.{index-within}
+use Rattle.board.proofs.Lanes.{place-distinct, place-kept}
+use Rattle.board.specs.Lanes.{mostLanes, none, plus, fits, isOf, grown, place, sumOf}
+use Rattle.board.specs.Boards.{blank, lanesOf, indexOf, slotOf, ownOf, usedAfter, grownSlot, slotAnswer, postAnswer, boardWith, Sound, RefusalKeepsBoard, PostPlaces, StaysSound}
+
+pub refusal-keeps-board : RefusalKeepsBoard
+refusal-keeps-board b p h = refusal-keeps (postAnswer b p) (boardWith b p) b h
+
+-- the lane of a first payment
+first-grown : (p : Lane) → grown none p ≡ p
+first-grown p = ap {B = Lane} (λ (t : Tally). record { issuer = p .issuer; tally = t }) (alike (omega arith) (omega arith))
+
+-- a store at the lane that was found, and a lane more where none was, are `place`
+module _ (p : Lane) where
+  pub place-found : (ls : List Lane) → indexOf (p .issuer) ls < length ls
+      → set ls (indexOf (p .issuer) ls) (grown (getD ls (indexOf (p .issuer) ls) blank .tally) p) ≡ place p ls
+  place-found [] h = absurd (omega arith)
+  place-found (l ∷ ls) h = go (isOf (p .issuer) l) h (place-found ls)
+    where
+      go : (t : Bool) → cond t 0 (suc (indexOf (p .issuer) ls)) < suc (length ls)
+          → (indexOf (p .issuer) ls < length ls
+          → set ls (indexOf (p .issuer) ls) (grown (getD ls (indexOf (p .issuer) ls) blank .tally) p) ≡ place p ls)
+          → set (l ∷ ls) (cond t 0 (suc (indexOf (p .issuer) ls)))
+          (grown (getD (l ∷ ls) (cond t 0 (suc (indexOf (p .issuer) ls))) blank .tally) p)
+          ≡ cond t (grown (l .tally) p ∷ ls) (l ∷ place p ls)
+      go true k later = refl
+      go false k later = ap (λ (m : List Lane). l ∷ m) (later (omega arith))
+
+  pub place-new : (ls : List Lane) → length ls ≤ indexOf (p .issuer) ls → ls ++ (p ∷ []) ≡ place p ls
+  place-new [] h = refl
+  place-new (l ∷ ls) h = go (isOf (p .issuer) l) h (place-new ls)
+    where
+      go : (t : Bool) → suc (length ls) ≤ cond t 0 (suc (indexOf (p .issuer) ls))
+          → (length ls ≤ indexOf (p .issuer) ls → ls ++ (p ∷ []) ≡ place p ls)
+          → l ∷ (ls ++ (p ∷ [])) ≡ cond t (grown (l .tally) p ∷ ls) (l ∷ place p ls)
+      go true k later = absurd (omega arith)
+      go false k later = ap (λ (m : List Lane). l ∷ m) (later (omega arith))
+
+-- the lanes in use of a board that is not made up
+pub length-lanes : (b : Board) → Sound b → length (lanesOf b) ≡ b .used
+length-lanes b s = length-take-le (b .used) (b .lanes) (omega (arith, s .full, s .few))
+
+-- what an accepted payment tells
+pub record Fit (b : Board) (p : Lane) : Type 0 where
+  pub free : indexOf (p .issuer) (lanesOf b) < mostLanes
+  pub own : fits (plus (ownOf (slotOf b (p .issuer))) (p .tally)) ≡ true
+  pub low : fits (plus (b .total) (p .tally)) ≡ true
+
+pub fit : (b : Board) (p : Lane) → (postAnswer b p ≡ Accepted) ↔ Fit b p
+unfolding slotAnswer
+fit b p =
+    let s = slotOf b (p .issuer) in
+    let one = asked (ltb (s .at) mostLanes) BoardFull 53 in
+    let sums = fits (grownSlot s p .lane .tally) && fits (grownSlot s p .total) in
+    let two = then-accepts one (asked sums BoardTotalPassed 82) in
+    let first = asked-accepts (ltb (s .at) mostLanes) BoardFull 53 in
+    let second = asked-accepts sums BoardTotalPassed 82 in
+    let both = and-eq-true-iff (fits (grownSlot s p .lane .tally)) (fits (grownSlot s p .total)) in (
+      λ e.
+          let h = both .0 (second .0 (two .0 e .1)) in
+          record { free = ltb-true _ _ (first .0 (two .0 e .0)); own = h .0; low = h .1 },
+      λ f. two .1 (first .1 (lt-ltb _ _ (f .free)), second .1 (both .1 (f .own, f .low))),
+    )
+
+-- at place k, the issuer's lane or the first that is free
+module _ (b : Board) (p : Lane) (s : Sound b) (k : ℕ) (is : k ≡ indexOf (p .issuer) (lanesOf b)) (free : k < mostLanes) where
+  stored-placed : (t : Bool) → ltb k (b .used) ≡ t
+      → take (cond t (b .used) (k + 1)) (set (b .lanes) k (grown (cond t (getD (b .lanes) k blank .tally) none) p))
+      ≡ place p (lanesOf b)
+  stored-placed true e =
+      let h : k < b .used = ltb-true k (b .used) e in
+      let found = place-found p (lanesOf b) (omega (arith, length-lanes b s)) in
+      take-set-lt (b .used) (b .lanes) k (grown (getD (b .lanes) k blank .tally) p) h ∙
+      ap (λ (l : Lane). set (lanesOf b) k (grown (l .tally) p)) (sym (getD-take (b .used) (b .lanes) k blank h)) ∙
+      rw (← is) at found
+  stored-placed false e =
+      let h = ltb-false k (b .used) e in
+      let n = length-lanes b s in
+      let last : k ≡ b .used = omega (arith, index-within (p .issuer) (lanesOf b)) in
+      let new = place-new p (lanesOf b) (omega arith) in
+      rw (add-one k, first-grown p) (take-suc-set (b .lanes) k p (omega (arith, s .full)) ∙ rw last new)
+
+  stored-few : (t : Bool) → cond t (b .used) (k + 1) ≤ mostLanes
+  stored-few true = s .few
+  stored-few false = omega arith
+
+module _ (b : Board) (p : Lane) (s : Sound b) where
+  pub with-placed : indexOf (p .issuer) (lanesOf b) < mostLanes → lanesOf (boardWith b p) ≡ place p (lanesOf b)
+  unfolding ownOf usedAfter
+  with-placed free = stored-placed b p s (indexOf (p .issuer) (lanesOf b)) refl free (ltb (indexOf (p .issuer) (lanesOf b)) (b .used)) refl
+
+  with-few : indexOf (p .issuer) (lanesOf b) < mostLanes → boardWith b p .used ≤ mostLanes
+  unfolding usedAfter
+  with-few free = stored-few b p s (indexOf (p .issuer) (lanesOf b)) refl free (ltb (indexOf (p .issuer) (lanesOf b)) (b .used))
+
+  pub with-sound : Fit b p → Sound (boardWith b p)
+  with-sound f =
+      record {
+        full = simp length-set (s .full);
+        few = with-few (f .free);
+        once = rw (with-placed (f .free)) (place-distinct p (lanesOf b) (s .once));
+        total = rw (with-placed (f .free), place-kept p (lanesOf b), s .total) (plus-swap (sumOf (lanesOf b)) (p .tally));
+        low = f .low;
+      }
+
+pub post-places : PostPlaces
+post-places b p s e = with-placed b p s (fit b p .0 e .free)
+
+pub stays-sound : StaysSound
+stays-sound = (
+  record { full = length-replicate mostLanes blank; few = omega arith; once = tt; total = refl; low = low-fits none (record { payments = omega arith; centavos = omega arith }) },
+  λ b p s. go b p s (postAnswer b p) refl,
+)
+  where
+    go : (b : Board) (p : Lane) → Sound b → (a : Answer) → postAnswer b p ≡ a → Sound (kept a (boardWith b p) b)
+    go b p s Accepted e = with-sound b p s (fit b p .0 e)
+    go b p s (Refused why q) e = s

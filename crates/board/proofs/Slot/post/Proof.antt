@@ -1,0 +1,64 @@
+-- `board::Slot::post` meets its contract. Assumes nothing.
+use mathlib.Core.Path.{sym, _∙_}
+use native.Mathlib.Omega.{arith}
+use borrow.Author.Needs.{needs}
+use borrow.Author.Tests.{le-ltb, not-true, not-false}
+use Rattle.board.proofs.Slots.{own-passed, total-passed, within}
+use Rattle.board.specs.Boards.{slotAnswer}
+use Rattle.board.specs.Lanes.{mostLanes}
+use Rattle.board.proofs.Slot.post.Statement.{statement}
+use Rattle.board.proofs.Slot.post.Tie as tie
+
+returns : tie.Need-returns
+unfolding slotAnswer
+returns c =
+    let a = c .before .before .args in
+    rw (le-ltb (a .self .at) mostLanes (omega arith))
+
+own-requires : tie.Need-own-requires
+own-requires c κs = search needs
+
+fits-with-requires : tie.Need-fits-with-requires
+fits-with-requires c κs = search needs
+
+returns-2 : tie.Need-returns-2
+returns-2 c =
+    let a = c .before .before .before .before .before .before .args in
+    own-passed (a .self) (a .payment) _ (c .before .before .before .before .if1 .left) (c .before .before .before .own .ensures) (sym (c .before .fits-with .ensures) ∙ not-true _ (c .if2 .taken))
+
+fits-with-requires-2 : tie.Need-fits-with-requires-2
+fits-with-requires-2 c κs = search needs
+
+returns-3 : tie.Need-returns-3
+returns-3 c =
+    let a = c .before .before .before .before .before .before .before .before .args in
+    total-passed (a .self) (a .payment) _ (c .before .before .before .before .before .before .if1 .left) (c .before .before .before .before .before .own .ensures) (sym (c .before .before .before .fits-with .ensures) ∙ not-false _ (c .before .before .if2 .left)) (sym (c .before .fits-with2 .ensures) ∙ not-true _ (c .if3 .taken))
+
+plus-requires : tie.Need-plus-requires
+plus-requires c κs = sym (c .before .before .before .before .fits-with .ensures) ∙ not-false _ (c .before .before .before .if2 .left)
+
+used-after-requires : tie.Need-used-after-requires
+used-after-requires c κs = search needs
+
+plus-requires-2 : tie.Need-plus-requires-2
+plus-requires-2 c κs = sym (c .before .before .before .before .fits-with2 .ensures) ∙ not-false _ (c .before .before .before .if3 .left)
+
+returns-4 : tie.Need-returns-4
+returns-4 c =
+    let a = c .before .before .before .before .before .before .before .before .before .before .before .before .args in
+    within (a .self) (a .payment) _ (c .before .before .before .before .before .before .before .before .before .before .if1 .left) (c .before .before .before .before .before .before .before .before .before .own .ensures) (sym (c .before .before .before .before .before .before .before .fits-with .ensures) ∙ not-false _ (c .before .before .before .before .before .before .if2 .left)) (sym (c .before .before .before .before .before .fits-with2 .ensures) ∙ not-false _ (c .before .before .before .before .if3 .left)) (c .before .before .plus .ensures) (c .before .used-after .ensures) (c .plus2 .ensures)
+
+pub post-spec : {M : Type 1} → statement M
+post-spec =
+    tie.close
+    (tie.spec
+    returns
+    own-requires
+    fits-with-requires
+    returns-2
+    fits-with-requires-2
+    returns-3
+    plus-requires
+    used-after-requires
+    plus-requires-2
+    returns-4)

@@ -1,0 +1,134 @@
+-- The board of document 01: where an issuer's lane stands, and what posting one payment leaves. Assumes nothing.
+use Prim.Native.Nat.{ℕ, suc, _+_, _≤_, _<_}
+use mathlib.Core.Bool.{true, cond, _&&_}
+use mathlib.Core.List.{List, [], _∷_, _++_}
+use mathlib.Core.Logic.{_↔_, _⊎_}
+use mathlib.Core.Path.{_≡_}
+use lib.Dec.{ltb, leb}
+use lib.ListN.{length, getD, set, take, replicate}
+use Rattle.answer.specs.declared.Reason.the-variants.{BoardFull, BoardTotalPassed}
+use Rattle.answer.specs.declared.Answer.{Answer}
+use Rattle.answer.specs.declared.Answer.the-variants.{Accepted}
+use Rattle.answer.specs.Orders.{asked, _then_, kept}
+use Rattle.barcode.specs.declared.Issuer.{Issuer}
+use Rattle.board.specs.declared.Tally.{Tally}
+use Rattle.board.specs.declared.Lane.{Lane}
+use Rattle.board.specs.declared.Board.{Board}
+use Rattle.board.specs.declared.Slot.{Slot}
+use Rattle.board.specs.declared.Entry.{Entry}
+use Rattle.board.specs.declared.Posted.{Posted}
+use Rattle.board.specs.Lanes.{mostLanes, none, plus, fits, isOf, grown, place, lanesFrom, sumOf, issuersOf, named, Distinct}
+
+-- what stands where no lane is in use
+abbrev pub blank : Lane
+blank = record { issuer = record { segment = 0; number = 0 }; tally = none }
+
+abbrev pub freshBoard : Board
+freshBoard = record { lanes = replicate mostLanes blank; used = 0; total = none }
+
+-- the lanes in use
+abbrev pub lanesOf : Board → List Lane
+lanesOf b = take (b .used) (b .lanes)
+
+-- where the issuer's lane stands, counted from 0: at the end where it has none
+abbrev pub indexOf : Issuer → List Lane → ℕ
+indexOf i [] = 0
+indexOf i (l ∷ ls) = cond (isOf i l) 0 (suc (indexOf i ls))
+
+-- all that a payment at this place can change
+abbrev pub slotAt : Board → ℕ → Slot
+slotAt b at = record { at = at; lane = getD (b .lanes) at blank; used = b .used; total = b .total }
+
+abbrev pub slotOf : Board → Issuer → Slot
+slotOf b i = slotAt b (indexOf i (lanesOf b))
+
+-- a slot put back
+abbrev pub stored : Board → Slot → Board
+stored b s = record { lanes = set (b .lanes) (s .at) (s .lane); used = s .used; total = s .total }
+
+-- what the lane in use at the slot's place has; nothing where the place is free
+unfoldable pub ownOf : Slot → Tally
+ownOf s = cond (ltb (s .at) (s .used)) (s .lane .tally) none
+
+unfoldable pub usedAfter : Slot → ℕ
+usedAfter s = cond (ltb (s .at) (s .used)) (s .used) (s .at + 1)
+
+-- the slot with a payment more
+abbrev pub grownSlot : Slot → Lane → Slot
+grownSlot s p =
+    record { at = s .at; lane = grown (ownOf s) p; used = usedAfter s; total = plus (s .total) (p .tally) }
+
+-- 17, a new issuer when all lanes are taken; 18, a number of the lane or of the total that would pass the limit
+unfoldable pub slotAnswer : Slot → Lane → Answer
+slotAnswer s p =
+    asked (ltb (s .at) mostLanes) BoardFull 53
+    then asked (fits (grownSlot s p .lane .tally) && fits (grownSlot s p .total)) BoardTotalPassed 82
+
+abbrev pub entryOf : Slot → Lane → Entry
+entryOf s p = record { answer = slotAnswer s p; slot = kept (slotAnswer s p) (grownSlot s p) s }
+
+-- a payment posted to the slot of its issuer
+abbrev pub postAnswer : Board → Lane → Answer
+postAnswer b p = slotAnswer (slotOf b (p .issuer)) p
+
+abbrev pub boardWith : Board → Lane → Board
+boardWith b p = stored b (grownSlot (slotOf b (p .issuer)) p)
+
+abbrev pub postedOf : Board → Lane → Posted
+postedOf b p = record { answer = postAnswer b p; board = kept (postAnswer b p) (boardWith b p) b }
+
+-- payments one after the other, in the order in which they come: the first refusal, and the board with them all
+abbrev pub postAnswers : Board → List Lane → Answer
+postAnswers b [] = Accepted
+postAnswers b (p ∷ ps) = postAnswer b p then postAnswers (boardWith b p) ps
+
+abbrev pub boardWithAll : Board → List Lane → Board
+boardWithAll b [] = b
+boardWithAll b (p ∷ ps) = boardWithAll (boardWith b p) ps
+
+-- the answer to a payment after others, with no board: 17, more issuers than there are lanes; 18, a sum that does not fit
+abbrev pub answerAfter : List Lane → Lane → Answer
+answerAfter ps p =
+    asked (leb (length (lanesFrom (ps ++ (p ∷ [])))) mostLanes) BoardFull 53
+    then asked (fits (sumOf (ps ++ (p ∷ [])))) BoardTotalPassed 82
+
+-- what holds of every board that the methods make
+pub record Sound (b : Board) : Type 0 where
+  pub full : length (b .lanes) ≡ mostLanes
+  pub few : b .used ≤ mostLanes
+  pub once : Distinct (issuersOf (lanesOf b))
+  pub total : b .total ≡ sumOf (lanesOf b)
+  pub low : fits (b .total) ≡ true
+
+-- Promises: of one payment. A refusal changes nothing, and an accepted payment is placed; a sound board stays sound, and accepts exactly
+-- where the issuer has a lane or one is free and no total passes the limit.
+
+abbrev pub RefusalKeepsBoard : Type 0
+RefusalKeepsBoard = (b : Board) (p : Lane) → (postedOf b p .answer ≡ Accepted → ⊥) → postedOf b p .board ≡ b
+
+abbrev pub PostPlaces : Type 0
+PostPlaces = (b : Board) (p : Lane) → Sound b → postAnswer b p ≡ Accepted → lanesOf (boardWith b p) ≡ place p (lanesOf b)
+
+abbrev pub StaysSound : Type 0
+StaysSound = Sound freshBoard × ((b : Board) (p : Lane) → Sound b → Sound (postedOf b p .board))
+
+abbrev pub PostAccepts : Type 0
+PostAccepts =
+    (b : Board) (p : Lane) → Sound b
+    → (postAnswer b p ≡ Accepted)
+    ↔ (((named (p .issuer) (issuersOf (lanesOf b)) ≡ true) ⊎ (b .used < mostLanes)) × (fits (plus (b .total) (p .tally)) ≡ true))
+
+-- Promises: of a board that holds some payments. It answers as they do. A fresh board takes payments exactly where they have few enough
+-- issuers and a sum within the limit; its lanes are then the payments gathered by issuer, and its total is their sum.
+
+abbrev pub AnswersAsPayments : Type 0
+AnswersAsPayments = (b : Board) (ps : List Lane) (p : Lane) → Sound b → lanesOf b ≡ lanesFrom ps → postAnswer b p ≡ answerAfter ps p
+
+abbrev pub FreshBoardTakes : Type 0
+FreshBoardTakes =
+    (ps : List Lane) → (postAnswers freshBoard ps ≡ Accepted) ↔ ((length (lanesFrom ps) ≤ mostLanes) × (fits (sumOf ps) ≡ true))
+
+abbrev pub FreshBoardHolds : Type 0
+FreshBoardHolds =
+    (ps : List Lane) → postAnswers freshBoard ps ≡ Accepted
+    → (lanesOf (boardWithAll freshBoard ps) ≡ lanesFrom ps) × (boardWithAll freshBoard ps .total ≡ sumOf ps) × Sound (boardWithAll freshBoard ps)

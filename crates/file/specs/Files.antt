@@ -1,0 +1,105 @@
+-- The open file of document 01: refusals 13 to 16, once for session and writer. Assumes nothing.
+use Prim.Native.Nat.{ℕ, _+_, _^_, _<_, _≤_}
+use mathlib.Core.List.{List, [], _∷_}
+use mathlib.Core.Logic.{_↔_}
+use mathlib.Core.Path.{_≡_}
+use lib.Dec.{eqb, ltb, leb}
+use lib.ListN.{length}
+use Rattle.answer.specs.declared.Reason.the-variants.{CountDiffers, TotalDiffers, FileFull, FileTotalPassed}
+use Rattle.answer.specs.declared.Answer.{Answer}
+use Rattle.answer.specs.declared.Answer.the-variants.{Accepted}
+use Rattle.answer.specs.Orders.{asked, _then_, kept}
+use Rattle.file.specs.declared.File.{File}
+use Rattle.file.specs.declared.Taken.{Taken}
+use Rattle.file.specs.declared.Figures.{Figures}
+use Rattle.file.specs.declared.Closed.{Closed}
+
+-- the most payments of a file, and the most centavos
+abbrev pub mostPayments : ℕ
+mostPayments = 999_997
+
+abbrev pub mostCentavos : ℕ
+mostCentavos = 99_999_999_999_999_999
+
+abbrev pub freshFile : File
+freshFile = record { taken = 0; total = 0 }
+
+-- 15, a payment when the most were taken; 16, a payment that takes the total past the most
+unfoldable pub fileAnswer : File → ℕ → Answer
+fileAnswer f received =
+    asked (ltb (f .taken) mostPayments) FileFull 1 then asked (leb (f .total + received) mostCentavos) FileTotalPassed 82
+
+-- the file with one payment more
+abbrev pub fileWith : File → ℕ → File
+fileWith f received = record { taken = f .taken + 1; total = f .total + received }
+
+abbrev pub takenOf : File → ℕ → Taken
+takenOf f received =
+    record { answer = fileAnswer f received; file = kept (fileAnswer f received) (fileWith f received) f }
+
+-- the figures of the one right trailer: header and trailer are counted
+abbrev pub figuresOf : File → Figures
+figuresOf f = record { count = f .taken + 2; total = f .total }
+
+-- 13, then 14: a trailer that shows other figures
+unfoldable pub trailerAnswer : File → Figures → Answer
+trailerAnswer f shown =
+    asked (eqb (shown .count) (figuresOf f .count)) CountDiffers 2 then asked (eqb (shown .total) (figuresOf f .total)) TotalDiffers 8
+
+-- 15, then 16: a file put together by hand whose figures have no room in a trailer
+unfoldable pub closingAnswer : File → Answer
+closingAnswer f = asked (leb (f .taken) mostPayments) FileFull 1 then asked (leb (f .total) mostCentavos) FileTotalPassed 82
+
+abbrev pub closedOf : File → Closed
+closedOf f =
+    record { answer = closingAnswer f; figures = kept (closingAnswer f) (figuresOf f) (record { count = 0; total = 0 }) }
+
+-- what holds of every file that the methods make
+pub record Within (f : File) : Type 0 where
+  pub taken : f .taken ≤ mostPayments
+  pub total : f .total ≤ mostCentavos
+
+-- payments one after the other: the first refusal, and the file with them all
+abbrev pub fileAnswers : File → List ℕ → Answer
+fileAnswers f [] = Accepted
+fileAnswers f (x ∷ xs) = fileAnswer f x then fileAnswers (fileWith f x) xs
+
+abbrev pub fileWithAll : File → List ℕ → File
+fileWithAll f [] = f
+fileWithAll f (x ∷ xs) = fileWithAll (fileWith f x) xs
+
+abbrev pub receivedOf : List ℕ → ℕ
+receivedOf [] = 0
+receivedOf (x ∷ xs) = x + receivedOf xs
+
+-- Promises: of one payment.
+
+abbrev pub FileAccepts : Type 0
+FileAccepts =
+    (f : File) (received : ℕ)
+    → (fileAnswer f received ≡ Accepted) ↔ ((f .taken < mostPayments) × (f .total + received ≤ mostCentavos))
+
+abbrev pub RefusalKeepsFile : Type 0
+RefusalKeepsFile = (f : File) (received : ℕ) → (takenOf f received .answer ≡ Accepted → ⊥) → takenOf f received .file ≡ f
+
+abbrev pub StaysWithin : Type 0
+StaysWithin = Within freshFile × ((f : File) (received : ℕ) → Within f → Within (takenOf f received .file))
+
+-- Promises: of a file's payments, with no file. A fresh file takes a list exactly when it is within the limits, and counts and adds it up.
+
+abbrev pub FreshFileTakes : Type 0
+FreshFileTakes = (xs : List ℕ) → (fileAnswers freshFile xs ≡ Accepted) ↔ ((length xs ≤ mostPayments) × (receivedOf xs ≤ mostCentavos))
+
+abbrev pub FreshFileHolds : Type 0
+FreshFileHolds = (xs : List ℕ) → fileWithAll freshFile xs ≡ record { taken = length xs; total = receivedOf xs }
+
+-- Promises: of the trailer. Exactly one is right, and that of a file within its limits has room in its six and seventeen digits.
+
+abbrev pub OneRightTrailer : Type 0
+OneRightTrailer = (f : File) (shown : Figures) → (trailerAnswer f shown ≡ Accepted) ↔ (shown ≡ figuresOf f)
+
+abbrev pub ClosingAccepts : Type 0
+ClosingAccepts = (f : File) → (closingAnswer f ≡ Accepted) ↔ Within f
+
+abbrev pub FiguresFit : Type 0
+FiguresFit = (f : File) → Within f → (figuresOf f .count < 10 ^ 6) × (figuresOf f .total < 10 ^ 17)
