@@ -1,0 +1,23 @@
+-- `record::kinds::is_capture` meets its contract. Assumes nothing.
+use mathlib.Core.Path.{sym, _∙_}
+use borrow.Author.Needs.{needs}
+use Rattle.record.specs.Kinds.{isCapture}
+use Rattle.record.proofs.kinds.is_capture.Statement.{statement}
+use Rattle.record.proofs.kinds.is_capture.Tie as tie
+
+between-requires : tie.Need-between-requires
+between-requires c κs = search needs
+
+between-requires-2 : tie.Need-between-requires-2
+between-requires-2 c κs = search needs
+
+returns : tie.Need-returns
+unfolding isCapture
+returns c = simp (sym (c .before .between .ensures) ∙ c .if1 .taken) (c .if1 .taken)
+
+returns-2 : tie.Need-returns-2
+unfolding isCapture
+returns-2 c = simp (sym (c .before .before .between .ensures) ∙ c .before .if1 .left) (c .between2 .ensures)
+
+pub is-capture-spec : {M : Type 1} → statement M
+is-capture-spec = tie.close (tie.spec between-requires between-requires-2 returns returns-2)

@@ -1,0 +1,15 @@
+-- `record::kinds::is_form` meets its contract. Assumes nothing.
+use borrow.Author.Needs.{needs}
+use Rattle.record.specs.Kinds.{isForm}
+use Rattle.record.proofs.kinds.is_form.Statement.{statement}
+use Rattle.record.proofs.kinds.is_form.Tie as tie
+
+between-requires : tie.Need-between-requires
+between-requires c κs = search needs
+
+returns : tie.Need-returns
+unfolding isForm
+returns c = c .between .ensures
+
+pub is-form-spec : {M : Type 1} → statement M
+is-form-spec = tie.close (tie.spec between-requires returns)

@@ -1,0 +1,39 @@
+-- `record::kinds::is_service` meets its contract. Assumes nothing.
+use borrow.Author.Needs.{needs}
+use borrow.Author.Tests.{not-true, not-false}
+use Rattle.record.proofs.KindLaws.{no-service, service-same}
+use Rattle.record.proofs.kinds.is_service.Statement.{statement}
+use Rattle.record.proofs.kinds.is_service.Tie as tie
+
+byte-at-requires : tie.Need-byte-at-requires
+byte-at-requires c κs = search needs
+
+is-spelling-requires : tie.Need-is-spelling-requires
+is-spelling-requires c κs = search needs
+
+returns : tie.Need-returns
+returns c = no-service _ (c .before .before .byte-at .ensures) (c .before .is-spelling .ensures) (not-true _ (c .if1 .taken))
+
+array-write-service : tie.Need-array-write-service
+array-write-service c = search needs
+
+slice-aggregate-same-bytes : tie.Need-slice-aggregate-same-bytes
+slice-aggregate-same-bytes c = search needs
+
+same-bytes-requires : tie.Need-same-bytes-requires
+same-bytes-requires c κs = search needs
+
+returns-2 : tie.Need-returns-2
+returns-2 c = service-same _ (c .before .before .before .before .byte-at .ensures) (c .before .before .before .is-spelling .ensures) (not-false _ (c .before .before .if1 .left)) (c .same-bytes .ensures)
+
+pub is-service-spec : {M : Type 1} → statement M
+is-service-spec =
+    tie.close
+    (tie.spec
+    byte-at-requires
+    is-spelling-requires
+    returns
+    array-write-service
+    slice-aggregate-same-bytes
+    same-bytes-requires
+    returns-2)

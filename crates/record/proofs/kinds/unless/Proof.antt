@@ -1,0 +1,12 @@
+-- `record::kinds::unless` meets its contract. Assumes nothing.
+use Rattle.record.proofs.kinds.unless.Statement.{statement}
+use Rattle.record.proofs.kinds.unless.Tie as tie
+
+returns : tie.Need-returns
+returns c = rw (c .if1 .taken)
+
+returns-2 : tie.Need-returns-2
+returns-2 c = rw (c .if1 .left)
+
+pub unless-spec : {M : Type 1} → statement M
+unless-spec = tie.close (tie.spec returns returns-2)

@@ -1,0 +1,66 @@
+-- `record::values::shown` meets its contract. Assumes nothing.
+use mathlib.Core.Path.{sym, _∙_}
+use borrow.Author.Needs.{needs}
+use Rattle.record.proofs.values.shown.Statement.{statement}
+use Rattle.record.proofs.values.shown.Tie as tie
+
+shared-slice-read-named-by : tie.Need-shared-slice-read-named-by
+shared-slice-read-named-by c = search needs
+
+named-by-requires : tie.Need-named-by-requires
+named-by-requires c κs = search needs
+
+enum-known-which : tie.Need-enum-known-which
+enum-known-which c = search needs
+
+enum-told : tie.Need-enum-told
+enum-told c = search needs
+
+read-header-requires : tie.Need-read-header-requires
+read-header-requires c κs = search needs
+
+enum-told-2 : tie.Need-enum-told-2
+enum-told-2 c = search needs
+
+read-payment-requires : tie.Need-read-payment-requires
+read-payment-requires c κs = search needs
+
+enum-told-3 : tie.Need-enum-told-3
+enum-told-3 c = search needs
+
+read-trailer-requires : tie.Need-read-trailer-requires
+read-trailer-requires c κs = search needs
+
+enum-told-4 : tie.Need-enum-told-4
+enum-told-4 c = search needs
+
+returns : tie.Need-returns
+returns c = rw (sym (c .before .before .before .before .before .before .named-by .ensures) ∙ c .before .before .before .before .which .given .1, c .before .enum-told .given .1, c .read-header .ensures)
+
+returns-2 : tie.Need-returns-2
+returns-2 c = rw (sym (c .before .before .before .before .before .before .named-by .ensures) ∙ c .before .before .before .before .which .given .1, c .before .enum-told2 .given .1, c .read-payment .ensures)
+
+returns-3 : tie.Need-returns-3
+returns-3 c = rw (sym (c .before .before .before .before .before .before .named-by .ensures) ∙ c .before .before .before .before .which .given .1, c .before .enum-told3 .given .1, c .read-trailer .ensures)
+
+returns-4 : tie.Need-returns-4
+returns-4 c = rw (sym (c .before .before .named-by .ensures) ∙ c .enum-told4 .given .1)
+
+pub shown-spec : {M : Type 1} → statement M
+shown-spec =
+    tie.close
+    (tie.spec
+    shared-slice-read-named-by
+    named-by-requires
+    enum-known-which
+    enum-told
+    read-header-requires
+    enum-told-2
+    read-payment-requires
+    enum-told-3
+    read-trailer-requires
+    enum-told-4
+    returns
+    returns-2
+    returns-3
+    returns-4)

@@ -1,0 +1,92 @@
+-- What an accepted record shows. Assumes nothing.
+use Prim.Native.Nat.{ℕ}
+use mathlib.Core.Bool.{cond, _&&_}
+use mathlib.Core.List.{List, []}
+use mathlib.Core.Path.{_≡_}
+use lib.Dec.{leb, ltb}
+use lib.ListN.{getD}
+use Rattle.answer.specs.declared.Reason.the-variants.{NotExpected}
+use Rattle.answer.specs.declared.Answer.{Answer}
+use Rattle.answer.specs.declared.Answer.the-variants as answer
+use Rattle.answer.specs.Orders.{kept}
+use Rattle.decimal.specs.Numbers.{numberOf}
+use Rattle.calendar.specs.declared.Date.{Date}
+use Rattle.calendar.specs.declared.Dated.{Dated}
+use Rattle.calendar.specs.declared.Dated.the-variants.{On, NoDate}
+use Rattle.calendar.specs.Dates.{dateOf}
+use Rattle.barcode.specs.Codes.{fieldsOf}
+use Rattle.layout.specs.declared.Named.{Named}
+use Rattle.layout.specs.declared.Named.the-variants.{Is, Other}
+use Rattle.layout.specs.declared.Record.the-variants as layout
+use Rattle.layout.specs.Layouts.{rowAt, rowsOf, namedBy, bankRow, fileDateRow, sequenceRow, paidRow, creditedRow, barcodeRow, receivedRow, tariffRow, numberRow, countRow, totalRow}
+use Rattle.record.specs.declared.Header.{Header}
+use Rattle.record.specs.declared.Payment.{Payment}
+use Rattle.record.specs.declared.Trailer.{Trailer}
+use Rattle.record.specs.declared.Decoded.{Decoded}
+use Rattle.record.specs.declared.Decoded.the-variants as decoded
+use Rattle.record.specs.Records.{partOf, recordAnswer}
+
+abbrev pub numberIn : ℕ → List ℕ → ℕ
+numberIn row rec = numberOf (partOf (rowAt row) rec)
+
+-- an accepted record's dates are dates: what no date would show is never seen
+abbrev pub dayOf : Dated → Date
+dayOf (On d) = d
+dayOf NoDate = record { year = 0; month = 0; day = 0 }
+
+abbrev pub dateIn : ℕ → List ℕ → Date
+dateIn row rec = dayOf (dateOf (partOf (rowAt row) rec))
+
+abbrev pub headerOf : List ℕ → Header
+headerOf rec = record { bank = numberIn bankRow rec; date = dateIn fileDateRow rec; sequence = numberIn sequenceRow rec }
+
+abbrev pub paymentOf : List ℕ → Payment
+paymentOf rec =
+    record {
+      paid = dateIn paidRow rec;
+      credited = dateIn creditedRow rec;
+      barcode = fieldsOf (partOf (rowAt barcodeRow) rec);
+      received = numberIn receivedRow rec;
+      tariff = numberIn tariffRow rec;
+      number = numberIn numberRow rec;
+    }
+
+abbrev pub trailerOf : List ℕ → Trailer
+trailerOf rec = record { count = numberIn countRow rec; total = numberIn totalRow rec }
+
+-- what the record that is named shows
+abbrev pub shownOf : Named → List ℕ → Decoded
+shownOf (Is layout.Header) rec = decoded.Header (headerOf rec)
+shownOf (Is layout.Payment) rec = decoded.Payment (paymentOf rec)
+shownOf (Is layout.Trailer) rec = decoded.Trailer (trailerOf rec)
+shownOf Other rec = decoded.Refused NotExpected 1
+
+-- a refused record shows its refusal, and no field
+abbrev pub unlessRefused : Answer → Decoded → Decoded
+unlessRefused answer.Accepted shown = shown
+unlessRefused (answer.Refused why place) shown = decoded.Refused why place
+
+abbrev pub decodeOf : List ℕ → Decoded
+decodeOf rec = unlessRefused (recordAnswer rec) (shownOf (namedBy (getD rec 0 0)) rec)
+
+-- the answer that a decoded record stands for, and with it the paper's number and place
+abbrev pub answerOf : Decoded → Answer
+answerOf (decoded.Header h) = answer.Accepted
+answerOf (decoded.Payment p) = answer.Accepted
+answerOf (decoded.Trailer t) = answer.Accepted
+answerOf (decoded.Refused why place) = answer.Refused why place
+
+-- A field by its row: the empty part for a refused record, for another record's row and for a row past the table.
+
+abbrev pub fieldIn : Named → ℕ → List ℕ → List ℕ
+fieldIn (Is r) row rec = cond (leb (rowsOf r .from) row && ltb row (rowsOf r .to)) (partOf (rowAt row) rec) []
+fieldIn Other row rec = []
+
+abbrev pub shownField : ℕ → List ℕ → List ℕ
+shownField row rec = kept (recordAnswer rec) (fieldIn (namedBy (getD rec 0 0)) row rec) []
+
+-- Promises.
+
+-- what is decoded says what was answered: one answer for each input
+abbrev pub DecodeAnswers : Type 0
+DecodeAnswers = (rec : List ℕ) → answerOf (decodeOf rec) ≡ recordAnswer rec

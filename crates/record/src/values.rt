@@ -1,0 +1,147 @@
+// What an accepted record shows.
+ghost use mathlib.Core.Path.{_≡_};
+ghost use Prim.Native.Nat.{_+_, _≤_};
+ghost use lib.ListN.{length, getD};
+ghost use Rattle.decimal.specs.Numbers.{numberOf};
+ghost use Rattle.calendar.specs.Dates.{dateOf};
+ghost use Rattle.barcode.specs.Codes.{fieldsOf};
+ghost use Rattle.layout.specs.Layouts.{namedBy};
+ghost use Rattle.layout.proofs.Layouts.{Lies};
+ghost use Rattle.record.specs.Records.{partOf};
+ghost use Rattle.record.specs.Values.{dayOf, headerOf, paymentOf, trailerOf, shownOf, decodeOf, fieldIn, shownField};
+use crate::Decoded;
+use crate::Header;
+use crate::Payment;
+use crate::Trailer;
+use crate::walk;
+use answer::Answer;
+use answer::Reason;
+use barcode::Fields;
+use calendar::Date;
+use calendar::Dated;
+use layout::Field;
+use layout::Named;
+use layout::Record;
+
+fn number_in(rec: &[u8], f: Field) -> u64
+    requires { ⌜ length (now rec) ≡ 150 ⌝ }
+    requires { ⌜ Lies f ⌝ }
+    requires { ⌜ f .last ≤ f .first + 18 ⌝ }
+    ensures { λ r. ⌜ r ≡ numberOf (partOf f (now (rec .entry))) ⌝ }
+{
+    decimal::number(walk::part_of(rec, f))
+}
+
+fn date_in(rec: &[u8], f: Field) -> Date
+    requires { ⌜ length (now rec) ≡ 150 ⌝ }
+    requires { ⌜ Lies f ⌝ }
+    ensures { λ r. ⌜ r ≡ dayOf (dateOf (partOf f (now (rec .entry)))) ⌝ }
+{
+    match calendar::read_date(walk::part_of(rec, f)) {
+        Dated::On(date) => date,
+        Dated::NoDate => Date {
+            year: 0,
+            month: 0,
+            day: 0,
+        },
+    }
+}
+
+fn fields_in(rec: &[u8], f: Field) -> Fields
+    requires { ⌜ length (now rec) ≡ 150 ⌝ }
+    requires { ⌜ Lies f ⌝ }
+    requires { ⌜ f .last ≡ f .first + 43 ⌝ }
+    ensures { λ r. ⌜ r ≡ fieldsOf (partOf f (now (rec .entry))) ⌝ }
+{
+    barcode::read_fields(walk::part_of(rec, f))
+}
+
+fn read_header(rec: &[u8]) -> Header
+    requires { ⌜ length (now rec) ≡ 150 ⌝ }
+    ensures { λ r. ⌜ r ≡ headerOf (now (rec .entry)) ⌝ }
+{
+    let table = layout::table();
+    Header {
+        bank: number_in(rec, table[layout::BANK]),
+        date: date_in(rec, table[layout::FILE_DATE]),
+        sequence: number_in(rec, table[layout::SEQUENCE]),
+    }
+}
+
+fn read_payment(rec: &[u8]) -> Payment
+    requires { ⌜ length (now rec) ≡ 150 ⌝ }
+    ensures { λ r. ⌜ r ≡ paymentOf (now (rec .entry)) ⌝ }
+{
+    let table = layout::table();
+    Payment {
+        paid: date_in(rec, table[layout::PAID]),
+        credited: date_in(rec, table[layout::CREDITED]),
+        barcode: fields_in(rec, table[layout::BARCODE]),
+        received: number_in(rec, table[layout::RECEIVED]),
+        tariff: number_in(rec, table[layout::TARIFF]),
+        number: number_in(rec, table[layout::NUMBER]),
+    }
+}
+
+fn read_trailer(rec: &[u8]) -> Trailer
+    requires { ⌜ length (now rec) ≡ 150 ⌝ }
+    ensures { λ r. ⌜ r ≡ trailerOf (now (rec .entry)) ⌝ }
+{
+    let table = layout::table();
+    Trailer {
+        count: number_in(rec, table[layout::COUNT]),
+        total: number_in(rec, table[layout::TOTAL]),
+    }
+}
+
+fn shown(rec: &[u8]) -> Decoded
+    requires { ⌜ length (now rec) ≡ 150 ⌝ }
+    ensures { λ r. ⌜ r ≡ shownOf (namedBy (getD (now (rec .entry)) 0 0)) (now (rec .entry)) ⌝ }
+{
+    match layout::named_by(rec[0]) {
+        Named::Is(which) => match which {
+            Record::Header => Decoded::Header(read_header(rec)),
+            Record::Payment => Decoded::Payment(read_payment(rec)),
+            Record::Trailer => Decoded::Trailer(read_trailer(rec)),
+        },
+        Named::Other => Decoded::Refused(Reason::NotExpected, 1),
+    }
+}
+
+pub fn decode(rec: &[u8]) -> Decoded
+    ensures { λ r. ⌜ r ≡ decodeOf (now (rec .entry)) ⌝ }
+{
+    match walk::check(rec) {
+        Answer::Accepted => shown(rec),
+        Answer::Refused(why, place) => Decoded::Refused(why, place),
+    }
+}
+
+fn named_part(rec: &[u8], row: usize) -> &[u8]
+    requires { ⌜ length (now rec) ≡ 150 ⌝ }
+    ensures { λ r. ⌜ now r ≡ fieldIn (namedBy (getD (now (rec .entry)) 0 0)) row (now (rec .entry)) ⌝ }
+{
+    match layout::named_by(rec[0]) {
+        Named::Is(which) => {
+            let rows = layout::rows_of(which);
+            if row < rows.from {
+                return &rec[0..0];
+            }
+            if rows.to <= row {
+                return &rec[0..0];
+            }
+            walk::part_of(rec, layout::row(row))
+        }
+        Named::Other => &rec[0..0],
+    }
+}
+
+// A field of an accepted record, as a part of the lent bytes.
+pub fn field(rec: &[u8], row: usize) -> &[u8]
+    ensures { λ r. ⌜ now r ≡ shownField row (now (rec .entry)) ⌝ }
+{
+    match walk::check(rec) {
+        Answer::Accepted => named_part(rec, row),
+        Answer::Refused(_, _) => &rec[0..0],
+    }
+}

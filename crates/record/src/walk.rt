@@ -1,0 +1,87 @@
+// The walk along the table: a record's fields from left to right.
+ghost use mathlib.Core.Path.{_≡_};
+ghost use Prim.Native.Nat.{_≤_};
+ghost use lib.ListN.{length};
+ghost use Rattle.answer.specs.Refusals.{answerPlace};
+ghost use Rattle.answer.specs.Orders.{movedBy};
+ghost use Rattle.answer.specs.Orders as orders;
+ghost use Rattle.layout.proofs.Layouts.{Lies};
+ghost use Rattle.record.specs.Records.{partOf, fieldAnswer, bodyAnswer, recordAnswer};
+use crate::kinds;
+use answer::Answer;
+use answer::Reason;
+use layout::Field;
+use layout::Named;
+use layout::Record;
+
+// An answer about a part that stands behind so many bytes.
+fn behind(a: Answer, before: usize) -> Answer
+    requires { ⌜ (answerPlace a ≤ 151) × (before ≤ 150) ⌝ }
+    ensures { λ r. ⌜ r ≡ movedBy (orders.behind before) a ⌝ }
+{
+    match a {
+        Answer::Accepted => a,
+        Answer::Refused(why, place) => {
+            if place == 0 {
+                return a;
+            }
+            Answer::Refused(why, place + before)
+        }
+    }
+}
+
+// A field's bytes, as a part of the record's.
+pub(crate) fn part_of(rec: &[u8], f: Field) -> &[u8]
+    requires { ⌜ length (now rec) ≡ 150 ⌝ }
+    requires { ⌜ Lies f ⌝ }
+    ensures { λ r. ⌜ now r ≡ partOf f (now (rec .entry)) ⌝ }
+{
+    let first = f.first;
+    let last = f.last;
+    &rec[first - 1..last]
+}
+
+fn field_answer(rec: &[u8], f: Field) -> Answer
+    requires { ⌜ length (now rec) ≡ 150 ⌝ }
+    requires { ⌜ Lies f ⌝ }
+    ensures { λ r. ⌜ r ≡ fieldAnswer (now (rec .entry)) f ⌝ }
+{
+    let kind = f.kind;
+    behind(kinds::check_kind(kind, part_of(rec, f)), f.first - 1)
+}
+
+// The table is copied once: a constant array would be made anew at each row.
+pub(crate) fn body_answer(which: Record, rec: &[u8]) -> Answer
+    requires { ⌜ length (now rec) ≡ 150 ⌝ }
+    ensures { λ r. ⌜ r ≡ bodyAnswer which (now (rec .entry)) ⌝ }
+{
+    let table = layout::table();
+    let rows = layout::rows_of(which);
+    let to = rows.to;
+    let mut i = rows.from;
+    while i < to {
+        let a = field_answer(rec, table[i]);
+        match a {
+            Answer::Accepted => {
+                i += 1;
+            }
+            Answer::Refused(_, _) => {
+                return a;
+            }
+        }
+    }
+    Answer::Accepted
+}
+
+// A record alone: its length, what it is, then its fields.
+pub fn check(rec: &[u8]) -> Answer
+    ensures { λ r. ⌜ r ≡ recordAnswer (now (rec .entry)) ⌝ }
+{
+    if rec.len() != 150 {
+        return Answer::Refused(Reason::WrongLength, 0);
+    }
+    match layout::named_by(rec[0]) {
+        Named::Is(which) => body_answer(which, rec),
+        Named::Other => Answer::Refused(Reason::NotExpected, 1),
+    }
+}

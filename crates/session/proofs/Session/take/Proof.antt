@@ -1,0 +1,41 @@
+-- `session::Session::take` meets its contract. Assumes nothing.
+use mathlib.Core.Path.{sym, ap, _∙_}
+use borrow.Author.Needs.{needs}
+use borrow.Author.Tests.{eq-eqb, ne-eqb, not-true, not-false}
+use Rattle.session.proofs.Steps.{took-stop, took-go}
+use Rattle.session.specs.Sessions.{expects}
+use Rattle.session.proofs.Session.take.Statement.{statement}
+use Rattle.session.proofs.Session.take.Tie as tie
+
+returns : tie.Need-returns
+returns c = took-stop _ _ _ _ _ (ne-eqb _ _ (c .if1 .taken))
+
+shared-slice-read-named-by : tie.Need-shared-slice-read-named-by
+shared-slice-read-named-by c = search needs
+
+named-by-requires : tie.Need-named-by-requires
+named-by-requires c κs = search needs
+
+is-expected-requires : tie.Need-is-expected-requires
+is-expected-requires c κs = search needs
+
+returns-2 : tie.Need-returns-2
+returns-2 c = took-go _ _ _ _ _ (eq-eqb _ _ (c .before .before .before .before .if1 .left)) (took-stop _ _ _ _ _ (sym (c .before .is-expected .ensures ∙ ap (expects (c .before .before .before .before .before .before .args .self .opened)) (c .before .before .named-by .ensures)) ∙ not-true _ (c .if2 .taken)))
+
+meet-requires : tie.Need-meet-requires
+meet-requires c κs = search needs
+
+returns-3 : tie.Need-returns-3
+returns-3 c = took-go _ _ _ _ _ (eq-eqb _ _ (c .before .before .before .before .before .if1 .left)) (took-go _ _ _ _ _ (sym (c .before .before .is-expected .ensures ∙ ap (expects (c .before .before .before .before .before .before .before .args .self .opened)) (c .before .before .before .named-by .ensures)) ∙ not-false _ (c .before .if2 .left)) (c .meet .ensures))
+
+pub take-spec : {M : Type 1} → statement M
+take-spec =
+    tie.close
+    (tie.spec
+    returns
+    shared-slice-read-named-by
+    named-by-requires
+    is-expected-requires
+    returns-2
+    meet-requires
+    returns-3)

@@ -1,0 +1,227 @@
+// A session takes the records of return files one after the other.
+ghost use mathlib.Core.Path.{_≡_};
+ghost use Rattle.record.specs.Values.{decodeOf};
+ghost use Rattle.file.specs.Files.{trailerAnswer};
+ghost use Rattle.board.specs.Lanes.{paymentOf};
+ghost use Rattle.board.specs.Boards.{postAnswer};
+ghost use Rattle.session.specs.Sessions.{freshSession, openedAt, closedAt, expectsThe, expects, payAnswer, paying, posting, meets, follows, took, takeOf, abandonOf, finishOf};
+use answer::Answer;
+use answer::Reason;
+use barcode::Issuer;
+use board::Board;
+use file::Figures;
+use file::File;
+use layout::Named;
+use layout::Record;
+use record::Decoded;
+
+// The board shown, of accepted files only; the working board and the file with what the open file adds.
+pub struct Session {
+    pub shown: Board,
+    pub work: Board,
+    pub opened: bool,
+    pub file: File,
+}
+
+// A refusal leaves the session as it was.
+pub struct Took {
+    pub answer: Answer,
+    pub session: Session,
+}
+
+fn is_the_expected(opened: bool, which: Record) -> bool
+    ensures { λ r. ⌜ r ≡ expectsThe opened which ⌝ }
+{
+    match which {
+        Record::Header => !opened,
+        Record::Payment => opened,
+        Record::Trailer => opened,
+    }
+}
+
+fn is_expected(opened: bool, named: Named) -> bool
+    ensures { λ r. ⌜ r ≡ expects opened named ⌝ }
+{
+    match named {
+        Named::Is(which) => is_the_expected(opened, which),
+        Named::Other => false,
+    }
+}
+
+impl Session {
+    pub const LANES: usize = Board::LANES;
+
+    pub const RECORD: usize = 150;
+
+    pub const PAYMENTS: u64 = File::PAYMENTS;
+
+    pub const FILE_TOTAL: u64 = File::TOTAL;
+
+    pub const BOARD_TOTAL: u64 = Board::TOTAL;
+
+    // No file open and an empty board.
+    pub fn new() -> Self
+        ensures { λ r. ⌜ r ≡ freshSession ⌝ }
+    {
+        Session {
+            shown: Board::new(),
+            work: Board::new(),
+            opened: false,
+            file: File::new(),
+        }
+    }
+
+    // One payment: 15, 16, 17, 18, or the session with it.
+    fn pay(self, issuer: Issuer, received: u64) -> Took
+        ensures { λ r. ⌜ r ≡ took (payAnswer self (paymentOf issuer received)) (paying self (paymentOf issuer received)) self ⌝ }
+    {
+        let file = self.file;
+        let taken = file.take(received);
+        let a = taken.answer;
+        match a {
+            Answer::Refused(_, _) => Took {
+                answer: a,
+                session: self,
+            },
+            Answer::Accepted => self.post(issuer, received, taken.file),
+        }
+    }
+
+    // 17, 18, or the session with the payment and the file that took it.
+    fn post(self, issuer: Issuer, received: u64, file: File) -> Took
+        ensures { λ r. ⌜ r ≡ took (postAnswer (self .work) (paymentOf issuer received)) (posting self (paymentOf issuer received) file) self ⌝ }
+    {
+        let work = self.work;
+        let posted = work.post(issuer, received);
+        let a = posted.answer;
+        match a {
+            Answer::Refused(_, _) => Took {
+                answer: a,
+                session: self,
+            },
+            Answer::Accepted => {
+                let shown = self.shown;
+                let after = posted.board;
+                Took {
+                    answer: a,
+                    session: Session {
+                        shown,
+                        work: after,
+                        opened: self.opened,
+                        file,
+                    },
+                }
+            }
+        }
+    }
+
+    // 13, 14, or the session with the file's payments on its board.
+    fn close(self, shown: Figures) -> Took
+        ensures { λ r. ⌜ r ≡ took (trailerAnswer (self .file) shown) (closedAt (self .work)) self ⌝ }
+    {
+        let file = self.file;
+        let a = file.judge(shown);
+        match a {
+            Answer::Refused(_, _) => Took {
+                answer: a,
+                session: self,
+            },
+            Answer::Accepted => {
+                let work = self.work;
+                Took {
+                    answer: a,
+                    session: Session {
+                        shown: work,
+                        work,
+                        opened: false,
+                        file: File::new(),
+                    },
+                }
+            }
+        }
+    }
+
+    fn open(self) -> Session
+        ensures { λ r. ⌜ r ≡ openedAt (self .shown) ⌝ }
+    {
+        let shown = self.shown;
+        Session {
+            shown,
+            work: shown,
+            opened: true,
+            file: File::new(),
+        }
+    }
+
+    // A record that is expected now and of the right length.
+    fn meet(self, rec: &[u8]) -> Took
+        ensures { λ r. ⌜ r ≡ took (meets self (decodeOf (now (rec .entry)))) (follows self (decodeOf (now (rec .entry)))) self ⌝ }
+    {
+        match record::decode(rec) {
+            Decoded::Refused(why, place) => Took {
+                answer: Answer::Refused(why, place),
+                session: self,
+            },
+            Decoded::Header(_) => Took {
+                answer: Answer::Accepted,
+                session: self.open(),
+            },
+            Decoded::Payment(p) => self.pay(p.barcode.issuer, p.received),
+            Decoded::Trailer(t) => self.close(Figures {
+                count: t.count,
+                total: t.total,
+            }),
+        }
+    }
+
+    // One record of any bytes and any length: its answer, and the session that follows.
+    pub fn take(self, rec: &[u8]) -> Took
+        ensures { λ r. ⌜ r ≡ takeOf self (now (rec .entry)) ⌝ }
+    {
+        if rec.len() != Self::RECORD {
+            return Took {
+                answer: Answer::Refused(Reason::WrongLength, 0),
+                session: self,
+            };
+        }
+        if !is_expected(self.opened, layout::named_by(rec[0])) {
+            return Took {
+                answer: Answer::Refused(Reason::NotExpected, 1),
+                session: self,
+            };
+        }
+        self.meet(rec)
+    }
+
+    // Drops an open file, and does nothing otherwise.
+    pub fn abandon(self) -> Session
+        ensures { λ r. ⌜ r ≡ abandonOf self ⌝ }
+    {
+        if self.opened {
+            let shown = self.shown;
+            return Session {
+                shown,
+                work: shown,
+                opened: false,
+                file: File::new(),
+            };
+        }
+        self
+    }
+
+    // 19 while a file is open; changes nothing.
+    pub fn finish(self) -> Took
+        ensures { λ r. ⌜ r ≡ finishOf self ⌝ }
+    {
+        if self.opened {
+            return Took {
+                answer: Answer::Refused(Reason::FileOpen, 0),
+                session: self,
+            };
+        }
+        Took {
+            answer: Answer::Accepted,
+            session: self,
+        }
+    }
+}
