@@ -1,0 +1,1 @@
+// Theorems only: demand 3, which typing slips pass.
