@@ -5,6 +5,9 @@ ghost use Rattle.file.specs.Files.{trailerAnswer};
 ghost use Rattle.board.specs.Lanes.{paymentOf};
 ghost use Rattle.board.specs.Boards.{postAnswer};
 ghost use Rattle.session.specs.Sessions.{freshSession, openedAt, closedAt, expectsThe, expects, payAnswer, paying, posting, meets, follows, took, takeOf, abandonOf, finishOf};
+ghost use Prim.Native.Nat.{_+_, _-_, _<_, _≤_, min};
+ghost use Rattle.layout.specs.Layouts.{recordLength};
+ghost use Rattle.session.specs.Runs.{closedBy, runOf};
 use answer::Answer;
 use answer::Reason;
 use barcode::Issuer;
@@ -29,6 +32,14 @@ pub struct Took {
     pub session: Session,
 }
 
+// How many records were accepted and how many files were closed before the first refusal.
+pub struct Ran {
+    pub answer: Answer,
+    pub session: Session,
+    pub records: u64,
+    pub files: u64,
+}
+
 fn is_the_expected(opened: bool, which: Record) -> bool
     ensures { λ r. ⌜ r ≡ expectsThe opened which ⌝ }
 {
@@ -45,6 +56,31 @@ fn is_expected(opened: bool, named: Named) -> bool
     match named {
         Named::Is(which) => is_the_expected(opened, which),
         Named::Other => false,
+    }
+}
+
+// The index behind the piece that starts at one: a record, or what is left.
+fn piece_end(at: usize, length: usize) -> usize
+    requires { ⌜ at < length ⌝ }
+    ensures { λ r. ⌜ (r ≡ at + min recordLength (length - at)) × (at < r) × (r ≤ length) ⌝ }
+{
+    if length - at < Session::RECORD {
+        return length;
+    }
+    at + Session::RECORD
+}
+
+fn files_closed(named: Named) -> u64
+    ensures { λ r. ⌜ r ≡ closedBy named ⌝ }
+    ensures small { λ r. ⌜ r ≤ 1 ⌝ }
+{
+    match named {
+        Named::Is(which) => match which {
+            Record::Header => 0,
+            Record::Payment => 0,
+            Record::Trailer => 1,
+        },
+        Named::Other => 0,
     }
 }
 
@@ -222,6 +258,39 @@ impl Session {
         Took {
             answer: Answer::Accepted,
             session: self,
+        }
+    }
+
+    // Records one after the other, until the first that is refused.
+    pub fn run(self, bytes: &[u8]) -> Ran
+        ensures { λ r. ⌜ r ≡ runOf self (now (bytes .entry)) ⌝ }
+    {
+        let mut session = self;
+        let mut records: u64 = 0;
+        let mut files: u64 = 0;
+        let mut at: usize = 0;
+        while at < bytes.len() {
+            let end = piece_end(at, bytes.len());
+            let took = session.take(&bytes[at..end]);
+            let answer = took.answer;
+            let Answer::Accepted = answer else {
+                return Ran {
+                    answer,
+                    session,
+                    records,
+                    files,
+                };
+            };
+            session = took.session;
+            files += files_closed(layout::named_by(bytes[at]));
+            records += 1;
+            at = end;
+        }
+        Ran {
+            answer: Answer::Accepted,
+            session,
+            records,
+            files,
         }
     }
 }

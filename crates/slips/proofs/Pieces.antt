@@ -1,15 +1,16 @@
 -- Where the byte at an index of a line stands in its box, in its code and in its whole code. Assumes nothing.
 use Prim.Native.Nat.{ℕ, _+_, _-_, _*_, _/_, _%_, _≤_, _<_, min}
-use mathlib.Core.List.{List, [], _∷_}
+use mathlib.Core.List.{List}
 use mathlib.Core.Logic.{_≢_, inl, inr, ⊎-elim}
 use mathlib.Core.Path.{_≡_, refl, ap, _∙_}
 use native.Mathlib.Omega.{arith}
-use lib.ListN.{length, getD, set, length-append}
-use Rattle.decimal.specs.Places.{Stretch, widthOf, partAt, gather, Lies, Beside, Within}
+use lib.ListN.{length, getD, set}
+use Rattle.decimal.specs.Places.{Stretch, partAt, gather, Lies, Beside, Within}
 use Rattle.decimal.proofs.Finite.{lt-or-le}
 use Rattle.decimal.proofs.Places.{length-part, part-within, part-byte, gather-outside, gather-within}
 use Rattle.barcode.specs.Codes.{checked}
 use Rattle.line.specs.Lines.{boxes, codeOf}
+use Rattle.line.proofs.Lines.{code-length}
 use Rattle.slips.specs.Slips.{boxAt, Among, wholeOf, BoxesAreNumbered}
 
 pub boxes-are-numbered : BoxesAreNumbered
@@ -39,24 +40,10 @@ planned n plan i j lies within = record {
   sets = λ l d e. gather-within plan l i j d (rw e lies) within .0;
 }
 
-widths : List Stretch → ℕ
-widths [] = 0
-widths (s ∷ plan) = widthOf s + widths plan
-
-length-gathered : (plan : List Stretch) (l : List ℕ) → Lies (length l) plan → length (gather plan l) ≡ widths plan
-unfolding widths
-length-gathered [] l h = refl
-length-gathered (s ∷ plan) l h =
-    rw (length-append (partAt s l) (gather plan l), length-part s l (h .0) (h .1) (h .2), length-gathered plan l (h .3))
-
 -- The code: a digit of a box stands in it, a box's check does not.
 
 boxes-lie : Lies 48 boxes
 boxes-lie = omega arith
-
-pub code-length : (line : List ℕ) → length line ≡ 48 → length (codeOf line) ≡ 44
-unfolding widths
-code-length line e = length-gathered boxes line (rw e boxes-lie)
 
 within-boxes : (i : ℕ) → i < 48 → i % 12 < 11 → Within boxes i (i - i / 12)
 within-boxes i h r =

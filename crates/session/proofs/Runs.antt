@@ -1,0 +1,109 @@
+-- A run, piece by piece. Assumes nothing.
+use Prim.Native.Nat.{ℕ, zero, suc, _+_, _-_, _≤_, _<_, min}
+use mathlib.Core.List.{List, [], _∷_}
+use mathlib.Core.Logic.{⊎-elim}
+use mathlib.Core.Path.{_≡_, refl, sym, ap, _∙_}
+use native.Mathlib.Nat.{add-assoc, add-zero, zero-add}
+use native.Mathlib.Omega.{arith}
+use lib.ListN.{length, getD, take, drop, length-drop, drop-of-length-le}
+use lib.Seq.{take-all, drop-drop, getD-take, getD-drop}
+use Rattle.answer.specs.declared.Reason.{Reason}
+use Rattle.answer.specs.declared.Answer.{Answer}
+use Rattle.answer.specs.declared.Answer.the-variants.{Accepted, Refused}
+use Rattle.decimal.proofs.Finite.{lt-or-le}
+use Rattle.layout.specs.Layouts.{recordLength, namedBy}
+use Rattle.record.specs.Values.{decodeOf}
+use Rattle.session.specs.declared.Session.{Session}
+use Rattle.session.specs.declared.Ran.{Ran}
+use Rattle.session.specs.declared.Took.{Took}
+use Rattle.session.specs.Sessions.{takeAnswer, follows, takeOf}
+use Rattle.session.specs.Runs.{piecesUpTo, piecesOf, closedBy, ranOut, after, runOf}
+
+-- more fuel than bytes changes nothing
+fuel : (n m : ℕ) (bytes : List ℕ) → length bytes ≤ n → length bytes ≤ m → piecesUpTo n bytes ≡ piecesUpTo m bytes
+fuel zero zero bytes h k = refl
+fuel zero (suc m) [] h k = refl
+fuel zero (suc m) (b ∷ bytes) h k = absurd (omega arith)
+fuel (suc n) zero [] h k = refl
+fuel (suc n) zero (b ∷ bytes) h k = absurd (omega arith)
+fuel (suc n) (suc m) [] h k = refl
+fuel (suc n) (suc m) (b ∷ bytes) h k =
+    let l = length-drop recordLength (b ∷ bytes) in
+    ap (λ (ps : List (List ℕ)). take recordLength (b ∷ bytes) ∷ ps) (fuel n m (drop recordLength (b ∷ bytes)) (omega arith) (omega arith))
+
+pub pieces-cons : (bytes : List ℕ) → 0 < length bytes → piecesOf bytes ≡ take recordLength bytes ∷ piecesOf (drop recordLength bytes)
+pieces-cons [] h = absurd (omega arith)
+pieces-cons (b ∷ bytes) h =
+    let l = length-drop recordLength (b ∷ bytes) in
+    ap (λ (ps : List (List ℕ)). take recordLength (b ∷ bytes) ∷ ps)
+    (fuel (length bytes) (length (drop recordLength (b ∷ bytes))) (drop recordLength (b ∷ bytes)) (omega arith) (omega arith))
+
+-- the next piece is refused, or the run goes on behind it
+module _ (s : Session) (bytes : List ℕ) (more : 0 < length bytes) where
+  pub run-refused : {a : Answer} {why : Reason} {p : ℕ} → a ≡ takeAnswer s (take recordLength bytes) → a ≡ Refused why p → runOf s bytes ≡ ranOut a s
+  run-refused {a} {why} {p} e f = let g : takeAnswer s (take recordLength bytes) ≡ Refused why p = sym e ∙ f in rw (pieces-cons bytes more, g, f)
+
+  pub run-on : takeAnswer s (take recordLength bytes) ≡ Accepted
+      → runOf s bytes ≡ after 1 (closedBy (namedBy (getD (take recordLength bytes) 0 0))) (runOf (follows s (decodeOf (take recordLength bytes))) (drop recordLength bytes))
+  run-on g = rw (pieces-cons bytes more, g)
+
+pub after-after : (a b c d : ℕ) (r : Ran) → after a b (after c d r) ≡ after (a + c) (b + d) r
+after-after a b c d r = rw (add-assoc a c (r .records), add-assoc b d (r .files))
+
+-- the piece that starts at an index, as the code cuts it
+module _ (bytes : List ℕ) (at : ℕ) (inside : at < length bytes) {end : ℕ} (e : end ≡ at + min recordLength (length bytes - at)) where
+  pub piece-part : take (end - at) (drop at bytes) ≡ take recordLength (drop at bytes)
+  piece-part =
+      ⊎-elim
+      (λ (h : length bytes - at < recordLength).
+      let n : end - at ≡ length bytes - at = omega arith in
+      let l = length-drop at bytes in
+      rw n (take-all (length bytes - at) (drop at bytes) (omega arith) ∙ sym (take-all recordLength (drop at bytes) (omega arith))))
+      (λ (h : recordLength ≤ length bytes - at). let n : end - at ≡ recordLength = omega arith in rw n)
+      (lt-or-le (length bytes - at) recordLength)
+
+  pub piece-rest : drop recordLength (drop at bytes) ≡ drop end bytes
+  piece-rest =
+      ⊎-elim
+      (λ (h : length bytes - at < recordLength).
+      let p : length bytes ≤ end = omega arith in
+      let q : length bytes ≤ at + recordLength = omega arith in
+      drop-drop recordLength at bytes ∙ drop-of-length-le bytes q ∙ sym (drop-of-length-le bytes p))
+      (λ (h : recordLength ≤ length bytes - at). let n : at + recordLength ≡ end = omega arith in drop-drop recordLength at bytes ∙ ap (λ (k : ℕ). drop k bytes) n)
+      (lt-or-le (length bytes - at) recordLength)
+
+  pub piece-first : getD (take recordLength (drop at bytes)) 0 0 ≡ getD bytes at 0
+  piece-first = getD-take recordLength (drop at bytes) 0 0 (omega arith) ∙ getD-drop at bytes 0 0 ∙ ap (λ (k : ℕ). getD bytes k 0) (add-zero at)
+
+pub after-none : (r : Ran) → after 0 0 r ≡ r
+after-none r = rw (zero-add (r .records), zero-add (r .files))
+
+pub after-out : (records files : ℕ) (a : Answer) (s : Session) → _≡_ {A = Ran} (record { answer = a; session = s; records = records; files = files }) (after records files (ranOut a s))
+after-out records files a s = rw (add-zero records, add-zero files)
+
+-- The loop at an index, after so many records and files: it stops there, it goes on behind the piece, or nothing is left.
+module _ (self s : Session) (bytes : List ℕ) (at records files : ℕ) (inv : after records files (runOf s (drop at bytes)) ≡ runOf self bytes) where
+  pub run-ends : length bytes ≤ at → _≡_ {A = Ran} (record { answer = Accepted; session = s; records = records; files = files }) (runOf self bytes)
+  run-ends h = after-out records files Accepted s ∙ (rw (drop-of-length-le bytes h) at inv)
+
+  module _ (inside : at < length bytes) {end : ℕ} (e : end ≡ at + min recordLength (length bytes - at)) {t : Took} (took : t ≡ takeOf s (take (end - at) (drop at bytes))) where
+    more : 0 < length (drop at bytes)
+    more = omega (arith, length-drop at bytes)
+
+    answered : t .answer ≡ takeAnswer s (take recordLength (drop at bytes))
+    answered = ap (λ (x : Took). x .answer) took ∙ ap (takeAnswer s) (piece-part bytes at inside e)
+
+    pub run-stops : {why : Reason} {p : ℕ} → t .answer ≡ Refused why p
+        → _≡_ {A = Ran} (record { answer = t .answer; session = s; records = records; files = files }) (runOf self bytes)
+    run-stops f = after-out records files (t .answer) s ∙ ap (after records files) (sym (run-refused s (drop at bytes) more answered f)) ∙ inv
+
+    pub run-goes : {k : ℕ} → t .answer ≡ Accepted → k ≡ closedBy (namedBy (getD bytes at 0))
+        → after (records + 1) (files + k) (runOf (t .session) (drop end bytes)) ≡ runOf self bytes
+    run-goes {k} f g =
+        let r = take recordLength (drop at bytes) in
+        let a : takeAnswer s r ≡ Accepted = sym answered ∙ f in
+        let next : t .session ≡ follows s (decodeOf r) =
+        ap (λ (x : Took). x .session) took ∙ ap (λ (x : List ℕ). takeOf s x .session) (piece-part bytes at inside e) ∙ rw a in
+        let n : closedBy (namedBy (getD r 0 0)) ≡ k = ap (λ (b : ℕ). closedBy (namedBy b)) (piece-first bytes at inside e) ∙ sym g in
+        rw (next, ← piece-rest bytes at inside e, ← n, ← after-after records files 1 (closedBy (namedBy (getD r 0 0))) (runOf (follows s (decodeOf r)) (drop recordLength (drop at bytes))))
+        (ap (after records files) (sym (run-on s (drop at bytes) more a)) ∙ inv)

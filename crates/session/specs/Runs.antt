@@ -1,0 +1,51 @@
+-- Many records of one lent slice, taken one by one until the first refusal. Assumes nothing.
+use Prim.Native.Nat.{ℕ, zero, suc, _+_}
+use mathlib.Core.List.{List, [], _∷_}
+use lib.ListN.{length, getD, take, drop}
+use Rattle.answer.specs.declared.Answer.{Answer}
+use Rattle.answer.specs.declared.Answer.the-variants.{Accepted, Refused}
+use Rattle.layout.specs.declared.Named.{Named}
+use Rattle.layout.specs.declared.Named.the-variants.{Is, Other}
+use Rattle.layout.specs.declared.Record.the-variants.{Header, Payment, Trailer}
+use Rattle.layout.specs.Layouts.{recordLength, namedBy}
+use Rattle.record.specs.Values.{decodeOf}
+use Rattle.session.specs.declared.Session.{Session}
+use Rattle.session.specs.declared.Ran.{Ran}
+use Rattle.session.specs.Sessions.{takeAnswer, follows}
+
+-- records follow each other with nothing between them; a short last piece is a record of wrong length
+abbrev pub piecesUpTo : ℕ → List ℕ → List (List ℕ)
+piecesUpTo zero bytes = []
+piecesUpTo (suc n) [] = []
+piecesUpTo (suc n) (b ∷ bytes) = take recordLength (b ∷ bytes) ∷ piecesUpTo n (drop recordLength (b ∷ bytes))
+
+-- there are no more pieces than bytes
+abbrev pub piecesOf : List ℕ → List (List ℕ)
+piecesOf bytes = piecesUpTo (length bytes) bytes
+
+-- the files that a record closes
+abbrev pub closedBy : Named → ℕ
+closedBy (Is Header) = 0
+closedBy (Is Payment) = 0
+closedBy (Is Trailer) = 1
+closedBy Other = 0
+
+abbrev pub ranOut : Answer → Session → Ran
+ranOut a s = record { answer = a; session = s; records = 0; files = 0 }
+
+-- so many records and files more
+abbrev pub after : ℕ → ℕ → Ran → Ran
+after records files r =
+    record { answer = r .answer; session = r .session; records = records + r .records; files = files + r .files }
+
+-- a record that is refused changes nothing and ends the run; those before it stand
+abbrev pub unlessRefused : Answer → Session → Ran → Ran
+unlessRefused Accepted s next = next
+unlessRefused (Refused why place) s next = ranOut (Refused why place) s
+
+abbrev pub runAll : Session → List (List ℕ) → Ran
+runAll s [] = ranOut Accepted s
+runAll s (r ∷ rs) = unlessRefused (takeAnswer s r) s (after 1 (closedBy (namedBy (getD r 0 0))) (runAll (follows s (decodeOf r)) rs))
+
+abbrev pub runOf : Session → List ℕ → Ran
+runOf s bytes = runAll s (piecesOf bytes)
