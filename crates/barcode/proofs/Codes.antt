@@ -7,7 +7,7 @@ use native.Mathlib.Nat.{mod-add-mod, add-mod-mod}
 use native.Mathlib.Omega.{arith}
 use borrow.Author.Tests.{eqb-true, eq-eqb}
 use lib.Dec.{eqb}
-use lib.ListN.{length, take, drop, length-drop}
+use lib.ListN.{length, take, drop, getD, length-drop}
 use lib.Seq.{length-take-le, take-take}
 use Rattle.answer.specs.declared.Reason.{Reason}
 use Rattle.answer.specs.declared.Reason.the-variants.{WrongLength, NoDigit, WrongProduct, UnknownSegment, UnknownKind, WrongGeneralCheck}
@@ -52,6 +52,11 @@ pub general-as : (code : List ℕ) → length code ≡ 44 → {m : Modulus} {d x
 general-as code n {m} ed em ex ey er ek =
     let e : m ≡ modulusOf (digitAt 3 code) = em ∙ ap modulusOf ed in
     rw (ek, er, ← e, general-check m code n ex ey)
+
+-- 3, 4 and 5 look at three bytes alone
+pub lead-same : (l k : List ℕ) → getD l 0 0 ≡ getD k 0 0 → getD l 1 0 ≡ getD k 1 0 → getD l 2 0 ≡ getD k 2 0 → leadAnswer l ≡ leadAnswer k
+unfolding leadAnswer
+lead-same l k a b c = rw (a, b, c)
 
 -- no place of its answer is past its end
 lead-place : (l : List ℕ) → answerPlace (leadAnswer l) ≤ 45

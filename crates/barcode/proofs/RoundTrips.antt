@@ -18,7 +18,8 @@ use Rattle.decimal.specs.declared.Class.the-variants.{Digit}
 use Rattle.decimal.specs.Bytes.{isOf, all, eachIs}
 use Rattle.decimal.specs.Numbers.{valueOf, numberOf, digitsOf}
 use Rattle.decimal.specs.Places.{widthOf, partAt, gather}
-use Rattle.decimal.proofs.Bytes.{each-accepts, all-joins, all-of-part}
+use Rattle.decimal.proofs.Bytes.{each-accepts, all-at, all-joins, all-of-part}
+use Rattle.decimal.proofs.Places.{joins}
 use Rattle.decimal.proofs.Numbers.{digit-range, value-digit, digit-back, digits-fill, number-of-digits, digits-of-number, number-fits}
 use Rattle.modulus.specs.Checks.{checkOf}
 use Rattle.modulus.proofs.Sums.{check-is-one-digit}
@@ -76,16 +77,8 @@ accepted code g =
 byte-back : (b : ℕ) → isOf Digit b ≡ true → 48 + valueOf b ≡ b
 byte-back b h = let r = digit-range b h in let v = value-digit b h in omega arith
 
-joins : {a b c d : List ℕ} → a ≡ b → c ≡ d → a ++ c ≡ b ++ d
-joins p q = cc
-
 heads : {a b : ℕ} {c d : List ℕ} → a ≡ b → c ≡ d → _≡_ {A = List ℕ} (a ∷ c) (b ∷ d)
 heads p q = cc
-
-all-at : (ok : ℕ → Bool) (bs : List ℕ) (i : ℕ) → all ok bs ≡ true → i < length bs → ok (getD bs i 0) ≡ true
-all-at ok [] i h l = absurd (omega arith)
-all-at ok (b ∷ bs) zero h l = and-eq-true-iff (ok b) (all ok bs) .0 h .0
-all-at ok (b ∷ bs) (suc i) h l = all-at ok bs i (and-eq-true-iff (ok b) (all ok bs) .0 h .1) (omega arith)
 
 module _ (code : List ℕ) (g : Good code) where
   part-digits : (from count : ℕ) → from + count ≤ 44 → digitsOf count (numberOf (take count (drop from code))) ≡ take count (drop from code)

@@ -9,7 +9,7 @@ use native.Mathlib.Omega.{arith}
 use borrow.Author.Tests.{ne-eqb}
 use lib.Bits.{bitOr, or-zero-r, or-add-and, and-le-l}
 use lib.Dec.{eqb}
-use lib.ListN.{length, getD, take, drop, drop-of-length-le, take-append-drop}
+use lib.ListN.{length, getD, set, take, drop, drop-of-length-le, take-append-drop}
 use lib.Seq.{drop-cons}
 use Rattle.answer.specs.declared.Reason.{Reason}
 use Rattle.answer.specs.declared.Answer.{Answer}
@@ -28,6 +28,17 @@ all-of-part ok from count bs h =
     let whole : (n : ℕ) (l : List ℕ) → all ok l ≡ true → (all ok (take n l) ≡ true) × (all ok (drop n l) ≡ true) = λ n l t.
     and-eq-true-iff (all ok (take n l)) (all ok (drop n l)) .0 (sym (all-joins ok (take n l) (drop n l)) ∙ ap (all ok) (take-append-drop n l) ∙ t) in
     whole count (drop from bs) (whole from bs h .1) .0
+
+-- at one byte, and with one byte set
+pub all-at : (ok : ℕ → Bool) (bs : List ℕ) (i : ℕ) → all ok bs ≡ true → i < length bs → ok (getD bs i 0) ≡ true
+all-at ok [] i h l = absurd (omega arith)
+all-at ok (b ∷ bs) zero h l = and-eq-true-iff (ok b) (all ok bs) .0 h .0
+all-at ok (b ∷ bs) (suc i) h l = all-at ok bs i (and-eq-true-iff (ok b) (all ok bs) .0 h .1) (omega arith)
+
+pub all-set : (ok : ℕ → Bool) (bs : List ℕ) (i d : ℕ) → all ok bs ≡ true → ok d ≡ true → all ok (set bs i d) ≡ true
+all-set ok [] i d h e = refl
+all-set ok (b ∷ bs) zero d h e = rw (e, and-eq-true-iff (ok b) (all ok bs) .0 h .1)
+all-set ok (b ∷ bs) (suc i) d h e = let both = and-eq-true-iff (ok b) (all ok bs) .0 h in rw (both .0, all-set ok bs i d (both .1) e)
 
 pub each-accepts : EachAccepts
 each-accepts ok why p [] = (λ e. refl, λ e. refl)

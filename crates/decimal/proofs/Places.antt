@@ -14,6 +14,10 @@ use Rattle.decimal.specs.Places.{Stretch, widthOf, partAt, gather, Besid
 use Rattle.decimal.proofs.Finite.{lt-or-le}
 use Rattle.decimal.proofs.Bytes.{all-joins, all-of-part}
 
+-- pieces that are equal, joined
+pub joins : {a b c d : List ℕ} → a ≡ b → c ≡ d → a ++ c ≡ b ++ d
+joins p q = cc
+
 pub length-part : (s : Stretch) (l : List ℕ) → 1 ≤ s .first → s .first ≤ s .last → s .last ≤ length l → length (partAt s l) ≡ widthOf s
 length-part s l p q r = length-take-le (widthOf s) (drop (s .first - 1) l) (omega (arith, length-drop (s .first - 1) l))
 

@@ -18,6 +18,7 @@ use Rattle.decimal.specs.declared.Class.the-variants.{Digit}
 use Rattle.decimal.specs.Bytes.{isOf, all, eachIs}
 use Rattle.decimal.specs.Numbers.{valueOf}
 use Rattle.decimal.specs.Places.{Stretch, partAt, gather}
+use Rattle.decimal.proofs.Places.{joins}
 use Rattle.decimal.proofs.Bytes.{each-accepts, all-joins}
 use Rattle.decimal.proofs.Numbers.{digit-back}
 use Rattle.modulus.specs.declared.Modulus.{Modulus}
@@ -25,7 +26,7 @@ use Rattle.modulus.specs.Checks.{checkOf}
 use Rattle.modulus.proofs.Sums.{check-is-one-digit}
 use Rattle.barcode.specs.Codes.{digitAt, modulusOf, leadAnswer, frontAnswer, generalRight, bodyAnswer, barcodeAnswer, fieldsOf, decoded}
 use Rattle.barcode.proofs.RoundTrips.{good, decoded-answers, code-is-its-fields, built-is-read, fields-within-ranges-build}
-use Rattle.barcode.proofs.Codes.{accepted-length}
+use Rattle.barcode.proofs.Codes.{accepted-length, lead-same}
 use Rattle.barcode.specs.Building.{builtOf}
 use Rattle.barcode.specs.RoundTrips.{answerOf}
 use Rattle.line.specs.Lines.{boxes, codeOf, inLine, boxRight, boxAnswer, checksAnswer, checkedBox, quarters, withChecks, lineOf, toLineAnswer, toCodeAnswer}
@@ -63,9 +64,6 @@ cut w l n =
     let e : take w (drop w l) ++ drop (2 * w) l ≡ drop w l = ap (λ (x : ℕ). take w (drop w l) ++ drop x l) a ∙ ap (λ (t : List ℕ). take w (drop w l) ++ t) (sym (drop-drop w w l)) ∙ take-append-drop w (drop w l) in
     rw (d, c, e) (take-append-drop w l)
 
-joins : {a b c d : List ℕ} → a ≡ b → c ≡ d → a ++ c ≡ b ++ d
-joins p q = cc
-
 -- a box of eleven and its check, before other bytes
 module _ (a rest : List ℕ) (x : ℕ) (n : length a ≡ 11) where
   box-part : take 11 ((a ++ x ∷ []) ++ rest) ≡ a
@@ -82,13 +80,13 @@ at-length : (from : ℕ) (l : List ℕ) → from + 11 ≤ length l → length (a
 at-length from l h = length-take-le 11 (drop from l) (omega (arith, length-drop from l))
 
 -- the first eleven places are those of the code
-code-byte : (line : List ℕ) (j : ℕ) → length line ≡ 48 → j < 11 → getD (codeOf line) j 0 ≡ getD line j 0
+pub code-byte : (line : List ℕ) (j : ℕ) → length line ≡ 48 → j < 11 → getD (codeOf line) j 0 ≡ getD line j 0
 code-byte line j n h =
     List·getD-append (at 0 line) (at 12 line ++ (at 24 line ++ (at 36 line ++ []))) 0 j (omega (arith, at-length 0 line (omega arith))) ∙ getD-take 11 line j 0 h
 
 same-lead : (line : List ℕ) → length line ≡ 48 → leadAnswer (codeOf line) ≡ leadAnswer line
-unfolding leadAnswer
-same-lead line n = rw (code-byte line 0 n (omega arith), code-byte line 1 n (omega arith), code-byte line 2 n (omega arith))
+same-lead line n =
+    lead-same (codeOf line) line (code-byte line 0 n (omega arith)) (code-byte line 1 n (omega arith)) (code-byte line 2 n (omega arith))
 
 -- Twelve bytes of a line are a box and its check.
 twelve : (line : List ℕ) (from : ℕ) → from + 12 ≤ length line → take 12 (drop from line) ≡ at from line ++ getD line (from + 11) 0 ∷ []

@@ -22,6 +22,8 @@ use Rattle.modulus.specs.declared.Modulus.{Modulus}
 use Rattle.modulus.specs.Checks.{checkOf}
 use Rattle.barcode.specs.Codes.{digitAt, product, isSegment, isKind, modulusOf, leadAnswer, frontAnswer, generalRight, bodyAnswer}
 use Rattle.line.specs.Lines.{boxes, codeOf, inLine, boxRight, boxAnswer}
+use Rattle.barcode.proofs.Codes.{lead-same}
+use Rattle.line.proofs.RoundTrips.{code-byte}
 use Rattle.slips.specs.Slips.{Passes, Names, boxAt, wholeOf, PassesByChecks}
 use Rattle.slips.proofs.Pieces.{in-code}
 
@@ -48,17 +50,10 @@ lead-accepts l = (
   λ h. rw (eq-eqb (digitAt 1 l) product (h .0), h .1, h .2),
 )
 
-pub lead-same : (l k : List ℕ) → getD l 0 0 ≡ getD k 0 0 → getD l 1 0 ≡ getD k 1 0 → getD l 2 0 ≡ getD k 2 0 → leadAnswer l ≡ leadAnswer k
-unfolding leadAnswer
-lead-same l k a b c = rw (a, b, c)
-
-code-byte : (line : List ℕ) → length line ≡ 48 → (i : ℕ) → i < 11 → getD (codeOf line) i 0 ≡ getD line i 0
-code-byte line n i h = let z : i - i / 12 ≡ i = omega arith in rw z at (in-code i (omega arith) (omega arith) .byte line n)
-
 code-front : (line : List ℕ) → length line ≡ 48 → frontAnswer line ≡ Accepted → frontAnswer (codeOf line) ≡ Accepted
 code-front line n e =
     let f = front-accepts line .0 e in
-    let at = code-byte line n in
+    let at : (i : ℕ) → i < 11 → getD (codeOf line) i 0 ≡ getD line i 0 = λ i h. code-byte line i n h in
     front-accepts (codeOf line) .1
     (all-gathered (isOf Digit) boxes line (f .0), lead-same (codeOf line) line (at 0 (omega arith)) (at 1 (omega arith)) (at 2 (omega arith)) ∙ f .1)
 
@@ -103,7 +98,7 @@ box-equal m line box = (eqb-true _ _, eq-eqb _ _)
 general-equal : (line : List ℕ) → length line ≡ 48 → (generalRight (codeOf line) ≡ true) ↔ Right (modulusOf (digitAt 3 line)) wholeOf 3 line
 unfolding generalRight
 general-equal line n =
-    rw (code-byte line n 2 (omega arith), code-byte line n 3 (omega arith)) (eqb-true _ _, eq-eqb _ _)
+    rw (code-byte line 2 n (omega arith), code-byte line 3 n (omega arith)) (eqb-true _ _, eq-eqb _ _)
 
 -- boxes by their number
 boxes-equal : (m : Modulus) (line : List ℕ)

@@ -15,9 +15,11 @@ use Rattle.decimal.proofs.Places.{part-beside}
 use Rattle.modulus.specs.declared.Modulus.the-variants.{Ten}
 use Rattle.modulus.specs.Checks.{restOf, checkOf, ruleOf, exchanged, ZeroAndNine}
 use Rattle.modulus.proofs.Slips.{sum-set, exchange-keeps, check-shows-ten}
+use Rattle.barcode.proofs.Codes.{lead-same}
 use Rattle.slips.specs.Slips.{Names, boxAt, boxOf, InOneBox, wholeOf, ExchangeOfNeighbours}
-use Rattle.slips.proofs.Accepted.{Right, BoxRight, Passed, apart, together, lead-same}
-use Rattle.slips.proofs.Moves.{all-at, all-set, same-check, right-again, alone, moves, other-box, boxes-again}
+use Rattle.decimal.proofs.Bytes.{all-at, all-set}
+use Rattle.slips.proofs.Accepted.{Right, BoxRight, Passed, apart, together}
+use Rattle.slips.proofs.Moves.{same-check, right-again, alone, moves, other-box, boxes-again}
 use Rattle.slips.proofs.Pieces.{Stands, in-box, seat, next-seat, in-whole, whole-beside, whole-fourth}
 use Rattle.slips.proofs.ZeroNine.{turned, past-the-lead}
 

@@ -21,16 +21,6 @@ use Rattle.slips.specs.Slips.{boxAt}
 use Rattle.slips.proofs.Accepted.{Right, BoxRight, Passed}
 use Rattle.slips.proofs.Pieces.{Stands}
 
-pub all-at : (ok : ℕ → Bool) (bs : List ℕ) (i : ℕ) → all ok bs ≡ true → i < length bs → ok (getD bs i 0) ≡ true
-all-at ok [] i h l = absurd (omega arith)
-all-at ok (b ∷ bs) zero h l = and-eq-true-iff (ok b) (all ok bs) .0 h .0
-all-at ok (b ∷ bs) (suc i) h l = all-at ok bs i (and-eq-true-iff (ok b) (all ok bs) .0 h .1) (omega arith)
-
-pub all-set : (ok : ℕ → Bool) (bs : List ℕ) (i d : ℕ) → all ok bs ≡ true → ok d ≡ true → all ok (set bs i d) ≡ true
-all-set ok [] i d h e = refl
-all-set ok (b ∷ bs) zero d h e = rw (e, and-eq-true-iff (ok b) (all ok bs) .0 h .1)
-all-set ok (b ∷ bs) (suc i) d h e = let both = and-eq-true-iff (ok b) (all ok bs) .0 h in rw (both .0, all-set ok bs i d (both .1) e)
-
 module _ (m : Modulus) (piece : List ℕ → List ℕ) (line : List ℕ) where
   -- a check digit that stays is the check of both lines, or of neither
   pub same-check : (at : ℕ) (k : List ℕ) → getD k at 0 ≡ getD line at 0 → Right m piece at line → Right m piece at k → checkOf m (piece k) ≡ checkOf m (piece line)

@@ -18,8 +18,9 @@ use Rattle.modulus.specs.Checks.{restOf, BetweenZeroAndOne}
 use Rattle.modulus.proofs.Slips.{check-shows-eleven}
 use Rattle.barcode.specs.Codes.{digitAt, isKind, modulusOf}
 use Rattle.slips.specs.Slips.{boxOf, wholeOf, boxRest, codeRest, NoCheck, BothMove, OneChangedDigitUnderEleven}
+use Rattle.decimal.proofs.Bytes.{all-at, all-set}
 use Rattle.slips.proofs.Accepted.{Right, BoxRight, Passed, apart, together, lead-accepts}
-use Rattle.slips.proofs.Moves.{all-at, all-set, same-check, right-again, alone, moves, in-its-box, other-box, boxes-again}
+use Rattle.slips.proofs.Moves.{same-check, right-again, alone, moves, in-its-box, other-box, boxes-again}
 use Rattle.slips.proofs.Pieces.{Stands, in-box, seat, in-whole, whole-fourth}
 
 -- a digit that names modulo 11 is a value kind

@@ -11,8 +11,9 @@ use Rattle.decimal.specs.Places.{partAt}
 use Rattle.modulus.specs.declared.Modulus.the-variants.{Ten}
 use Rattle.modulus.proofs.Slips.{check-shows-ten}
 use Rattle.slips.specs.Slips.{boxAt, OneChangedDigitIsRefused}
+use Rattle.decimal.proofs.Bytes.{all-at}
 use Rattle.slips.proofs.Accepted.{apart}
-use Rattle.slips.proofs.Moves.{all-at, same-check, moves, in-its-box}
+use Rattle.slips.proofs.Moves.{same-check, moves, in-its-box}
 use Rattle.slips.proofs.Pieces.{in-box}
 
 pub one-changed-digit-is-refused : OneChangedDigitIsRefused
