@@ -1,8 +1,8 @@
 -- Laws of what an accepted record shows. Assumes nothing.
 use Prim.Native.Nat.{ℕ, _+_, _-_, _≤_, _<_}
-use mathlib.Core.Bool.{true}
+use mathlib.Core.Bool.{Bool, true, false, _&&_, and-eq-true-iff}
 use mathlib.Core.List.{List}
-use mathlib.Core.Path.{_≡_, refl, ap, _∙_}
+use mathlib.Core.Path.{_≡_, refl, sym, ap, _∙_}
 use native.Mathlib.Omega.{arith}
 use borrow.Author.Tests.{eq-eqb, eqb-true, ltb-true, leb-true}
 use lib.Dec.{eqb, ltb, leb}
@@ -23,11 +23,11 @@ use Rattle.layout.specs.declared.Field.{Field}
 use Rattle.layout.specs.declared.Named.{Named}
 use Rattle.layout.specs.declared.Named.the-variants.{Is, Other}
 use Rattle.layout.specs.declared.Record.the-variants.{Header, Payment, Trailer}
-use Rattle.layout.specs.Layouts.{recordLength, namedBy, noField, rowAt, table, layoutOf}
+use Rattle.layout.specs.Layouts.{recordLength, namedBy, noField, rowAt, table, layoutOf, stretchOf}
 use Rattle.layout.proofs.Layouts.{Lies, row-lies}
 use Rattle.layout.proofs.Tables.{getD-any}
 use Rattle.record.specs.Records.{partOf, namedAnswer, recordAnswer}
-use Rattle.record.specs.Values.{dayOf, shownOf, answerOf, unlessRefused, DecodeAnswers}
+use Rattle.record.specs.Values.{dayOf, decodeOf, shownOf, answerOf, unlessRefused, DecodeAnswers}
 
 -- an accepted record has 150 bytes, and its named layout accepts
 pub accepted-is : (rec : List ℕ) → recordAnswer rec ≡ Accepted

@@ -1,7 +1,7 @@
 -- Laws of the walk along the table: a loop at row i, by what is known of the rows from i up to `to`. Assumes nothing.
-use Prim.Native.Nat.{ℕ, _+_, _<_, _≤_}
-use mathlib.Core.List.{List}
-use mathlib.Core.Path.{_≡_, refl, sym, _∙_}
+use Prim.Native.Nat.{ℕ, suc, _+_, _<_, _≤_}
+use mathlib.Core.List.{List, [], _∷_}
+use mathlib.Core.Path.{_≡_, refl, sym, _∙_, ap}
 use native.Mathlib.Nat.{le-antisymm}
 use native.Mathlib.Numerals.{add-one}
 use native.Mathlib.Omega.{arith}
@@ -56,8 +56,11 @@ module _ (which : Record) {rows : Rows} {copy : List Field} (t : copy ≡ table)
       let l : rows .to ≤ length table = rw e (rows-end which .1) in
       rw t (row-lies i d (omega arith))
 
+  pub rows-here : slice (rows .from) (rows .to) copy ≡ layoutOf which
+  rows-here = rw (t, e) (rows-are which)
+
   pub walked : (rec : List ℕ) → first (fieldAnswer rec) (slice (rows .from) (rows .to) copy) ≡ bodyAnswer which rec
-  walked rec = rw (t, e, rows-are which)
+  walked rec = ap (first (fieldAnswer rec)) rows-here
 
 pub row-shown : (which : Record) {rows : Rows} {f : Field} (i : ℕ) → rows ≡ rowsOf which → f ≡ rowAt i → i < rows .to → Lies f
 unfolding rowAt

@@ -28,7 +28,7 @@ fn same_bytes(a: &[u8], b: &[u8]) -> bool
 }
 
 // 0 where there is none.
-fn byte_at(part: &[u8], i: usize) -> u8
+pub(crate) fn byte_at(part: &[u8], i: usize) -> u8
     ensures { λ r. ⌜ r ≡ getD (now (part .entry)) i 0 ⌝ }
 {
     if i < part.len() { part[i] } else { 0 }
@@ -51,7 +51,7 @@ fn is_mark(part: &[u8], byte: u8) -> bool
     same_bytes(part, &mark)
 }
 
-const SERVICE: [u8; 17] = [
+pub(crate) const SERVICE: [u8; 17] = [
     67,
     79,
     68,

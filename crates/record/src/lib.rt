@@ -2,7 +2,9 @@
 ghost use mathlib.Core.Path.{_≡_};
 ghost use Rattle.record.specs.Values.{answerOf};
 
+mod joining;
 mod kinds;
+mod making;
 mod values;
 mod walk;
 
@@ -10,6 +12,8 @@ use answer::Answer;
 use answer::Reason;
 use barcode::Fields;
 use calendar::Date;
+pub use joining::join;
+pub use making::make;
 pub use values::decode;
 pub use values::field;
 pub use walk::check;

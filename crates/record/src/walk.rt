@@ -15,7 +15,7 @@ use layout::Named;
 use layout::Record;
 
 // An answer about a part that stands behind so many bytes.
-fn behind(a: Answer, before: usize) -> Answer
+pub(crate) fn behind(a: Answer, before: usize) -> Answer
     requires { ⌜ (answerPlace a ≤ 151) × (before ≤ 150) ⌝ }
     ensures { λ r. ⌜ r ≡ movedBy (orders.behind before) a ⌝ }
 {
