@@ -1,0 +1,5 @@
+pub mod Plain
+pub mod Steps
+pub mod Pages
+pub mod Fits
+pub mod Samples

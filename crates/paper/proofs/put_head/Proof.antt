@@ -1,0 +1,88 @@
+-- `paper::put_head` meets its contract. Assumes nothing.
+use native.Mathlib.Omega.{arith}
+use borrow.Author.Needs.{needs}
+use Rattle.paper.proofs.Steps.{wrote-then}
+use Rattle.paper.specs.Pages.{headLines}
+use Rattle.paper.proofs.put_head.Statement.{statement}
+use Rattle.paper.proofs.put_head.Tie as tie
+
+slice-aggregate-put-line : tie.Need-slice-aggregate-put-line
+slice-aggregate-put-line c = search needs
+
+number-requires : tie.Need-number-requires
+number-requires c κs = search needs
+
+cast-put-line : tie.Need-cast-put-line
+cast-put-line c = search needs
+
+put-line-requires : tie.Need-put-line-requires
+put-line-requires c κs = search needs
+
+slice-aggregate-put-line-2 : tie.Need-slice-aggregate-put-line-2
+slice-aggregate-put-line-2 c = search needs
+
+place-requires : tie.Need-place-requires
+place-requires c κs = search needs
+
+put-line-requires-2 : tie.Need-put-line-requires-2
+put-line-requires-2 c κs = search needs
+
+slice-aggregate-put-line-3 : tie.Need-slice-aggregate-put-line-3
+slice-aggregate-put-line-3 c = search needs
+
+put-line-requires-3 : tie.Need-put-line-requires-3
+put-line-requires-3 c κs = search needs
+
+slice-aggregate-put-line-4 : tie.Need-slice-aggregate-put-line-4
+slice-aggregate-put-line-4 c = search needs
+
+put-line-requires-4 : tie.Need-put-line-requires-4
+put-line-requires-4 c κs = search needs
+
+slice-aggregate-put-line-5 : tie.Need-slice-aggregate-put-line-5
+slice-aggregate-put-line-5 c = search needs
+
+in-use-requires : tie.Need-in-use-requires
+in-use-requires c κs = search needs
+
+put-line-requires-5 : tie.Need-put-line-requires-5
+put-line-requires-5 c κs = search needs
+
+put-tally-requires : tie.Need-put-tally-requires
+put-tally-requires c κs = search needs
+
+same-length : tie.Need-same-length
+same-length c = search needs
+
+returns : tie.Need-returns
+unfolding headLines
+returns c =
+    let room = c .before .before .before .before .before .before .before .before .before .before .before .before .before .before .before .before .before .before .before .before .before .before .before .before .before .before .before .before .before .before .before .before .before .before .pre in
+    let answer = rw (c .before .before .before .before .before .before .before .before .before .before .before .before .before .before .before .before .before .before .before .before .before .before .before .before .before .before .before .before .before .before .before .number .ensures) at (c .before .before .before .before .before .before .before .before .before .before .before .before .before .before .before .before .before .before .before .before .before .before .before .before .before .before .before .before .before .put-line .ensures) in
+    let place = rw (c .before .before .before .before .before .before .before .before .before .before .before .before .before .before .before .before .before .before .before .before .before .before .before .before .before .place .ensures) at (c .before .before .before .before .before .before .before .before .before .before .before .before .before .before .before .before .before .before .before .before .before .before .before .put-line2 .ensures) in
+    let records = c .before .before .before .before .before .before .before .before .before .before .before .before .before .before .before .before .before .before .put-line3 .ensures in
+    let files = c .before .before .before .before .before .before .before .before .before .before .before .before .before .put-line4 .ensures in
+    let lanes = rw (c .before .before .before .before .before .before .before .before .before .in-use .ensures .0) at (c .before .before .before .before .before .before .before .put-line5 .ensures) in
+    wrote-then (omega arith) answer (wrote-then (omega arith) place (wrote-then (omega arith) records (wrote-then (omega arith) files (wrote-then (omega arith) lanes (c .before .before .put-tally .ensures)))))
+
+pub put-head-spec : {M : Type 1} → statement M
+put-head-spec =
+    tie.close
+    (tie.spec
+    slice-aggregate-put-line
+    number-requires
+    cast-put-line
+    put-line-requires
+    slice-aggregate-put-line-2
+    place-requires
+    put-line-requires-2
+    slice-aggregate-put-line-3
+    put-line-requires-3
+    slice-aggregate-put-line-4
+    put-line-requires-4
+    slice-aggregate-put-line-5
+    in-use-requires
+    put-line-requires-5
+    put-tally-requires
+    same-length
+    returns)
