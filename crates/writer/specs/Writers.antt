@@ -1,0 +1,87 @@
+-- The file writer (document 01, "Sessions and the board"): A, then each G, then Z with its own count and total. Assumes nothing.
+use Prim.Native.Nat.{ℕ}
+use mathlib.Core.Bool.{Bool, true, false, _&&_}
+use mathlib.Core.List.{List, [], _∷_}
+use mathlib.Core.Path.{_≡_}
+use lib.Dec.{eqb}
+use lib.ListN.{length}
+use Rattle.answer.specs.declared.Reason.the-variants.{WrongLength, NotExpected}
+use Rattle.answer.specs.declared.Answer.{Answer}
+use Rattle.answer.specs.declared.Answer.the-variants.{Accepted}
+use Rattle.answer.specs.Orders.{asked, _then_, kept}
+use Rattle.decimal.specs.Numbers.{digitsOf}
+use Rattle.layout.specs.declared.Record.{Record}
+use Rattle.layout.specs.declared.Record.the-variants.{Header, Payment, Trailer}
+use Rattle.layout.specs.Layouts.{recordLength, layoutOf, givenLength}
+use Rattle.record.specs.Making.{madeOf, makeAnswer}
+use Rattle.file.specs.declared.File.{File}
+use Rattle.file.specs.Files.{freshFile, fileAnswer, fileWith, figuresOf, closingAnswer}
+use Rattle.writer.specs.declared.Stage.{Stage}
+use Rattle.writer.specs.declared.Stage.the-variants.{Fresh, Open, Closed}
+use Rattle.writer.specs.declared.Writer.{Writer}
+use Rattle.writer.specs.declared.Wrote.{Wrote}
+
+abbrev pub freshWriter : Writer
+freshWriter = record { stage = Fresh; file = freshFile }
+
+-- a fresh writer expects A, an open file G or Z; once it is closed, nothing
+abbrev pub expects : Stage → Record → Bool
+expects Fresh Header = true
+expects Fresh Payment = false
+expects Fresh Trailer = false
+expects Open Header = false
+expects Open Payment = true
+expects Open Trailer = true
+expects Closed r = false
+
+-- 1 for either length, then 9
+abbrev pub doorAnswer : Writer → Record → ℕ → ℕ → Answer
+doorAnswer w r given room =
+    asked (eqb room recordLength && eqb given (givenLength r)) WrongLength 0 then asked (expects (w .stage) r) NotExpected 1
+
+abbrev pub wrote : Answer → Writer → Writer → Wrote
+wrote a new old = record { answer = a; writer = kept a new old }
+
+-- A: the fields
+abbrev pub headerAnswer : Writer → List ℕ → ℕ → Answer
+headerAnswer w given room = doorAnswer w Header (length given) room then makeAnswer Header given (0 ∷ 0 ∷ []) room
+
+abbrev pub headerOf : Writer → List ℕ → ℕ → Wrote
+headerOf w given room = wrote (headerAnswer w given room) (record { stage = Open; file = freshFile }) w
+
+abbrev pub headerBytes : List ℕ → List ℕ
+headerBytes given = madeOf (layoutOf Header) given (0 ∷ 0 ∷ [])
+
+-- G: the fields, 21 in the money fields' turn, then 15 and 16
+abbrev pub paymentAnswer : Writer → List ℕ → ℕ → ℕ → ℕ → Answer
+paymentAnswer w given received tariff room =
+    doorAnswer w Payment (length given) room
+    then makeAnswer Payment given (received ∷ tariff ∷ []) recordLength
+    then fileAnswer (w .file) received
+
+abbrev pub paymentOf : Writer → List ℕ → ℕ → ℕ → ℕ → Wrote
+paymentOf w given received tariff room =
+    wrote (paymentAnswer w given received tariff room) (record { stage = w .stage; file = fileWith (w .file) received }) w
+
+abbrev pub paymentBytes : List ℕ → ℕ → ℕ → List ℕ
+paymentBytes given received tariff = madeOf (layoutOf Payment) given (received ∷ tariff ∷ [])
+
+-- Z: its own count and total; 15 and 16 for a file put together by hand that has no room in them
+abbrev pub countBytes : Writer → List ℕ
+countBytes w = digitsOf (givenLength Trailer) (figuresOf (w .file) .count)
+
+abbrev pub trailerAnswer : Writer → ℕ → Answer
+trailerAnswer w room =
+    doorAnswer w Trailer (givenLength Trailer) room
+    then closingAnswer (w .file)
+    then makeAnswer Trailer (countBytes w) (figuresOf (w .file) .total ∷ 0 ∷ []) room
+
+abbrev pub trailerOf : Writer → ℕ → Wrote
+trailerOf w room = wrote (trailerAnswer w room) (record { stage = Closed; file = w .file }) w
+
+abbrev pub trailerBytes : Writer → List ℕ
+trailerBytes w = madeOf (layoutOf Trailer) (countBytes w) (figuresOf (w .file) .total ∷ 0 ∷ [])
+
+-- Promises: a refusal leaves the writer as it was.
+abbrev pub RefusalKeepsWriter : Type 0
+RefusalKeepsWriter = (a : Answer) (new old : Writer) → (a ≡ Accepted → ⊥) → wrote a new old .writer ≡ old

@@ -1,0 +1,202 @@
+// A return file made record by record.
+ghost use mathlib.Core.List.{[], _∷_};
+ghost use mathlib.Core.Path.{_≡_};
+ghost use lib.ListN.{length};
+ghost use Rattle.answer.specs.Orders.{kept};
+ghost use Rattle.writer.specs.Writers.{freshWriter, expects, doorAnswer, headerOf, headerBytes, paymentOf, paymentBytes, trailerOf, trailerBytes};
+use answer::Answer;
+use answer::Reason;
+use file::File;
+use layout::Record;
+
+pub enum Stage {
+    Fresh,
+    Open,
+    Closed,
+}
+
+pub struct Writer {
+    pub stage: Stage,
+    pub file: File,
+}
+
+// A refusal leaves the writer as it was.
+pub struct Wrote {
+    pub answer: Answer,
+    pub writer: Writer,
+}
+
+fn is_expected(stage: Stage, which: Record) -> bool
+    ensures { λ r. ⌜ r ≡ expects stage which ⌝ }
+{
+    match stage {
+        Stage::Fresh => match which {
+            Record::Header => true,
+            Record::Payment => false,
+            Record::Trailer => false,
+        },
+        Stage::Open => match which {
+            Record::Header => false,
+            Record::Payment => true,
+            Record::Trailer => true,
+        },
+        Stage::Closed => false,
+    }
+}
+
+impl Writer {
+    pub const RECORD: usize = 150;
+
+    pub fn new() -> Self
+        ensures { λ r. ⌜ r ≡ freshWriter ⌝ }
+    {
+        Writer {
+            stage: Stage::Fresh,
+            file: File::new(),
+        }
+    }
+
+    // 1 for either length, 9 for a record that is not expected now.
+    fn door(self, which: Record, given: usize, room: usize) -> Answer
+        ensures { λ r. ⌜ r ≡ doorAnswer self which given room ⌝ }
+    {
+        if room != Self::RECORD {
+            return Answer::Refused(Reason::WrongLength, 0);
+        }
+        if given != layout::given_length(which) {
+            return Answer::Refused(Reason::WrongLength, 0);
+        }
+        let stage = self.stage;
+        if !is_expected(stage, which) {
+            return Answer::Refused(Reason::NotExpected, 1);
+        }
+        Answer::Accepted
+    }
+
+    // The header of a file, from its 78 field bytes.
+    pub fn header(self, fields: &[u8], out: &mut [u8]) -> Wrote
+        ensures answer { λ r. ⌜ r ≡ headerOf self (now (fields .entry)) (length (now (out .entry))) ⌝ }
+        ensures bytes { λ r. ⌜ now (out .exit) ≡ kept (r .answer) (headerBytes (now (fields .entry))) (now (out .entry)) ⌝ }
+    {
+        let d = self.door(Record::Header, fields.len(), out.len());
+        match d {
+            Answer::Refused(_, _) => {
+                return Wrote {
+                    answer: d,
+                    writer: self,
+                };
+            }
+            Answer::Accepted => {}
+        }
+        let a = record::make(Record::Header, fields, 0, 0, out);
+        match a {
+            Answer::Refused(_, _) => Wrote {
+                answer: a,
+                writer: self,
+            },
+            Answer::Accepted => Wrote {
+                answer: a,
+                writer: Writer {
+                    stage: Stage::Open,
+                    file: File::new(),
+                },
+            },
+        }
+    }
+
+    // A payment, from its 121 field bytes and its two amounts.
+    pub fn payment(self, fields: &[u8], received: u64, tariff: u64, out: &mut [u8]) -> Wrote
+        ensures answer { λ r. ⌜ r ≡ paymentOf self (now (fields .entry)) received tariff (length (now (out .entry))) ⌝ }
+        ensures bytes { λ r. ⌜ now (out .exit) ≡ kept (r .answer) (paymentBytes (now (fields .entry)) received tariff) (now (out .entry)) ⌝ }
+    {
+        let d = self.door(Record::Payment, fields.len(), out.len());
+        match d {
+            Answer::Refused(_, _) => {
+                return Wrote {
+                    answer: d,
+                    writer: self,
+                };
+            }
+            Answer::Accepted => {}
+        }
+        let mut made = [0u8; 150];
+        let a = record::make(Record::Payment, fields, received, tariff, &mut made);
+        match a {
+            Answer::Refused(_, _) => {
+                return Wrote {
+                    answer: a,
+                    writer: self,
+                };
+            }
+            Answer::Accepted => {}
+        }
+        let file = self.file;
+        let taken = file.take(received);
+        let t = taken.answer;
+        match t {
+            Answer::Refused(_, _) => Wrote {
+                answer: t,
+                writer: self,
+            },
+            Answer::Accepted => {
+                bytes::copy(&made, out);
+                let stage = self.stage;
+                let after = taken.file;
+                Wrote {
+                    answer: t,
+                    writer: Writer { stage, file: after },
+                }
+            }
+        }
+    }
+
+    // The trailer, with the count and the total of its own file; then the writer is closed.
+    pub fn trailer(self, out: &mut [u8]) -> Wrote
+        ensures answer { λ r. ⌜ r ≡ trailerOf self (length (now (out .entry))) ⌝ }
+        ensures bytes { λ r. ⌜ now (out .exit) ≡ kept (r .answer) (trailerBytes self) (now (out .entry)) ⌝ }
+    {
+        let d = self.door(
+            Record::Trailer,
+            layout::given_length(Record::Trailer),
+            out.len(),
+        );
+        match d {
+            Answer::Refused(_, _) => {
+                return Wrote {
+                    answer: d,
+                    writer: self,
+                };
+            }
+            Answer::Accepted => {}
+        }
+        let file = self.file;
+        let closed = file.close();
+        let t = closed.answer;
+        match t {
+            Answer::Refused(_, _) => {
+                return Wrote {
+                    answer: t,
+                    writer: self,
+                };
+            }
+            Answer::Accepted => {}
+        }
+        let figures = closed.figures;
+        let mut count = [48u8; 6];
+        decimal::put_number(figures.count, 6, &mut count, 0);
+        let a = record::make(Record::Trailer, &count, figures.total, 0, out);
+        match a {
+            Answer::Refused(_, _) => Wrote {
+                answer: a,
+                writer: self,
+            },
+            Answer::Accepted => Wrote {
+                answer: a,
+                writer: Writer {
+                    stage: Stage::Closed,
+                    file,
+                },
+            },
+        }
+    }
+}
