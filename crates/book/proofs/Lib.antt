@@ -1,0 +1,5 @@
+pub mod Agreement
+pub mod Shown
+pub mod Sessions
+pub mod WholeFiles
+pub mod Samples

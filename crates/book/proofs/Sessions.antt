@@ -1,0 +1,111 @@
+-- The trailer, and what holds of any session. Assumes nothing.
+use Prim.Native.Nat.{ℕ, _+_}
+use mathlib.Core.Bool.{Bool, true, false, not, cond, false≢true}
+use mathlib.Core.List.{List, []}
+use mathlib.Core.Logic.{_↔_}
+use mathlib.Core.Option.{Option, none, some}
+use mathlib.Core.Path.{_≡_, refl, sym, ap, _∙_}
+use native.Mathlib.Omega.{arith}
+use borrow.Author.Tests.{eqb-true, eq-eqb}
+use lib.Dec.{eqb}
+use lib.ListN.{length, getD}
+use Rattle.answer.specs.declared.Reason.the-variants.{WrongLength, NotExpected, CountDiffers, TotalDiffers, FileOpen}
+use Rattle.answer.specs.declared.Answer.{Answer}
+use Rattle.answer.specs.declared.Answer.the-variants.{Accepted, Refused}
+use Rattle.answer.specs.Refusals.{answerNumber, answerPlace}
+use Rattle.answer.specs.Orders.{asked, _then_, kept}
+use Rattle.answer.proofs.Orders.{asked-accepts, then-accepts, refusal-keeps, not-both}
+use Rattle.answer.proofs.Steps.{passed}
+use Rattle.layout.specs.declared.Named.{Named}
+use Rattle.layout.specs.declared.Named.the-variants.{Is, Other}
+use Rattle.layout.specs.declared.Record.the-variants.{Header, Payment, Trailer}
+use Rattle.layout.specs.Layouts.{recordLength, namedBy}
+use Rattle.record.specs.declared.Decoded.{Decoded}
+use Rattle.record.specs.Records.{recordAnswer}
+use Rattle.record.specs.Values.{trailerOf, shownOf, unlessRefused, decodeOf}
+use Rattle.record.proofs.Shown.{accepted-is}
+use Rattle.session.specs.declared.Session.{Session}
+use Rattle.session.specs.Sessions.{closedAt, expects, meets, follows, takeAnswer, takeOf, abandonOf, finishOf}
+use Rattle.book.specs.Books.{Filed, Book, receivedIn, asksTrailer, asks, awaits, bookAnswer, Step}
+use Rattle.book.specs.Promises.{reached, bookOf, TrueTrailersOnly, RefusalKeepsSession, OnlyTrailersShow, TrailersShowAll, AbandonKeepsBoard, AbandonDropsFile, AbandonNothing, FinishKeepsSession, FinishAnswers}
+use Rattle.book.proofs.Agreement.{next-answer-is-the-books}
+
+-- The trailer.
+
+-- both figures are asked
+figures-asked : (f : Filed) (rec : List ℕ)
+    → (asksTrailer f rec ≡ Accepted) ↔ ((trailerOf rec .count ≡ length (f .payments) + 2) × (trailerOf rec .total ≡ receivedIn (f .payments)))
+figures-asked f rec =
+    let count = eqb (trailerOf rec .count) (length (f .payments) + 2) in
+    let total = eqb (trailerOf rec .total) (receivedIn (f .payments)) in
+    let two = then-accepts (asked count CountDiffers 2) (asked total TotalDiffers 8) in
+    let one = asked-accepts count CountDiffers 2 in
+    let other = asked-accepts total TotalDiffers 8 in (
+      λ e. (eqb-true _ _ (one .0 (two .0 e .0)), eqb-true _ _ (other .0 (two .0 e .1))),
+      λ h. two .1 (one .1 (eq-eqb _ _ (h .0)), other .1 (eq-eqb _ _ (h .1))),
+    )
+
+-- a Z whose fields are right is asked only those
+trailer-answer : (k : Book) (f : Filed) (rec : List ℕ) → k .opened ≡ some f → recordAnswer rec ≡ Accepted → namedBy (getD rec 0 0) ≡ Is Trailer
+    → bookAnswer k rec ≡ asksTrailer f rec
+trailer-answer k f rec o e n = rw (o, e, n, eq-eqb (length rec) recordLength (accepted-is rec e .0))
+
+pub true-trailers-only : TrueTrailersOnly
+true-trailers-only steps f rec o e n = rw (next-answer-is-the-books steps rec, trailer-answer (bookOf steps) f rec o e n) (figures-asked f rec)
+
+-- Any session.
+
+pub refusal-keeps-session : RefusalKeepsSession
+refusal-keeps-session s rec h = refusal-keeps (takeAnswer s rec) (follows s (decodeOf rec)) s h
+
+-- what a record leaves of the board shown
+module _ (s : Session) (rec : List ℕ) where
+  stays : (n : Named) (own a : Answer) → (n ≡ Is Trailer → ⊥) → kept a (follows s (unlessRefused own (shownOf n rec))) s .shown ≡ s .shown
+  stays n own (Refused why p) h = refl
+  stays n (Refused why p) Accepted h = refl
+  stays (Is Header) Accepted Accepted h = refl
+  stays (Is Payment) Accepted Accepted h = refl
+  stays (Is Trailer) Accepted Accepted h = absurd (h refl)
+  stays Other Accepted Accepted h = refl
+
+pub only-trailers-show : OnlyTrailersShow
+only-trailers-show s rec h = stays s rec (namedBy (getD rec 0 0)) (recordAnswer rec) (takeAnswer s rec) h
+
+own-accepts : (s : Session) (a : Answer) (d : Decoded) → meets s (unlessRefused a d) ≡ Accepted → a ≡ Accepted
+own-accepts s Accepted d e = refl
+own-accepts s (Refused why p) d e = e
+
+pub trailers-show-all : TrailersShowAll
+trailers-show-all s rec n e =
+    let own = passed (eqb (length rec) recordLength) WrongLength 0 e .1 in
+    let met = passed (expects (s .opened) (namedBy (getD rec 0 0))) NotExpected 1 own .1 in
+    rw (e, own-accepts s (recordAnswer rec) (shownOf (namedBy (getD rec 0 0)) rec) met, n)
+
+pub abandon-keeps-board : AbandonKeepsBoard
+abandon-keeps-board s = go (s .opened)
+  where
+    go : (t : Bool) → cond t (closedAt (s .shown)) s .shown ≡ s .shown
+    go true = refl
+    go false = refl
+
+pub abandon-drops-file : AbandonDropsFile
+abandon-drops-file s = go (s .opened) refl
+  where
+    go : (t : Bool) → s .opened ≡ t → cond t (closedAt (s .shown)) s .opened ≡ false
+    go true e = refl
+    go false e = e
+
+pub abandon-nothing : AbandonNothing
+abandon-nothing s e = ap (λ (t : Bool). cond t (closedAt (s .shown)) s) e
+
+pub finish-keeps-session : FinishKeepsSession
+finish-keeps-session s = refl
+
+pub finish-answers : FinishAnswers
+finish-answers s = go (s .opened)
+  where
+    go : (t : Bool)
+        → ((answerNumber (asked (not t) FileOpen 0) ≡ 19) ↔ (t ≡ true)) × ((answerNumber (asked (not t) FileOpen 0) ≡ 0) ↔ (t ≡ false))
+        × (answerPlace (asked (not t) FileOpen 0) ≡ 0)
+    go true = ((λ e. refl, λ e. refl), (λ e. absurd (omega arith), λ e. absurd (false≢true (sym e))), refl)
+    go false = ((λ e. absurd (omega arith), λ e. absurd (false≢true e)), (λ e. refl, λ e. refl), refl)

@@ -1,0 +1,4 @@
+pub mod Books
+pub mod Promises
+pub mod WholeFiles
+pub mod Samples

@@ -1,0 +1,164 @@
+-- The session beside the book (document 01, "Sessions and the board"; demand 2). Assumes nothing.
+use Prim.Native.Nat.{ℕ, _+_, _≤_}
+use mathlib.Core.Bool.{Bool, true, false}
+use mathlib.Core.List.{List, [], _∷_, _++_}
+use mathlib.Core.Logic.{_↔_}
+use mathlib.Core.Option.{Option, none, some}
+use mathlib.Core.Path.{_≡_}
+use lib.ListN.{length, getD}
+use Rattle.answer.specs.declared.Answer.{Answer}
+use Rattle.answer.specs.declared.Answer.the-variants.{Accepted}
+use Rattle.answer.specs.Refusals.{answerNumber, answerPlace}
+use Rattle.answer.specs.Orders.{Each}
+use Rattle.layout.specs.declared.Named.the-variants.{Is}
+use Rattle.layout.specs.declared.Record.the-variants.{Trailer}
+use Rattle.layout.specs.Layouts.{namedBy}
+use Rattle.record.specs.Records.{recordAnswer}
+use Rattle.record.specs.Values.{trailerOf}
+use Rattle.board.specs.declared.Board.{Board}
+use Rattle.board.specs.declared.Lane.{Lane}
+use Rattle.board.specs.declared.Tally.{Tally}
+use Rattle.board.specs.Lanes.{mostLanes, limit, lanesFrom, sumBy, each, issuersOf, appearing, Distinct}
+use Rattle.board.specs.Boards.{lanesOf, Sound}
+use Rattle.session.specs.declared.Session.{Session}
+use Rattle.session.specs.Sessions.{freshSession, takeAnswer, takeOf, abandonOf, finishOf}
+use Rattle.book.specs.Books.{Filed, Book, freshBook, recordsOf, openRecords, paidIn, receivedIn, ofIssuer, bookAnswer, Step, taking, abandoning, bookAfter, bookAnswers}
+
+-- The same steps through a session.
+
+abbrev pub stepped : Session → Step → Session
+stepped s (taking rec) = takeOf s rec .session
+stepped s abandoning = abandonOf s
+
+abbrev pub sessionAfter : Session → List Step → Session
+sessionAfter s [] = s
+sessionAfter s (step ∷ steps) = sessionAfter (stepped s step) steps
+
+abbrev pub answersOf : Session → List Step → List Answer
+answersOf s [] = []
+answersOf s (taking rec ∷ steps) = takeOf s rec .answer ∷ answersOf (takeOf s rec .session) steps
+answersOf s (abandoning ∷ steps) = answersOf (abandonOf s) steps
+
+-- From a fresh session and a fresh book: the board shown, and the payment records of the accepted files.
+
+abbrev pub reached : List Step → Session
+reached steps = sessionAfter freshSession steps
+
+abbrev pub bookOf : List Step → Book
+bookOf steps = bookAfter freshBook steps
+
+abbrev pub shownLanes : List Step → List Lane
+shownLanes steps = lanesOf (reached steps .shown)
+
+abbrev pub acceptedRecords : List Step → List (List ℕ)
+acceptedRecords steps = recordsOf (bookOf steps .accepted)
+
+-- The invariant: the board shown has the payments of the accepted files, the working board those of the open file too.
+
+abbrev pub isOpen : Option Filed → Bool
+isOpen none = false
+isOpen (some f) = true
+
+abbrev pub allRecords : Book → List (List ℕ)
+allRecords k = recordsOf (k .accepted) ++ openRecords (k .opened)
+
+pub record Agrees (s : Session) (k : Book) : Type 0 where
+  pub opened : s .opened ≡ isOpen (k .opened)
+  pub shown : lanesOf (s .shown) ≡ lanesFrom (paidIn (recordsOf (k .accepted)))
+  pub work : lanesOf (s .work) ≡ lanesFrom (paidIn (allRecords k))
+  pub taken : s .file .taken ≡ length (openRecords (k .opened))
+  pub total : s .file .total ≡ receivedIn (openRecords (k .opened))
+  pub soundShown : Sound (s .shown)
+  pub soundWork : Sound (s .work)
+
+-- Promises: of any list of steps from a fresh session.
+
+abbrev pub SessionAgrees : Type 0
+SessionAgrees = (steps : List Step) → Agrees (reached steps) (bookOf steps)
+
+-- the answers are the book's, step by step, and so is the answer to whatever record comes next
+abbrev pub AnswersAreTheBooks : Type 0
+AnswersAreTheBooks = (steps : List Step) → answersOf freshSession steps ≡ bookAnswers freshBook steps
+
+abbrev pub NextAnswerIsTheBooks : Type 0
+NextAnswerIsTheBooks = (steps : List Step) (rec : List ℕ) → takeAnswer (reached steps) rec ≡ bookAnswer (bookOf steps) rec
+
+-- the lanes shown are the payments of the accepted files gathered by issuer, in the order of first appearance
+abbrev pub LanesAreThePayments : Type 0
+LanesAreThePayments = (steps : List Step) → shownLanes steps ≡ lanesFrom (paidIn (acceptedRecords steps))
+
+abbrev pub LanesInOrder : Type 0
+LanesInOrder = (steps : List Step) → issuersOf (shownLanes steps) ≡ appearing [] (paidIn (acceptedRecords steps))
+
+-- each lane shows exactly the payments of its issuer: their number and the centavos received, at full size
+abbrev pub EachLaneIsExact : Type 0
+EachLaneIsExact =
+    (steps : List Step)
+    → Each
+    (λ (l : Lane).
+    (l .tally .payments ≡ length (ofIssuer (l .issuer) (acceptedRecords steps)))
+    × (l .tally .centavos ≡ receivedIn (ofIssuer (l .issuer) (acceptedRecords steps))))
+    (shownLanes steps)
+
+-- the sums over the lanes, and the board's totals, are the sums over the payment records of all accepted files
+abbrev pub SumsAreTheRecords : Type 0
+SumsAreTheRecords =
+    (steps : List Step)
+    → (sumBy (each (λ t. t .payments)) (shownLanes steps) ≡ length (acceptedRecords steps))
+    × (sumBy (each (λ t. t .centavos)) (shownLanes steps) ≡ receivedIn (acceptedRecords steps))
+
+abbrev pub TotalsAreTheRecords : Type 0
+TotalsAreTheRecords =
+    (steps : List Step)
+    → reached steps .shown .total ≡ record { payments = length (acceptedRecords steps); centavos = receivedIn (acceptedRecords steps) }
+
+abbrev pub NoIssuerTwice : Type 0
+NoIssuerTwice = (steps : List Step) → Distinct (issuersOf (shownLanes steps))
+
+abbrev pub WithinLimits : Type 0
+WithinLimits =
+    (steps : List Step)
+    → (length (shownLanes steps) ≤ mostLanes) × (reached steps .shown .total .payments ≤ limit) × (reached steps .shown .total .centavos ≤ limit)
+
+-- a Z whose fields are right, in an open file, is accepted exactly when its count and total are the true ones
+abbrev pub TrueTrailersOnly : Type 0
+TrueTrailersOnly =
+    (steps : List Step) (f : Filed) (rec : List ℕ)
+    → bookOf steps .opened ≡ some f → recordAnswer rec ≡ Accepted → namedBy (getD rec 0 0) ≡ Is Trailer
+    → (takeAnswer (reached steps) rec ≡ Accepted)
+    ↔ ((trailerOf rec .count ≡ length (f .payments) + 2) × (trailerOf rec .total ≡ receivedIn (f .payments)))
+
+-- Promises: of any session, one put together by hand included.
+
+-- a refused record changes nothing
+abbrev pub RefusalKeepsSession : Type 0
+RefusalKeepsSession = (s : Session) (rec : List ℕ) → (takeOf s rec .answer ≡ Accepted → ⊥) → takeOf s rec .session ≡ s
+
+-- the board shown stays as it was until a Z is accepted; then the payments of the open file appear together
+abbrev pub OnlyTrailersShow : Type 0
+OnlyTrailersShow = (s : Session) (rec : List ℕ) → (namedBy (getD rec 0 0) ≡ Is Trailer → ⊥) → takeOf s rec .session .shown ≡ s .shown
+
+abbrev pub TrailersShowAll : Type 0
+TrailersShowAll =
+    (s : Session) (rec : List ℕ) → namedBy (getD rec 0 0) ≡ Is Trailer → takeOf s rec .answer ≡ Accepted → takeOf s rec .session .shown ≡ s .work
+
+-- an abandoned file leaves the board as it was; with no file open nothing changes
+abbrev pub AbandonKeepsBoard : Type 0
+AbandonKeepsBoard = (s : Session) → abandonOf s .shown ≡ s .shown
+
+abbrev pub AbandonDropsFile : Type 0
+AbandonDropsFile = (s : Session) → abandonOf s .opened ≡ false
+
+abbrev pub AbandonNothing : Type 0
+AbandonNothing = (s : Session) → s .opened ≡ false → abandonOf s ≡ s
+
+-- finishing changes nothing, and answers 19 at place 0 while a file is open, else 0
+abbrev pub FinishKeepsSession : Type 0
+FinishKeepsSession = (s : Session) → finishOf s .session ≡ s
+
+abbrev pub FinishAnswers : Type 0
+FinishAnswers =
+    (s : Session)
+    → ((answerNumber (finishOf s .answer) ≡ 19) ↔ (s .opened ≡ true))
+    × ((answerNumber (finishOf s .answer) ≡ 0) ↔ (s .opened ≡ false))
+    × (answerPlace (finishOf s .answer) ≡ 0)

@@ -1,0 +1,170 @@
+-- P11, P12 and the worked file of document 01, a day past 32 bits, and the turns of a session, each from a fresh one. Assumes nothing.
+use Prim.Native.Nat.{ℕ}
+use mathlib.Core.List.{List, [], _∷_, _++_, map}
+use mathlib.Core.Path.{_≡_}
+use lib.ListN.{replicate}
+use Rattle.answer.specs.declared.Answer.{Answer}
+use Rattle.answer.specs.Refusals.{answerNumber, answerPlace}
+use Rattle.decimal.specs.Numbers.{digitsOf}
+use Rattle.barcode.specs.declared.Issuer.{Issuer}
+use Rattle.record.specs.Kinds.{version, serviceOf}
+use Rattle.board.specs.declared.Tally.{Tally}
+use Rattle.board.specs.declared.Lane.{Lane}
+use Rattle.board.specs.Lanes.{none}
+use Rattle.session.specs.Sessions.{freshSession, finishOf}
+use Rattle.book.specs.Books.{Step, taking, abandoning}
+use Rattle.book.specs.Promises.{answersOf, reached, shownLanes}
+
+-- The records: 150 bytes each, the texts blank.
+
+abbrev pub blanks : ℕ → List ℕ
+blanks n = replicate n 32
+
+abbrev pub header : List ℕ
+header =
+    65 ∷ 50 ∷ blanks 40 ++ (digitsOf 3 1 ++ (blanks 20 ++ (digitsOf 8 20230102 ++ (digitsOf 6 1 ++ (version ++ (serviceOf 79 ++ blanks 52))))))
+
+-- the barcode of P4, its line without the four box checks, and its issuer
+abbrev pub code : List ℕ
+code = digitsOf 44 81770000000_01093659970_41131079703_00143370831
+
+abbrev pub issuer : Issuer
+issuer = record { segment = 1; number = 3659 }
+
+abbrev pub payment : ℕ → List ℕ
+payment received =
+    71 ∷ blanks 20
+    ++ (digitsOf 8 20230102 ++ (digitsOf 8 20230103 ++ (code ++ (digitsOf 12 received ++ (digitsOf 7 0 ++ (digitsOf 8 1
+    ++ (blanks 8 ++ (49 ∷ blanks 23 ++ (49 ∷ blanks 9)))))))))
+
+abbrev pub trailer : ℕ → ℕ → List ℕ
+trailer count total = 90 ∷ digitsOf 6 count ++ (digitsOf 17 total ++ blanks 126)
+
+-- What comes of steps, with the paper's numbers.
+
+pub record Said : Type 0 where
+  pub number : ℕ
+  pub place : ℕ
+
+abbrev pub saidOf : Answer → Said
+saidOf a = record { number = answerNumber a; place = answerPlace a }
+
+abbrev pub accepted : Said
+accepted = record { number = 0; place = 0 }
+
+-- the answers to the records, the answer to finishing after them, the lanes shown and their sum
+pub record Outcome : Type 0 where
+  pub answers : List Said
+  pub finish : Said
+  pub lanes : List Lane
+  pub total : Tally
+
+abbrev pub outcomeOf : List Step → Outcome
+outcomeOf steps =
+    record {
+      answers = map saidOf (answersOf freshSession steps);
+      finish = saidOf (finishOf (reached steps) .answer);
+      lanes = shownLanes steps;
+      total = reached steps .shown .total;
+    }
+
+-- nothing is shown, or one lane of P4's issuer
+abbrev pub nothing : List Said → Said → Outcome
+nothing answers finish = record { answers = answers; finish = finish; lanes = []; total = none }
+
+abbrev pub oneLane : List Said → Tally → Outcome
+oneLane answers t = record { answers = answers; finish = accepted; lanes = record { issuer = issuer; tally = t } ∷ []; total = t }
+
+abbrev pub tally : ℕ → ℕ → Tally
+tally payments centavos = record { payments = payments; centavos = centavos }
+
+pub record Sample : Type 0 where
+  pub steps : List Step
+  pub outcome : Outcome
+
+-- P11: A, then Z with count 000002 and total zero
+abbrev pub p11 : Sample
+p11 =
+    record {
+      steps = taking header ∷ taking (trailer 2 0) ∷ [];
+      outcome = nothing (accepted ∷ accepted ∷ []) accepted;
+    }
+
+-- P12: payments of 2147483648 and 2147483649 centavos; the total 4294967297 is accepted, the total 1 is refused 14
+abbrev pub p12 : ℕ → List Step
+p12 total = taking header ∷ taking (payment 2147483648) ∷ taking (payment 2147483649) ∷ taking (trailer 4 total) ∷ []
+
+abbrev pub p12Right : Sample
+p12Right =
+    record {
+      steps = p12 4_294_967_297;
+      outcome = oneLane (accepted ∷ accepted ∷ accepted ∷ accepted ∷ []) (tally 2 4_294_967_297);
+    }
+
+abbrev pub p12Wrong : Sample
+p12Wrong =
+    record {
+      steps = p12 1;
+      outcome =
+          nothing (accepted ∷ accepted ∷ accepted ∷ record { number = 14; place = 8 } ∷ []) (record { number = 19; place = 0 });
+    }
+
+-- "The board on paper": one G with the barcode of P4 and 109 centavos received
+abbrev pub worked : Sample
+worked =
+    record {
+      steps = taking header ∷ taking (payment 109) ∷ taking (trailer 3 109) ∷ [];
+      outcome = oneLane (accepted ∷ accepted ∷ accepted ∷ []) (tally 1 109);
+    }
+
+-- a day of two files whose one lane passes 4,294,967,296 centavos
+abbrev pub past : Sample
+past =
+    record {
+      steps =
+          taking header ∷ taking (payment 4_294_967_295) ∷ taking (trailer 3 4_294_967_295)
+          ∷ taking header ∷ taking (payment 2) ∷ taking (payment 999_999_999_999) ∷ taking (trailer 4 1_000_000_000_001) ∷ [];
+      outcome =
+          oneLane (accepted ∷ accepted ∷ accepted ∷ accepted ∷ accepted ∷ accepted ∷ accepted ∷ []) (tally 3 1_004_294_967_296);
+    }
+
+-- the file stays open when its Z is refused: 13, 14, then the right one
+abbrev pub again : Sample
+again =
+    record {
+      steps = taking header ∷ taking (payment 109) ∷ taking (trailer 2 109) ∷ taking (trailer 3 1) ∷ taking (trailer 3 109) ∷ [];
+      outcome =
+          oneLane (accepted ∷ accepted ∷ record { number = 13; place = 2 } ∷ record { number = 14; place = 8 } ∷ accepted ∷ [])
+          (tally 1 109);
+    }
+
+-- an abandoned file leaves no payment behind, and A is expected again
+abbrev pub left : Sample
+left =
+    record {
+      steps = taking header ∷ taking (payment 109) ∷ abandoning ∷ taking (payment 109) ∷ abandoning ∷ taking header ∷ [];
+      outcome =
+          nothing (accepted ∷ accepted ∷ record { number = 9; place = 1 } ∷ accepted ∷ []) (record { number = 19; place = 0 });
+    }
+
+-- G and Z without a file, A in a file, no bytes at all, and no records
+abbrev pub astray : Sample
+astray =
+    record {
+      steps = taking (payment 109) ∷ taking (trailer 2 0) ∷ taking [] ∷ taking header ∷ taking header ∷ abandoning ∷ [];
+      outcome =
+          nothing
+          (record { number = 9; place = 1 } ∷ record { number = 9; place = 1 } ∷ record { number = 1; place = 0 } ∷ accepted
+          ∷ record { number = 9; place = 1 } ∷ [])
+          accepted;
+    }
+
+abbrev pub empty : Sample
+empty = record { steps = []; outcome = nothing [] accepted }
+
+abbrev pub samples : List Sample
+samples = p11 ∷ p12Right ∷ p12Wrong ∷ worked ∷ past ∷ again ∷ left ∷ astray ∷ empty ∷ []
+
+-- Promise: each sample comes out as it is said to.
+abbrev pub Hold : List Sample → Type 0
+Hold ss = map (λ (s : Sample). outcomeOf (s .steps)) ss ≡ map (λ (s : Sample). s .outcome) ss
