@@ -1,7 +1,7 @@
 -- A session and the book agree at first and after every step, and so their answers are one. Assumes nothing.
 use Prim.Native.Nat.{ℕ, _+_}
-use mathlib.Core.Bool.{Bool, true, false, not, cond, false≢true}
-use mathlib.Core.List.{List, [], _∷_, _++_, append-assoc, append-nil, map-append}
+use mathlib.Core.Bool.{true, false, not, false≢true}
+use mathlib.Core.List.{List, [], _∷_, _++_, append-assoc, append-nil}
 use mathlib.Core.Option.{Option, none, some}
 use mathlib.Core.Path.{_≡_, refl, sym, ap, ap₂, _∙_}
 use native.Mathlib.Omega.{arith}
@@ -44,12 +44,14 @@ module _ (s : Session) (files : List Filed) (rec : List ℕ) where
       (asked (leb (receivedIn (f .payments) + paymentOf rec .received) mostCentavos) FileTotalPassed 82)
       (answerAfter (paidIn (recordsOf files ++ f .payments)) (paid rec)))
 
-  trailer-asked : (f : Filed) → Agrees s (record { accepted = files; opened = some f }) → trailerAnswer (s .file) (figuresIn (trailerOf rec)) ≡ asksTrailer f rec
+  trailer-asked : (f : Filed) → Agrees s (record { accepted = files; opened = some f })
+      → trailerAnswer (s .file) (figuresIn (trailerOf rec)) ≡ asksTrailer f rec
   unfolding trailerAnswer
   trailer-asked f h = rw (h .taken, h .total)
 
   record-asked : (o : Option Filed) (n : Named) (a : Answer) → Agrees s (record { accepted = files; opened = o })
-      → asked (expects (s .opened) n) NotExpected 1 then meets s (unlessRefused a (shownOf n rec)) ≡ asked (awaits o n) NotExpected 1 then a then asks files o n rec
+      → asked (expects (s .opened) n) NotExpected 1 then meets s (unlessRefused a (shownOf n rec))
+      ≡ asked (awaits o n) NotExpected 1 then a then asks files o n rec
   record-asked none (Is Header) Accepted h = rw (h .opened)
   record-asked none (Is Header) (Refused why p) h = rw (h .opened)
   record-asked none (Is Payment) a h = rw (h .opened)
@@ -71,7 +73,9 @@ answer-agrees s k rec h =
 
 records-joined : (files : List Filed) (f : Filed) → recordsOf (files ++ (f ∷ [])) ≡ recordsOf files ++ f .payments
 records-joined [] f = append-nil (f .payments)
-records-joined (g ∷ files) f = ap (λ (recs : List (List ℕ)). g .payments ++ recs) (records-joined files f) ∙ sym (append-assoc (g .payments) (recordsOf files) (f .payments))
+records-joined (g ∷ files) f =
+    ap (λ (recs : List (List ℕ)). g .payments ++ recs) (records-joined files f) ∙
+    sym (append-assoc (g .payments) (recordsOf files) (f .payments))
 
 paid-joined : (recs : List (List ℕ)) (rec : List ℕ) → paidIn (recs ++ (rec ∷ [])) ≡ paidIn recs ++ (paid rec ∷ [])
 paid-joined [] rec = refl
@@ -101,7 +105,8 @@ module _ (s : Session) (files : List Filed) (rec : List ℕ) where
   opens : (o : Option Filed) → Agrees s (record { accepted = files; opened = o }) → Agrees (openedAt (s .shown)) (withRecord files none (Is Header) rec)
   opens o h = at-rest (s .shown) files (some (record { header = rec; payments = [] })) (h .shown) (h .soundShown) refl
 
-  drops : (o : Option Filed) → Agrees s (record { accepted = files; opened = o }) → Agrees (closedAt (s .shown)) (record { accepted = files; opened = none })
+  drops : (o : Option Filed) → Agrees s (record { accepted = files; opened = o })
+      → Agrees (closedAt (s .shown)) (record { accepted = files; opened = none })
   drops o h = at-rest (s .shown) files none (h .shown) (h .soundShown) refl
 
   module _ (f : Filed) (h : Agrees s (record { accepted = files; opened = some f })) where
@@ -146,7 +151,7 @@ module _ (s : Session) (files : List Filed) (rec : List ℕ) where
       split (λ (r : Session). Agrees r (record { accepted = files; opened = none })) (s .opened) (λ t. drops (some f) h)
       (λ t. absurd (false≢true (sym t ∙ h .opened)))
 
-take-agrees : (s : Session) (k : Book) (rec : List ℕ) → Agrees s k → Agrees (takeOf s rec .session) (noted k (taking rec))
+pub take-agrees : (s : Session) (k : Book) (rec : List ℕ) → Agrees s k → Agrees (takeOf s rec .session) (noted k (taking rec))
 take-agrees s k rec h = rw (← answer-agrees s k rec h) (go (takeAnswer s rec) refl)
   where
     go : (a : Answer) → takeAnswer s rec ≡ a
@@ -175,7 +180,7 @@ answers-agree (taking rec ∷ steps) s k h =
 answers-agree (abandoning ∷ steps) s k h =
     answers-agree steps (stepped s abandoning) (noted k abandoning) (step-agrees s k abandoning h)
 
-fresh-agrees : Agrees freshSession freshBook
+pub fresh-agrees : Agrees freshSession freshBook
 fresh-agrees =
     record { opened = refl; shown = refl; work = refl; taken = refl; total = refl; soundShown = stays-sound .0; soundWork = stays-sound .0 }
 

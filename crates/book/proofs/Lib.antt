@@ -2,4 +2,5 @@ pub mod Agreement
 pub mod Shown
 pub mod Sessions
 pub mod WholeFiles
+pub mod Runs
 pub mod Samples

@@ -1,9 +1,9 @@
 -- The trailer, and what holds of any session. Assumes nothing.
 use Prim.Native.Nat.{ℕ, _+_}
 use mathlib.Core.Bool.{Bool, true, false, not, cond, false≢true}
-use mathlib.Core.List.{List, []}
+use mathlib.Core.List.{List, [], _∷_}
 use mathlib.Core.Logic.{_↔_}
-use mathlib.Core.Option.{Option, none, some}
+use mathlib.Core.Option.{some}
 use mathlib.Core.Path.{_≡_, refl, sym, ap, _∙_}
 use native.Mathlib.Omega.{arith}
 use borrow.Author.Tests.{eqb-true, eq-eqb}
@@ -13,8 +13,8 @@ use Rattle.answer.specs.declared.Reason.the-variants.{WrongLength, NotExpected,
 use Rattle.answer.specs.declared.Answer.{Answer}
 use Rattle.answer.specs.declared.Answer.the-variants.{Accepted, Refused}
 use Rattle.answer.specs.Refusals.{answerNumber, answerPlace}
-use Rattle.answer.specs.Orders.{asked, _then_, kept}
-use Rattle.answer.proofs.Orders.{asked-accepts, then-accepts, refusal-keeps, not-both}
+use Rattle.answer.specs.Orders.{asked, kept}
+use Rattle.answer.proofs.Orders.{asked-accepts, then-accepts, refusal-keeps}
 use Rattle.answer.proofs.Steps.{passed}
 use Rattle.layout.specs.declared.Named.{Named}
 use Rattle.layout.specs.declared.Named.the-variants.{Is, Other}
@@ -25,9 +25,9 @@ use Rattle.record.specs.Records.{recordAnswer}
 use Rattle.record.specs.Values.{trailerOf, shownOf, unlessRefused, decodeOf}
 use Rattle.record.proofs.Shown.{accepted-is}
 use Rattle.session.specs.declared.Session.{Session}
-use Rattle.session.specs.Sessions.{closedAt, expects, meets, follows, takeAnswer, takeOf, abandonOf, finishOf}
-use Rattle.book.specs.Books.{Filed, Book, receivedIn, asksTrailer, asks, awaits, bookAnswer, Step}
-use Rattle.book.specs.Promises.{reached, bookOf, TrueTrailersOnly, RefusalKeepsSession, OnlyTrailersShow, TrailersShowAll, AbandonKeepsBoard, AbandonDropsFile, AbandonNothing, FinishKeepsSession, FinishAnswers}
+use Rattle.session.specs.Sessions.{closedAt, expects, meets, follows, takeAnswer, takeOf, abandonOf}
+use Rattle.book.specs.Books.{Filed, Book, receivedIn, asksTrailer, bookAnswer, taking, abandoning}
+use Rattle.book.specs.Promises.{bookOf, TrueTrailersOnly, RefusalKeepsSession, OnlyTrailersShow, TrailersShowAll, NothingShowsBefore, AbandonKeepsBoard, AbandonDropsFile, AbandonNothing, FinishKeepsSession, FinishAnswers}
 use Rattle.book.proofs.Agreement.{next-answer-is-the-books}
 
 -- The trailer.
@@ -97,6 +97,11 @@ abandon-drops-file s = go (s .opened) refl
 
 pub abandon-nothing : AbandonNothing
 abandon-nothing s e = ap (λ (t : Bool). cond t (closedAt (s .shown)) s) e
+
+pub nothing-shows-before : NothingShowsBefore
+nothing-shows-before s [] h = refl
+nothing-shows-before s (taking rec ∷ steps) h = nothing-shows-before (takeOf s rec .session) steps (h .1) ∙ only-trailers-show s rec (h .0)
+nothing-shows-before s (abandoning ∷ steps) h = nothing-shows-before (abandonOf s) steps (h .1) ∙ abandon-keeps-board s
 
 pub finish-keeps-session : FinishKeepsSession
 finish-keeps-session s = refl

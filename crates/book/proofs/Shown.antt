@@ -1,5 +1,5 @@
 -- The board shown is the payment records of accepted files: by issuer, in order, lane for lane, in sum. Assumes nothing.
-use Prim.Native.Nat.{ℕ, _+_, _≤_}
+use Prim.Native.Nat.{ℕ}
 use mathlib.Core.Bool.{Bool, true, false, cond, false≢true}
 use mathlib.Core.List.{List, [], _∷_}
 use mathlib.Core.Path.{_≡_, refl, sym, ap, ap₂, _∙_}
@@ -8,16 +8,14 @@ use borrow.Author.Tests.{eq-eqb}
 use lib.ListN.{length}
 use Rattle.answer.specs.Orders.{Each}
 use Rattle.barcode.specs.declared.Issuer.{Issuer}
-use Rattle.record.specs.Values.{paymentOf}
 use Rattle.board.specs.declared.Tally.{Tally}
 use Rattle.board.specs.declared.Lane.{Lane}
-use Rattle.board.specs.Lanes.{sameIssuer, isOf, lanesFrom, sumOf, sumBy, each, only, issuersOf, named, Distinct, Adds}
-use Rattle.board.specs.Boards.{lanesOf}
+use Rattle.board.specs.Lanes.{sameIssuer, isOf, lanesFrom, sumBy, each, only, issuersOf, named, Distinct}
 use Rattle.board.proofs.Tallies.{low, alike}
-use Rattle.board.proofs.Lanes.{split, same-is, payments-add, centavos-add, sum-read, sums-agree, own-sums-agree, in-order-of-appearance, no-issuer-twice, sum-is-kept}
+use Rattle.board.proofs.Lanes.{split, same-is, payments-add, centavos-add, sum-read, sums-agree, own-sums-agree, in-order-of-appearance, no-issuer-twice}
 use Rattle.board.proofs.Posting.{length-lanes}
-use Rattle.book.specs.Books.{paid, paidIn, receivedIn, ofIssuer, Step}
-use Rattle.book.specs.Promises.{reached, shownLanes, acceptedRecords, LanesAreThePayments, LanesInOrder, EachLaneIsExact, SumsAreTheRecords, TotalsAreTheRecords, NoIssuerTwice, WithinLimits}
+use Rattle.book.specs.Books.{paid, paidIn, receivedIn, ofIssuer}
+use Rattle.book.specs.Promises.{reached, shownLanes, acceptedRecords, LanesAreThePayments, LanesInOrder, EachLaneIsExact, SumsAreTheRecords, TotalsAreTheRecords, NoIssuerHasTwoLanes, WithinLimits}
 use Rattle.book.proofs.Agreement.{session-agrees}
 
 pub lanes-are-the-payments : LanesAreThePayments
@@ -26,8 +24,8 @@ lanes-are-the-payments steps = session-agrees steps .shown
 pub lanes-in-order : LanesInOrder
 lanes-in-order steps = ap issuersOf (lanes-are-the-payments steps) ∙ in-order-of-appearance (paidIn (acceptedRecords steps))
 
-pub no-lane-twice : NoIssuerTwice
-no-lane-twice steps = rw (lanes-are-the-payments steps) (no-issuer-twice (paidIn (acceptedRecords steps)))
+pub no-issuer-has-two-lanes : NoIssuerHasTwoLanes
+no-issuer-has-two-lanes steps = rw (lanes-are-the-payments steps) (no-issuer-twice (paidIn (acceptedRecords steps)))
 
 -- The sums.
 
@@ -83,7 +81,8 @@ module _ (w : Tally → ℕ) where
       let n = neither (sameIssuer (l .issuer) i) (named i (issuersOf ls)) e in
       rw (n .0) (omega (arith, not-there i ls (n .1)))
 
-  behind-lane : (l : Lane) (ls ms : List Lane) → named (l .issuer) (issuersOf ms) ≡ false → Each (λ (m : Lane). sumBy (only (m .issuer) w) ls ≡ w (m .tally)) ms
+  behind-lane : (l : Lane) (ls ms : List Lane) → named (l .issuer) (issuersOf ms) ≡ false
+      → Each (λ (m : Lane). sumBy (only (m .issuer) w) ls ≡ w (m .tally)) ms
       → Each (λ (m : Lane). sumBy (only (m .issuer) w) (l ∷ ls) ≡ w (m .tally)) ms
   behind-lane l ls [] e h = tt
   behind-lane l ls (m ∷ ms) e h =

@@ -1,20 +1,19 @@
 -- A whole file, record for record, beside the file and the board alone. Assumes nothing.
-use Prim.Native.Nat.{ℕ, _+_, _≤_}
+use Prim.Native.Nat.{ℕ, _+_}
 use mathlib.Core.Bool.{true}
 use mathlib.Core.List.{List, [], _∷_, _++_, map}
 use mathlib.Core.Logic.{_↔_}
 use mathlib.Core.Path.{_≡_, refl, sym, ap, ap₂, _∙_}
 use native.Mathlib.Omega.{arith}
 use borrow.Author.Tests.{eq-eqb}
-use lib.ListN.{length, getD, length-map}
-use Rattle.answer.specs.declared.Answer.{Answer}
+use lib.ListN.{length, length-map}
 use Rattle.answer.specs.declared.Answer.the-variants.{Accepted}
-use Rattle.answer.specs.Orders.{_then_, Each}
+use Rattle.answer.specs.Orders.{Each}
 use Rattle.answer.proofs.Orders.{then-accepts, accepted-takes}
 use Rattle.layout.specs.declared.Named.the-variants.{Is}
 use Rattle.layout.specs.declared.Record.{Record}
 use Rattle.layout.specs.declared.Record.the-variants.{Header, Payment, Trailer}
-use Rattle.layout.specs.Layouts.{recordLength, namedBy}
+use Rattle.layout.specs.Layouts.{recordLength}
 use Rattle.record.specs.Values.{paymentOf, trailerOf, shownOf}
 use Rattle.record.proofs.Shown.{accepted-is}
 use Rattle.file.specs.declared.File.{File}
@@ -32,7 +31,7 @@ use Rattle.session.specs.declared.Took.{Took}
 use Rattle.session.specs.Sessions.{closedAt, openedAt, expectsThe, figuresIn, payAnswer, paying, meets, follows, took, takeOf}
 use Rattle.book.specs.Books.{paid, paidIn, receivedIn, Step, taking}
 use Rattle.book.specs.Promises.{sessionAfter, answersOf}
-use Rattle.book.specs.WholeFiles.{IsRight, Whole, fileOf, receivedEach, TrueFigures, AllAccepted, FileAccepted, FilePosted, FreshSessionAccepts, FreshSessionShows}
+use Rattle.book.specs.WholeFiles.{IsRight, Whole, receivedEach, TrueFigures, AllAccepted, FileAccepted, FilePosted, FreshSessionAccepts, FreshSessionShows}
 use Rattle.book.proofs.Shown.{count-paid, sum-paid}
 
 -- a record that is right and expected meets the session

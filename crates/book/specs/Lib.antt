@@ -1,4 +1,5 @@
 pub mod Books
 pub mod Promises
 pub mod WholeFiles
+pub mod Runs
 pub mod Samples

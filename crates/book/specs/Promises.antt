@@ -15,9 +15,7 @@ use Rattle.layout.specs.declared.Record.the-variants.{Trailer}
 use Rattle.layout.specs.Layouts.{namedBy}
 use Rattle.record.specs.Records.{recordAnswer}
 use Rattle.record.specs.Values.{trailerOf}
-use Rattle.board.specs.declared.Board.{Board}
 use Rattle.board.specs.declared.Lane.{Lane}
-use Rattle.board.specs.declared.Tally.{Tally}
 use Rattle.board.specs.Lanes.{mostLanes, limit, lanesFrom, sumBy, each, issuersOf, appearing, Distinct}
 use Rattle.board.specs.Boards.{lanesOf, Sound}
 use Rattle.session.specs.declared.Session.{Session}
@@ -112,8 +110,8 @@ TotalsAreTheRecords =
     (steps : List Step)
     → reached steps .shown .total ≡ record { payments = length (acceptedRecords steps); centavos = receivedIn (acceptedRecords steps) }
 
-abbrev pub NoIssuerTwice : Type 0
-NoIssuerTwice = (steps : List Step) → Distinct (issuersOf (shownLanes steps))
+abbrev pub NoIssuerHasTwoLanes : Type 0
+NoIssuerHasTwoLanes = (steps : List Step) → Distinct (issuersOf (shownLanes steps))
 
 abbrev pub WithinLimits : Type 0
 WithinLimits =
@@ -141,6 +139,13 @@ OnlyTrailersShow = (s : Session) (rec : List ℕ) → (namedBy (getD rec 0 0) �
 abbrev pub TrailersShowAll : Type 0
 TrailersShowAll =
     (s : Session) (rec : List ℕ) → namedBy (getD rec 0 0) ≡ Is Trailer → takeOf s rec .answer ≡ Accepted → takeOf s rec .session .shown ≡ s .work
+
+abbrev pub NoTrailer : Step → Type 0
+NoTrailer (taking rec) = namedBy (getD rec 0 0) ≡ Is Trailer → ⊥
+NoTrailer abandoning = Unit {0}
+
+abbrev pub NothingShowsBefore : Type 0
+NothingShowsBefore = (s : Session) (steps : List Step) → Each NoTrailer steps → sessionAfter s steps .shown ≡ s .shown
 
 -- an abandoned file leaves the board as it was; with no file open nothing changes
 abbrev pub AbandonKeepsBoard : Type 0

@@ -1,5 +1,5 @@
 -- P11, P12 and the worked file of document 01, a day past 32 bits, and the turns of a session, each from a fresh one. Assumes nothing.
-use Prim.Native.Nat.{ℕ}
+use Prim.Native.Nat.{ℕ, zero, suc, _+_}
 use mathlib.Core.List.{List, [], _∷_, _++_, map}
 use mathlib.Core.Path.{_≡_}
 use lib.ListN.{replicate}
@@ -7,6 +7,7 @@ use Rattle.answer.specs.declared.Answer.{Answer}
 use Rattle.answer.specs.Refusals.{answerNumber, answerPlace}
 use Rattle.decimal.specs.Numbers.{digitsOf}
 use Rattle.barcode.specs.declared.Issuer.{Issuer}
+use Rattle.barcode.specs.Building.{builtOf}
 use Rattle.record.specs.Kinds.{version, serviceOf}
 use Rattle.board.specs.declared.Tally.{Tally}
 use Rattle.board.specs.declared.Lane.{Lane}
@@ -31,11 +32,18 @@ code = digitsOf 44 81770000000_01093659970_41131079703_00143370831
 abbrev pub issuer : Issuer
 issuer = record { segment = 1; number = 3659 }
 
-abbrev pub payment : ℕ → List ℕ
-payment received =
+abbrev pub paymentBy : List ℕ → ℕ → List ℕ
+paymentBy barcode received =
     71 ∷ blanks 20
-    ++ (digitsOf 8 20230102 ++ (digitsOf 8 20230103 ++ (code ++ (digitsOf 12 received ++ (digitsOf 7 0 ++ (digitsOf 8 1
+    ++ (digitsOf 8 20230102 ++ (digitsOf 8 20230103 ++ (barcode ++ (digitsOf 12 received ++ (digitsOf 7 0 ++ (digitsOf 8 1
     ++ (blanks 8 ++ (49 ∷ blanks 23 ++ (49 ∷ blanks 9)))))))))
+
+abbrev pub payment : ℕ → List ℕ
+payment received = paymentBy code received
+
+-- a payment to any issuer, with a barcode of kind 7, value and free field zero
+abbrev pub paymentTo : Issuer → ℕ → List ℕ
+paymentTo i received = paymentBy (builtOf i 7 0 (digitsOf 25 0)) received
 
 abbrev pub trailer : ℕ → ℕ → List ℕ
 trailer count total = 90 ∷ digitsOf 6 count ++ (digitsOf 17 total ++ blanks 126)
@@ -162,8 +170,39 @@ astray =
 abbrev pub empty : Sample
 empty = record { steps = []; outcome = nothing [] accepted }
 
+-- code 3659 in segments 1 and 2 is two issuers; lanes stand in the order of first appearance, an abandoned file's have none
+abbrev pub two : Issuer
+two = record { segment = 2; number = 3659 }
+
+abbrev pub ordered : Sample
+ordered =
+    record {
+      steps =
+          taking header ∷ taking (payment 5) ∷ abandoning
+          ∷ taking header ∷ taking (paymentTo two 10) ∷ taking (payment 20) ∷ taking (paymentTo two 30) ∷ taking (trailer 5 60) ∷ [];
+      outcome =
+          record {
+            answers = accepted ∷ accepted ∷ accepted ∷ accepted ∷ accepted ∷ accepted ∷ accepted ∷ [];
+            finish = accepted;
+            lanes = record { issuer = two; tally = tally 2 40 } ∷ record { issuer = issuer; tally = tally 1 20 } ∷ [];
+            total = tally 3 60;
+          };
+    }
+
+-- 64 issuers, then a 65th, refused 17 at 53, then the first again
+abbrev pub issuers : ℕ → ℕ → List Step
+issuers zero n = []
+issuers (suc left) n = taking (paymentTo (record { segment = 1; number = n }) 1) ∷ issuers left (n + 1)
+
+abbrev pub crowded : Sample
+crowded =
+    record {
+      steps = taking header ∷ (issuers 65 1 ++ issuers 1 1);
+      outcome = nothing (replicate 65 accepted ++ (record { number = 17; place = 53 } ∷ accepted ∷ [])) (record { number = 19; place = 0 });
+    }
+
 abbrev pub samples : List Sample
-samples = p11 ∷ p12Right ∷ p12Wrong ∷ worked ∷ past ∷ again ∷ left ∷ astray ∷ empty ∷ []
+samples = p11 ∷ p12Right ∷ p12Wrong ∷ worked ∷ past ∷ again ∷ left ∷ astray ∷ empty ∷ ordered ∷ crowded ∷ []
 
 -- Promise: each sample comes out as it is said to.
 abbrev pub Hold : List Sample → Type 0

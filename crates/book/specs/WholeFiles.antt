@@ -17,7 +17,7 @@ use Rattle.record.specs.Values.{paymentOf, trailerOf}
 use Rattle.file.specs.Files.{mostPayments, mostCentavos, freshFile, fileAnswers}
 use Rattle.board.specs.declared.Board.{Board}
 use Rattle.board.specs.Lanes.{mostLanes, lanesFrom}
-use Rattle.board.specs.Boards.{freshBoard, postAnswers, boardWithAll}
+use Rattle.board.specs.Boards.{postAnswers, boardWithAll}
 use Rattle.session.specs.Sessions.{freshSession, closedAt}
 use Rattle.book.specs.Books.{paidIn, receivedIn, Step, taking}
 use Rattle.book.specs.Promises.{sessionAfter, answersOf, reached, shownLanes}

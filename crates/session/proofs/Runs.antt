@@ -16,8 +16,9 @@ use Rattle.record.specs.Values.{decodeOf}
 use Rattle.session.specs.declared.Session.{Session}
 use Rattle.session.specs.declared.Ran.{Ran}
 use Rattle.session.specs.declared.Took.{Took}
+use Rattle.session.specs.declared.Paid.{Paid}
 use Rattle.session.specs.Sessions.{takeAnswer, follows, takeOf}
-use Rattle.session.specs.Runs.{piecesUpTo, piecesOf, closedBy, ranOut, after, runOf}
+use Rattle.session.specs.Runs.{piecesUpTo, piecesOf, closedBy, ranOut, after, runOf, withPaid, PaidOf}
 
 -- more fuel than bytes changes nothing
 fuel : (n m : ℕ) (bytes : List ℕ) → length bytes ≤ n → length bytes ≤ m → piecesUpTo n bytes ≡ piecesUpTo m bytes
@@ -81,10 +82,18 @@ after-none r = rw (zero-add (r .records), zero-add (r .files))
 pub after-out : (records files : ℕ) (a : Answer) (s : Session) → _≡_ {A = Ran} (record { answer = a; session = s; records = records; files = files }) (after records files (ranOut a s))
 after-out records files a s = rw (add-zero records, add-zero files)
 
--- The loop at an index, after so many records and files: it stops there, it goes on behind the piece, or nothing is left.
+-- The loop at an index, after so many records and files: nothing is left, it goes on behind payments, it stops, or it goes on behind a piece.
 module _ (self s : Session) (bytes : List ℕ) (at records files : ℕ) (inv : after records files (runOf s (drop at bytes)) ≡ runOf self bytes) where
   pub run-ends : length bytes ≤ at → _≡_ {A = Ran} (record { answer = Accepted; session = s; records = records; files = files }) (runOf self bytes)
   run-ends h = after-out records files Accepted s ∙ (rw (drop-of-length-le bytes h) at inv)
+
+  pub run-paid : {p : Paid} → PaidOf s (take (length bytes - at) (drop at bytes)) p → after (records + p .records) files (runOf (withPaid s p) (drop (at + p .at) bytes)) ≡ runOf self bytes
+  run-paid {p} h =
+      let r = runOf (withPaid s p) (drop (p .at) (drop at bytes)) in
+      let whole : take (length bytes - at) (drop at bytes) ≡ drop at bytes = take-all (length bytes - at) (drop at bytes) (omega (arith, length-drop at bytes)) in
+      let rest : after (p .records) 0 r ≡ runOf s (drop at bytes) = rw whole at (h .rest) in
+      let none : after records files (after (p .records) 0 r) ≡ after (records + p .records) files r = after-after records files (p .records) 0 r ∙ rw (add-zero files) in
+      rw (← drop-drop (p .at) at bytes) (sym none ∙ ap (after records files) rest ∙ inv)
 
   module _ (inside : at < length bytes) {end : ℕ} (e : end ≡ at + min recordLength (length bytes - at)) {t : Took} (took : t ≡ takeOf s (take (end - at) (drop at bytes))) where
     more : 0 < length (drop at bytes)

@@ -1,6 +1,7 @@
 -- Many records of one lent slice, taken one by one until the first refusal. Assumes nothing.
-use Prim.Native.Nat.{ℕ, zero, suc, _+_}
+use Prim.Native.Nat.{ℕ, zero, suc, _+_, _≤_}
 use mathlib.Core.List.{List, [], _∷_}
+use mathlib.Core.Path.{_≡_}
 use lib.ListN.{length, getD, take, drop}
 use Rattle.answer.specs.declared.Answer.{Answer}
 use Rattle.answer.specs.declared.Answer.the-variants.{Accepted, Refused}
@@ -11,6 +12,7 @@ use Rattle.layout.specs.Layouts.{recordLength, namedBy}
 use Rattle.record.specs.Values.{decodeOf}
 use Rattle.session.specs.declared.Session.{Session}
 use Rattle.session.specs.declared.Ran.{Ran}
+use Rattle.session.specs.declared.Paid.{Paid}
 use Rattle.session.specs.Sessions.{takeAnswer, follows}
 
 -- records follow each other with nothing between them; a short last piece is a record of wrong length
@@ -49,3 +51,13 @@ runAll s (r ∷ rs) = unlessRefused (takeAnswer s r) s (after 1 (closedBy (named
 
 abbrev pub runOf : Session → List ℕ → Ran
 runOf s bytes = runAll s (piecesOf bytes)
+
+-- the session with what payments left of its working board and its file
+abbrev pub withPaid : Session → Paid → Session
+withPaid s p = record { shown = s .shown; work = p .work; opened = s .opened; file = p .file }
+
+-- payments at the front were taken: the run goes on behind them
+pub record PaidOf (s : Session) (bytes : List ℕ) (p : Paid) : Type 0 where
+  pub within : p .at ≤ length bytes
+  pub few : p .records ≤ p .at
+  pub rest : after (p .records) 0 (runOf (withPaid s p) (drop (p .at) bytes)) ≡ runOf s bytes

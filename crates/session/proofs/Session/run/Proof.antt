@@ -4,8 +4,8 @@ use mathlib.Core.Path.{_≡_, ap, _∙_}
 use native.Mathlib.Omega.{arith}
 use borrow.Author.Needs.{needs}
 use lib.ListN.{length, drop}
-use Rattle.session.proofs.Runs.{after-none, run-stops, run-goes, run-ends}
-use Rattle.session.specs.Runs.{closedBy, after, runOf}
+use Rattle.session.proofs.Runs.{after-none, run-paid, run-stops, run-goes, run-ends}
+use Rattle.session.specs.Runs.{closedBy, after, runOf, withPaid}
 use Rattle.session.proofs.Session.run.Statement.{statement}
 use Rattle.session.proofs.Session.run.Tie as tie
 
@@ -18,6 +18,31 @@ abbrev μ-loop : tie.MeasureT-loop
 
 loop-holds : tie.Need-loop-holds Inv-loop μ-loop
 loop-holds c = (search needs, search needs, search needs, after-none (runOf (c .before .args .self) (c .before .args .bytes .now)))
+
+sub-pay-on : tie.Need-sub-pay-on Inv-loop μ-loop
+sub-pay-on c = search needs
+
+part-pay-on-start : tie.Need-part-pay-on-start Inv-loop μ-loop
+part-pay-on-start c = search needs
+
+part-pay-on-end : tie.Need-part-pay-on-end Inv-loop μ-loop
+part-pay-on-end c = search needs
+
+pay-on-requires : tie.Need-pay-on-requires Inv-loop μ-loop
+pay-on-requires c κs = search needs
+
+add-records : tie.Need-add-records Inv-loop μ-loop
+add-records c = search needs
+
+add-at : tie.Need-add-at Inv-loop μ-loop
+add-at c = search needs
+
+returns : tie.Need-returns Inv-loop μ-loop
+returns c =
+    let paid = c .before .before .before .before .before .pay-on in
+    let l = c .before .before .before .before .before .before .before .loop in
+    let a = c .before .before .before .before .before .before .before .before .before .args in
+    run-ends (a .self) (withPaid (l .session) (paid .result)) (a .bytes .now) _ _ _ (run-paid (a .self) (l .session) (a .bytes .now) (l .at) (l .records) (l .files) (l .inv .3) (paid .ensures)) (c .if1 .taken)
 
 piece-end-requires : tie.Need-piece-end-requires Inv-loop μ-loop
 piece-end-requires c κs = search needs
@@ -40,8 +65,13 @@ enum-told c = search needs
 enum-told-2 : tie.Need-enum-told-2 Inv-loop μ-loop
 enum-told-2 c = search needs
 
-returns : tie.Need-returns Inv-loop μ-loop
-returns c = run-stops (c .before .before .before .before .before .before .before .before .args .self) (c .before .before .before .before .before .before .loop .session) (c .before .before .before .before .before .before .before .before .args .bytes .now) (c .before .before .before .before .before .before .loop .at) (c .before .before .before .before .before .before .loop .records) (c .before .before .before .before .before .before .loop .files) (c .before .before .before .before .before .before .loop .inv .3) (c .before .before .before .before .before .loop-test .taken) (c .before .before .before .before .piece-end .ensures .0) (c .before .before .take .ensures) (c .enum-told2 .given .1)
+returns-2 : tie.Need-returns-2 Inv-loop μ-loop
+returns-2 c =
+    let paid = c .before .before .before .before .before .before .before .before .before .before .pay-on in
+    let l = c .before .before .before .before .before .before .before .before .before .before .before .before .loop in
+    let a = c .before .before .before .before .before .before .before .before .before .before .before .before .before .before .args in
+    run-stops (a .self) (withPaid (l .session) (paid .result)) (a .bytes .now) _ _ _ (run-paid (a .self) (l .session) (a .bytes .now) (l .at) (l .records) (l .files) (l .inv .3) (paid .ensures))
+    (c .before .before .before .before .before .if1 .left) (c .before .before .before .before .piece-end .ensures .0) (c .before .before .take .ensures) (c .enum-told2 .given .1)
 
 shared-slice-read-named-by : tie.Need-shared-slice-read-named-by Inv-loop μ-loop
 shared-slice-read-named-by c = search needs
@@ -53,27 +83,32 @@ files-closed-requires : tie.Need-files-closed-requires Inv-loop μ-loop
 files-closed-requires c κs = search needs
 
 add-files : tie.Need-add-files Inv-loop μ-loop
-add-files c = search needs
+add-files c =
+    let cut = c .before .before .before .before .before .before .before .before in
+    let l = cut .before .before .before .before .before .before .before .before .loop in
+    omega (arith, cut .piece-end .ensures .1, cut .piece-end .ok, l .inv .1, l .inv .2, c .files-closed .ensures .1)
 
-add-records : tie.Need-add-records Inv-loop μ-loop
-add-records c = search needs
+add-records-2 : tie.Need-add-records-2 Inv-loop μ-loop
+add-records-2 c =
+    let cut = c .before .before .before .before .before .before .before .before in
+    omega (arith, cut .piece-end .ensures .1, cut .piece-end .ok, cut .before .before .before .before .before .before .before .before .loop .inv .1, cut .before .before .before .before .before .before .pay-on .ensures .few)
 
 loop-less : tie.Need-loop-less Inv-loop μ-loop
 loop-less c = search needs
 
 loop-again : tie.Need-loop-again Inv-loop μ-loop
 loop-again c =
-    let l = c .before .before .before .before .before .before .before .before .before .before .loop in
-    let e = c .before .before .before .before .before .before .before .before .piece-end .ensures in
-    let small = c .files-closed .ensures .1 in (
+    let cut = c .before .before .before .before .before .before .before .before in
+    let e = cut .piece-end .ensures in
+    let paid = cut .before .before .before .before .before .before .pay-on in
+    let l = cut .before .before .before .before .before .before .before .before .loop in
+    let a = cut .before .before .before .before .before .before .before .before .before .before .args in (
       e .2,
-      omega arith,
-      omega arith,
-      run-goes (c .before .before .before .before .before .before .before .before .before .before .before .before .args .self) (c .before .before .before .before .before .before .before .before .before .before .loop .session) (c .before .before .before .before .before .before .before .before .before .before .before .before .args .bytes .now) (c .before .before .before .before .before .before .before .before .before .before .loop .at) (c .before .before .before .before .before .before .before .before .before .before .loop .records) (c .before .before .before .before .before .before .before .before .before .before .loop .files) (c .before .before .before .before .before .before .before .before .before .before .loop .inv .3) (c .before .before .before .before .before .before .before .before .before .loop-test .taken) (e .0) (c .before .before .before .before .before .before .take .ensures) (c .before .before .before .before .enum-told .given .1) (c .files-closed .ensures .0 ∙ ap closedBy (c .before .named-by .ensures)),
+      omega (arith, e .1, paid .ensures .few, l .inv .1),
+      omega (arith, c .files-closed .ensures .1, l .inv .2),
+      run-goes (a .self) (withPaid (l .session) (paid .result)) (a .bytes .now) _ _ _ (run-paid (a .self) (l .session) (a .bytes .now) (l .at) (l .records) (l .files) (l .inv .3) (paid .ensures))
+          (cut .before .if1 .left) (e .0) (c .before .before .before .before .before .before .take .ensures) (c .before .before .before .before .enum-told .given .1) (c .files-closed .ensures .0 ∙ ap closedBy (c .before .named-by .ensures)),
     )
-
-returns-2 : tie.Need-returns-2 Inv-loop μ-loop
-returns-2 c = run-ends (c .before .before .before .args .self) (c .before .loop .session) (c .before .before .before .args .bytes .now) (c .before .loop .at) (c .before .loop .records) (c .before .loop .files) (c .before .loop .inv .3) (c .loop-test .left)
 
 pub run-spec : {M : Type 1} → statement M
 run-spec =
@@ -82,6 +117,13 @@ run-spec =
     Inv-loop
     μ-loop
     loop-holds
+    sub-pay-on
+    part-pay-on-start
+    part-pay-on-end
+    pay-on-requires
+    add-records
+    add-at
+    returns
     piece-end-requires
     sub-take
     part-take-start
@@ -89,12 +131,11 @@ run-spec =
     take-requires
     enum-told
     enum-told-2
-    returns
+    returns-2
     shared-slice-read-named-by
     named-by-requires
     files-closed-requires
     add-files
-    add-records
+    add-records-2
     loop-less
-    loop-again
-    returns-2)
+    loop-again)
