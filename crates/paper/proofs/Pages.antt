@@ -75,9 +75,9 @@ printed-holds page old h =
     rw (eq-eqb (length old) pageLength h) (refl, take-append-seam page (drop (length page) old), drop-append-seam page (drop (length page) old))
 
 pub printed : (page l : List ℕ) {next : ℕ} {q : List ℕ} → length l ≡ pageLength → Wrote pageLength 0 page l next q
-    → (record { answer = Accepted; length = next } ≡ printedOf page l) × (q ≡ bytesWith page l)
+    → (record { answer = Accepted; length = next } ≡ printedOf page l) × ((q ≡ bytesWith page l) × (next ≤ pageLength))
 printed page l h w =
     let z : 0 + length page ≡ length page = omega arith in
     let n = w .ends ∙ z in
     let q = w .bytes ∙ put-fits 0 page l (omega (arith, w .few)) in
-    rw (eq-eqb (length l) pageLength h) (rw n refl, rw z at q)
+    rw (eq-eqb (length l) pageLength h) (rw n refl, (rw z at q, omega (arith, w .few)))

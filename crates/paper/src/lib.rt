@@ -7,7 +7,7 @@ ghost use Rattle.board.specs.Boards.{lanesOf};
 ghost use Rattle.decimal.specs.Places.{widthOf};
 ghost use Rattle.barcode.specs.Codes.{issuer};
 ghost use Rattle.paper.specs.Plain.{needed, shown, mostDigits};
-ghost use Rattle.paper.specs.Pages.{numberLine, issuerLine, tallyLines, laneLines, lanesLines, headLines, pageOf, mostHead, mostLane, printedOf, bytesWith, Wrote};
+ghost use Rattle.paper.specs.Pages.{numberLine, issuerLine, tallyLines, laneLines, lanesLines, headLines, pageOf, mostHead, mostLane, pageLength, printedOf, bytesWith, Wrote};
 use answer::Answer;
 use answer::Reason;
 use barcode::Issuer;
@@ -154,6 +154,7 @@ fn put_head(answer: Answer, records: u64, files: u64, board: Board, out: &mut [u
 pub fn print(answer: Answer, records: u64, files: u64, board: Board, out: &mut [u8]) -> Printed
     ensures { λ r. ⌜ r ≡ printedOf (pageOf answer records files board) (now (out .entry)) ⌝ }
     ensures bytes { λ _. ⌜ now (out .exit) ≡ bytesWith (pageOf answer records files board) (now (out .entry)) ⌝ }
+    ensures few { λ r. ⌜ r .length ≤ pageLength ⌝ }
 {
     if out.len() != PAGE {
         return Printed {

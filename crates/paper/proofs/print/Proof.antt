@@ -9,7 +9,7 @@ use Rattle.paper.proofs.print.Statement.{statement}
 use Rattle.paper.proofs.print.Tie as tie
 
 returns : tie.Need-returns
-returns c = let a = c .before .before .args in let kept = wrong-buffer-keeps (pageOf (a .answer) (a .records) (a .files) (a .board)) (a .out .now) (c .if1 .taken) in (sym (kept .0), sym (kept .1))
+returns c = let a = c .before .before .args in let kept = wrong-buffer-keeps (pageOf (a .answer) (a .records) (a .files) (a .board)) (a .out .now) (c .if1 .taken) in (sym (kept .0), (sym (kept .1), omega arith))
 
 put-head-requires : tie.Need-put-head-requires
 put-head-requires c κs = search needs

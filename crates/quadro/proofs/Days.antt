@@ -1,0 +1,71 @@
+-- A run counts no more records and files than it has bytes. Assumes nothing.
+use Prim.Native.Nat.{ℕ, zero, suc, _≤_}
+use mathlib.Core.List.{List, [], _∷_}
+use mathlib.Core.Path.{_≡_, ap}
+use native.Mathlib.Omega.{arith}
+use lib.ListN.{length, getD, drop}
+use Rattle.answer.specs.declared.Reason.{Reason}
+use Rattle.answer.specs.declared.Answer.{Answer}
+use Rattle.answer.specs.declared.Answer.the-variants.{Accepted, Refused}
+use Rattle.answer.specs.Orders.{_then_}
+use Rattle.layout.specs.declared.Named.{Named}
+use Rattle.layout.specs.declared.Named.the-variants.{Is, Other}
+use Rattle.layout.specs.declared.Record.the-variants.{Header, Payment, Trailer}
+use Rattle.layout.specs.Layouts.{recordLength, namedBy}
+use Rattle.record.specs.Values.{decodeOf}
+use Rattle.session.specs.declared.Session.{Session}
+use Rattle.session.specs.declared.Took.{Took}
+use Rattle.session.specs.declared.Ran.{Ran}
+use Rattle.session.specs.Sessions.{takeAnswer, follows, finishOf}
+use Rattle.session.specs.Runs.{piecesUpTo, piecesOf, closedBy, after, unlessRefused, runAll, runOf}
+use Rattle.quadro.specs.declared.Filled.{Filled}
+use Rattle.quadro.specs.declared.Filled.the-variants.{Ended}
+use Rattle.quadro.specs.Days.{fedOf, endedOf, Counted, Within}
+
+closed-few : (n : Named) → closedBy n ≤ 1
+closed-few (Is Header) = omega arith
+closed-few (Is Payment) = omega arith
+closed-few (Is Trailer) = omega arith
+closed-few Other = omega arith
+
+one-more : (a : Answer) (s : Session) (closed n : ℕ) (next : Ran) → closed ≤ 1 → Counted n next → Counted (suc n) (unlessRefused a s (after 1 closed next))
+one-more Accepted s closed n next h c = (omega arith, omega arith)
+one-more (Refused why place) s closed n next h c = (omega arith, omega arith)
+
+all-few : (s : Session) (rs : List (List ℕ)) → Counted (length rs) (runAll s rs)
+all-few s [] = (omega arith, omega arith)
+all-few s (r ∷ rs) =
+    let named = namedBy (getD r 0 0) in
+    one-more (takeAnswer s r) s (closedBy named) (length rs) (runAll (follows s (decodeOf r)) rs) (closed-few named) (all-few (follows s (decodeOf r)) rs)
+
+pieces-few : (n : ℕ) (bytes : List ℕ) → length (piecesUpTo n bytes) ≤ n
+pieces-few zero bytes = omega arith
+pieces-few (suc n) [] = omega arith
+pieces-few (suc n) (b ∷ bytes) = let h = pieces-few n (drop recordLength (b ∷ bytes)) in omega arith
+
+pub run-few : (s : Session) (bytes : List ℕ) → Counted (length bytes) (runOf s bytes)
+run-few s bytes =
+    let all = all-few s (piecesOf bytes) in
+    let few = pieces-few (length bytes) bytes in
+    (omega (arith, all .0), omega (arith, all .1))
+
+-- What the program's steps make.
+
+pub counted : (s : Session) (bytes : List ℕ) {r : Ran} → r ≡ runOf s bytes → Counted (length bytes) r
+counted s bytes e = rw e (run-few s bytes)
+
+pub fed : (day : Ran) (bytes : List ℕ) {r : Ran} → r ≡ runOf (day .session) bytes → after (day .records) (day .files) r ≡ fedOf day bytes
+fed day bytes e = ap (after (day .records) (day .files)) e
+
+pub ended-refused : (day : Ran) {why : Reason} {place : ℕ} → day .answer ≡ Refused why place → day ≡ endedOf day
+ended-refused day e =
+    let same : day .answer ≡ (day .answer then finishOf (day .session) .answer) = rw e in
+    ap (λ (a : Answer). record { answer = a; session = day .session; records = day .records; files = day .files }) same
+
+pub ended-accepted : (day : Ran) {took : Took} → day .answer ≡ Accepted → took ≡ finishOf (day .session)
+    → record { answer = took .answer; session = day .session; records = day .records; files = day .files } ≡ endedOf day
+ended-accepted day e f = rw (e, f)
+
+-- where the input ended, the bytes fit
+pub ended : {r : Filled} {k n : ℕ} → r ≡ Ended k → Within n r → k ≤ n
+ended e w = rw e at w

@@ -1,0 +1,55 @@
+-- `quadro::take_turn` meets its contract. Assumes nothing.
+use native.Mathlib.Omega.{arith}
+use borrow.Author.Needs.{needs}
+use Rattle.quadro.proofs.Days.{ended}
+use Rattle.quadro.proofs.take_turn.Statement.{statement}
+use Rattle.quadro.proofs.take_turn.Tie as tie
+
+fill-requires : tie.Need-fill-requires
+fill-requires c κs = search needs
+
+enum-told : tie.Need-enum-told
+enum-told c = search needs
+
+feed-requires : tie.Need-feed-requires
+feed-requires c κs = search needs
+
+unless-refused-requires : tie.Need-unless-refused-requires
+unless-refused-requires c κs = search needs
+
+enum-known-n : tie.Need-enum-known-n
+enum-known-n c = search needs
+
+feed-requires-2 : tie.Need-feed-requires-2
+feed-requires-2 c κs = let fits = ended (c .before .before .before .n .given .1) (c .before .before .before .before .before .fill .ensures) in (search needs, omega (arith, fits), omega (arith, fits))
+
+end-requires : tie.Need-end-requires
+end-requires c κs = search needs
+
+enum-told-2 : tie.Need-enum-told-2
+enum-told-2 c = search needs
+
+returns : tie.Need-returns
+returns c = search needs
+
+returns-2 : tie.Need-returns-2
+returns-2 c = rw (c .end .ensures) (c .before .feed2 .ensures .1)
+
+returns-3 : tie.Need-returns-3
+returns-3 c = search needs
+
+pub take-turn-spec : {M : Type 1} → statement M
+take-turn-spec =
+    tie.close
+    (tie.spec
+    fill-requires
+    enum-told
+    feed-requires
+    unless-refused-requires
+    enum-known-n
+    feed-requires-2
+    end-requires
+    enum-told-2
+    returns
+    returns-2
+    returns-3)

@@ -1,0 +1,44 @@
+-- A day as the program takes it: its input piece by piece, and its end. Assumes nothing.
+use Prim.Native.Nat.{ℕ, _+_, _≤_}
+use mathlib.Core.List.{List}
+use Rattle.answer.specs.declared.Answer.the-variants.{Accepted}
+use Rattle.answer.specs.Orders.{_then_}
+use Rattle.session.specs.declared.Ran.{Ran}
+use Rattle.session.specs.Sessions.{freshSession, finishOf}
+use Rattle.session.specs.Runs.{ranOut, after, runOf}
+use Rattle.quadro.specs.declared.Filled.{Filled}
+use Rattle.quadro.specs.declared.Filled.the-variants.{Full, Ended, Failed}
+
+-- nothing taken
+abbrev pub fresh : Ran
+fresh = ranOut Accepted freshSession
+
+-- a piece more, taken by the session that the pieces before it left
+abbrev pub fedOf : Ran → List ℕ → Ran
+fedOf day piece = after (day .records) (day .files) (runOf (day .session) piece)
+
+-- the end of the input: 19 while a file is open, where nothing was refused
+abbrev pub endedOf : Ran → Ran
+endedOf day =
+    record { answer = day .answer then finishOf (day .session) .answer; session = day .session; records = day .records; files = day .files }
+
+-- Bounds, so that no count comes round: no more is counted than bytes were read.
+
+abbrev pub bufferLength : ℕ
+bufferLength = 65400
+
+-- 2^61
+abbrev pub most : ℕ
+most = 2_305_843_009_213_693_952
+
+abbrev pub Counted : ℕ → Ran → Type 0
+Counted n day = (day .records ≤ n) × (day .files ≤ n)
+
+abbrev pub Grown : Ran → Ran → Type 0
+Grown day next = (next .records ≤ day .records + bufferLength) × (next .files ≤ day .files + bufferLength)
+
+-- where the input ended, no more bytes came than the buffer has
+abbrev pub Within : ℕ → Filled → Type 0
+Within n Full = Unit {0}
+Within n (Ended k) = k ≤ n
+Within n Failed = Unit {0}
