@@ -1,8 +1,11 @@
 -- A day as the program takes it: its input piece by piece, and its end. Assumes nothing.
-use Prim.Native.Nat.{ℕ, _+_, _≤_}
-use mathlib.Core.List.{List}
+use Prim.Native.Nat.{ℕ, _+_, _*_, _≤_}
+use mathlib.Core.List.{List, _++_}
+use mathlib.Core.Path.{_≡_}
+use lib.ListN.{length}
 use Rattle.answer.specs.declared.Answer.the-variants.{Accepted}
 use Rattle.answer.specs.Orders.{_then_}
+use Rattle.layout.specs.Layouts.{recordLength}
 use Rattle.session.specs.declared.Ran.{Ran}
 use Rattle.session.specs.Sessions.{freshSession, finishOf}
 use Rattle.session.specs.Runs.{ranOut, after, runOf}
@@ -22,10 +25,21 @@ abbrev pub endedOf : Ran → Ran
 endedOf day =
     record { answer = day .answer then finishOf (day .session) .answer; session = day .session; records = day .records; files = day .files }
 
+-- Promise: buffers of whole records, fed one after the other, are one run over the input; behind a refusal nothing more is taken.
+abbrev pub FeedingIsOneRun : Type 0
+FeedingIsOneRun =
+    (day : Ran) (n : ℕ) (front rest : List ℕ) → length front ≡ n * recordLength
+    → (fedOf day front .answer ≡ Accepted → fedOf (fedOf day front) rest ≡ fedOf day (front ++ rest))
+    × ((fedOf day front .answer ≡ Accepted → ⊥) → fedOf day (front ++ rest) ≡ fedOf day front)
+
 -- Bounds, so that no count comes round: no more is counted than bytes were read.
 
 abbrev pub bufferLength : ℕ
 bufferLength = 65400
+
+-- Promise: a full buffer is 436 whole records.
+abbrev pub FullBufferIsWhole : Type 0
+FullBufferIsWhole = bufferLength ≡ 436 * recordLength
 
 -- 2^61
 abbrev pub most : ℕ

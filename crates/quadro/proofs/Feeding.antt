@@ -1,0 +1,113 @@
+-- Buffers of whole records, fed one after the other, are one run over the input. Assumes nothing.
+use Prim.Native.Nat.{ℕ, zero, suc, _+_, _*_, _≤_, _<_}
+use mathlib.Core.List.{List, [], _∷_, _++_}
+use mathlib.Core.Path.{_≡_, refl, sym, ap, _∙_}
+use native.Mathlib.Omega.{arith}
+use lib.ListN.{length, getD, take, drop, length-drop, length-append}
+use lib.Seq.{take-append-le, drop-append-le}
+use Rattle.answer.specs.declared.Reason.{Reason}
+use Rattle.answer.specs.declared.Answer.{Answer}
+use Rattle.answer.specs.declared.Answer.the-variants.{Accepted, Refused}
+use Rattle.answer.proofs.Orders.{not-both}
+use Rattle.layout.specs.Layouts.{recordLength, namedBy}
+use Rattle.record.specs.Values.{decodeOf}
+use Rattle.session.specs.declared.Session.{Session}
+use Rattle.session.specs.declared.Ran.{Ran}
+use Rattle.session.specs.Sessions.{takeAnswer, follows}
+use Rattle.session.specs.Runs.{closedBy, ranOut, after, runOf}
+use Rattle.session.proofs.Runs.{run-refused, run-on, after-after, after-none}
+use Rattle.quadro.specs.Days.{fedOf, FeedingIsOneRun, FullBufferIsWhole}
+
+-- the run over what is left behind a run
+abbrev behind : Ran → List ℕ → Ran
+behind r rest = after (r .records) (r .files) (runOf (r .session) rest)
+
+-- a front of at least one record, and the rest behind it
+module _ (s : Session) (front rest : List ℕ) (whole : recordLength ≤ length front) where
+  abbrev piece : List ℕ
+  piece = take recordLength front
+
+  abbrev next : Session
+  next = follows s (decodeOf piece)
+
+  abbrev closed : ℕ
+  closed = closedBy (namedBy (getD piece 0 0))
+
+  abbrev front-left : List ℕ
+  front-left = drop recordLength front
+
+  more : 0 < length front
+  more = omega arith
+
+  more-on : 0 < length (front ++ rest)
+  more-on = let l = length-append front rest in omega arith
+
+  same-piece : take recordLength (front ++ rest) ≡ piece
+  same-piece = take-append-le recordLength front rest whole
+
+  goes : takeAnswer s piece ≡ Accepted → runOf s front ≡ after 1 closed (runOf next front-left)
+  goes e = run-on s front more e
+
+  goes-on : takeAnswer s piece ≡ Accepted → runOf s (front ++ rest) ≡ after 1 closed (runOf next (front-left ++ rest))
+  goes-on e =
+      let h : takeAnswer s (take recordLength (front ++ rest)) ≡ Accepted = ap (takeAnswer s) same-piece ∙ e in
+      run-on s (front ++ rest) more-on h
+      ∙ ap (λ (r : List ℕ). after 1 (closedBy (namedBy (getD r 0 0))) (runOf (follows s (decodeOf r)) (drop recordLength (front ++ rest)))) same-piece
+      ∙ ap (λ (l : List ℕ). after 1 closed (runOf next l)) (drop-append-le recordLength front rest whole)
+
+  module _ {why : Reason} {p : ℕ} (e : takeAnswer s piece ≡ Refused why p) where
+    stops : runOf s front ≡ ranOut (takeAnswer s piece) s
+    stops = run-refused s front more refl e
+
+    stops-too : runOf s (front ++ rest) ≡ ranOut (takeAnswer s piece) s
+    stops-too = run-refused s (front ++ rest) more-on (ap (takeAnswer s) (sym same-piece)) e
+
+  join-piece : (x : Answer) → takeAnswer s piece ≡ x
+      → (runOf next front-left .answer ≡ Accepted → runOf next (front-left ++ rest) ≡ behind (runOf next front-left) rest)
+      → runOf s front .answer ≡ Accepted → runOf s (front ++ rest) ≡ behind (runOf s front) rest
+  join-piece Accepted e on a =
+      let r = runOf next front-left in
+      let g = goes e in
+      goes-on e ∙ ap (after 1 closed) (on (ap (λ (x : Ran). x .answer) (sym g) ∙ a))
+      ∙ after-after 1 closed (r .records) (r .files) (runOf (r .session) rest) ∙ ap (λ (x : Ran). behind x rest) (sym g)
+  join-piece (Refused why p) e on a = not-both (takeAnswer s piece) e (ap (λ (x : Ran). x .answer) (sym (stops e)) ∙ a)
+
+  end-piece : (x : Answer) → takeAnswer s piece ≡ x
+      → ((runOf next front-left .answer ≡ Accepted → ⊥) → runOf next (front-left ++ rest) ≡ runOf next front-left)
+      → (runOf s front .answer ≡ Accepted → ⊥) → runOf s (front ++ rest) ≡ runOf s front
+  end-piece Accepted e on a =
+      let g = goes e in
+      goes-on e ∙ ap (after 1 closed) (on (λ (b : runOf next front-left .answer ≡ Accepted). a (ap (λ (x : Ran). x .answer) g ∙ b))) ∙ sym g
+  end-piece (Refused why p) e on a = stops-too e ∙ sym (stops e)
+
+left : (n : ℕ) (front : List ℕ) → length front ≡ suc n * recordLength → length (drop recordLength front) ≡ n * recordLength
+left n front h = let l = length-drop recordLength front in omega arith
+
+joins : (n : ℕ) (s : Session) (front rest : List ℕ) → length front ≡ n * recordLength → runOf s front .answer ≡ Accepted
+    → runOf s (front ++ rest) ≡ behind (runOf s front) rest
+joins zero s [] rest h a = sym (after-none (runOf s rest))
+joins zero s (b ∷ front) rest h a = absurd (omega arith)
+joins (suc n) s front rest h a =
+    join-piece s front rest (omega arith) (takeAnswer s (take recordLength front)) refl
+    (joins n (follows s (decodeOf (take recordLength front))) (drop recordLength front) rest (left n front h)) a
+
+ends : (n : ℕ) (s : Session) (front rest : List ℕ) → length front ≡ n * recordLength → (runOf s front .answer ≡ Accepted → ⊥)
+    → runOf s (front ++ rest) ≡ runOf s front
+ends zero s [] rest h a = absurd (a refl)
+ends zero s (b ∷ front) rest h a = absurd (omega arith)
+ends (suc n) s front rest h a =
+    end-piece s front rest (omega arith) (takeAnswer s (take recordLength front)) refl
+    (ends n (follows s (decodeOf (take recordLength front))) (drop recordLength front) rest (left n front h)) a
+
+pub feeding-is-one-run : FeedingIsOneRun
+feeding-is-one-run day n front rest h =
+    let r = runOf (day .session) front in (
+      λ (a : fedOf day front .answer ≡ Accepted).
+          sym
+          (ap (after (day .records) (day .files)) (joins n (day .session) front rest h a)
+          ∙ after-after (day .records) (day .files) (r .records) (r .files) (runOf (r .session) rest)),
+      λ (a : fedOf day front .answer ≡ Accepted → ⊥). ap (after (day .records) (day .files)) (ends n (day .session) front rest h a),
+    )
+
+pub full-buffer-is-whole : FullBufferIsWhole
+full-buffer-is-whole = refl
