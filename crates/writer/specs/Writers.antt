@@ -12,7 +12,8 @@ use Rattle.answer.specs.Orders.{asked, _then_, kept}
 use Rattle.decimal.specs.Numbers.{digitsOf}
 use Rattle.layout.specs.declared.Record.{Record}
 use Rattle.layout.specs.declared.Record.the-variants.{Header, Payment, Trailer}
-use Rattle.layout.specs.Layouts.{recordLength, layoutOf, givenLength}
+use Rattle.layout.specs.Layouts.{recordLength, layoutOf, givenLength, joinedOf}
+use Rattle.record.specs.Records.{recordAnswer}
 use Rattle.record.specs.Making.{madeOf, makeAnswer}
 use Rattle.file.specs.declared.File.{File}
 use Rattle.file.specs.Files.{freshFile, fileAnswer, fileWith, figuresOf, closingAnswer}
@@ -82,6 +83,14 @@ trailerOf w room = wrote (trailerAnswer w room) (record { stage = Closed; file =
 abbrev pub trailerBytes : Writer → List ℕ
 trailerBytes w = madeOf (layoutOf Trailer) (countBytes w) (figuresOf (w .file) .total ∷ 0 ∷ [])
 
--- Promises: a refusal leaves the writer as it was.
+-- Promises.
+
+-- what was written is a record that is accepted alone, and its field bytes are those that were given
+abbrev pub WrittenIsAccepted : Type 0
+WrittenIsAccepted =
+    (r : Record) (given amounts : List ℕ) (room : ℕ) → makeAnswer r given amounts room ≡ Accepted
+    → (recordAnswer (madeOf (layoutOf r) given amounts) ≡ Accepted) × (joinedOf r (madeOf (layoutOf r) given amounts) ≡ given)
+
+-- a refusal leaves the writer as it was
 abbrev pub RefusalKeepsWriter : Type 0
 RefusalKeepsWriter = (a : Answer) (new old : Writer) → (a ≡ Accepted → ⊥) → wrote a new old .writer ≡ old
