@@ -1,24 +1,32 @@
 -- What the writer wrote is an accepted record with the field bytes it was given. Assumes nothing.
-use Prim.Native.Nat.{ℕ}
-use mathlib.Core.Bool.{true, _&&_, and-eq-true-iff}
-use mathlib.Core.List.{List}
-use mathlib.Core.Path.{_≡_, refl, ap, _∙_}
-use borrow.Author.Tests.{eqb-true}
-use lib.Dec.{eqb}
-use lib.ListN.{length, getD}
-use Rattle.answer.specs.declared.Reason.the-variants.{WrongLength}
+use Prim.Native.Nat.{ℕ, _+_, _-_}
+use mathlib.Core.Bool.{Bool, true, _&&_, and-eq-true-iff}
+use mathlib.Core.List.{List, [], _∷_}
+use mathlib.Core.Path.{_≡_, refl, sym, ap, _∙_}
+use native.Mathlib.Omega.{arith}
+use borrow.Author.Tests.{eqb-true, leb-true, eq-eqb}
+use lib.Dec.{eqb, leb}
+use lib.ListN.{length, getD, drop, length-append, length-drop}
+use lib.Seq.{length-take-le}
+use Rattle.answer.specs.declared.Reason.the-variants.{WrongLength, NotExpected}
 use Rattle.answer.specs.declared.Answer.the-variants.{Accepted}
 use Rattle.answer.specs.Orders.{asked, _then_}
 use Rattle.answer.proofs.Orders.{asked-accepts, then-accepts}
+use Rattle.decimal.specs.Places.{Stretch, widthOf, partAt, gather}
 use Rattle.layout.specs.declared.Named.{Named}
+use Rattle.layout.specs.declared.Named.the-variants.{Is}
 use Rattle.layout.specs.declared.Record.{Record}
 use Rattle.layout.specs.declared.Record.the-variants.{Header, Payment, Trailer}
-use Rattle.layout.specs.Layouts.{recordLength, markOf, namedBy, layoutOf, givenLength, joinedOf}
+use Rattle.layout.specs.Layouts.{recordLength, markOf, namedBy, layoutOf, planOf, widthsOf, givenLength, joinedOf, rowAt, table}
 use Rattle.layout.proofs.Layouts.{mark-names}
 use Rattle.record.specs.Records.{bodyAnswer, namedAnswer, recordAnswer}
-use Rattle.record.specs.Making.{madeOf, makingAnswer, makeAnswer}
-use Rattle.record.proofs.Trips.{made-is-accepted}
-use Rattle.writer.specs.Writers.{WrittenIsAccepted}
+use Rattle.record.specs.Values.{paymentOf}
+use Rattle.record.specs.Making.{amountsIn, madeOf, makingAnswer, makeAnswer}
+use Rattle.record.proofs.Shown.{accepted-is}
+use Rattle.record.proofs.Trips.{fields-make-the-record, made-is-accepted}
+use Rattle.file.specs.Files.{fileAnswer}
+use Rattle.writer.specs.declared.Writer.{Writer}
+use Rattle.writer.specs.Writers.{freshWriter, expects, doorAnswer, WrittenIsAccepted, FieldsWriteTheHeader, FieldsWriteThePayment}
 
 first-byte : (r : Record) (given amounts : List ℕ) → getD (madeOf (layoutOf r) given amounts) 0 0 ≡ markOf r
 unfolding layoutOf
@@ -44,3 +52,85 @@ written-is-accepted r given amounts room e =
     let n = eqb-true (length given) (givenLength r) (and-eq-true-iff (eqb room recordLength) (eqb (length given) (givenLength r)) .0 t .1) in
     let made = made-is-accepted r given amounts n (both .1) in
     (accepted r (madeOf (layoutOf r) given amounts) (made .0) (first-byte r given amounts) (made .1), made .2)
+
+-- The field bytes of a record are as many as the writer is given.
+
+abbrev inside : ℕ → List Stretch → Bool
+inside n [] = true
+inside n (s ∷ plan) = leb (s .first - 1 + widthOf s) n && inside n plan
+
+gathered-length : (plan : List Stretch) (l : List ℕ) → inside (length l) plan ≡ true → length (gather plan l) ≡ widthsOf plan
+gathered-length [] l t = refl
+gathered-length (s ∷ plan) l t =
+    let both = and-eq-true-iff (leb (s .first - 1 + widthOf s) (length l)) (inside (length l) plan) .0 t in
+    let in-it = leb-true (s .first - 1 + widthOf s) (length l) (both .0) in
+    let part : length (partAt s l) ≡ widthOf s = length-take-le (widthOf s) (drop (s .first - 1) l) (omega (arith, length-drop (s .first - 1) l)) in
+    length-append (partAt s l) (gather plan l) ∙ rw (part, gathered-length plan l (both .1))
+
+lies-inside : (r : Record) → inside recordLength (planOf r) ≡ true
+unfolding layoutOf
+lies-inside Header = refl
+lies-inside Payment = refl
+lies-inside Trailer = refl
+
+joined-length : (r : Record) (rec : List ℕ) → length rec ≡ recordLength → length (joinedOf r rec) ≡ givenLength r
+unfolding givenLength
+joined-length r rec n = gathered-length (planOf r) rec (rw n (lies-inside r))
+
+-- The fields of an accepted record, with any amounts that make it as its own do.
+module _ (w : Writer) (r : Record) (rec amounts : List ℕ) (accepts : recordAnswer rec ≡ Accepted) (named : namedBy (getD rec 0 0) ≡ Is r) where
+  body : (length rec ≡ recordLength) × (bodyAnswer r rec ≡ Accepted)
+  body = let both = accepted-is rec accepts in (both .0, rw named at (both .1))
+
+  made : (makingAnswer (layoutOf r) (joinedOf r rec) (amountsIn (layoutOf r) rec) ≡ Accepted)
+      × (madeOf (layoutOf r) (joinedOf r rec) (amountsIn (layoutOf r) rec) ≡ rec)
+  made = fields-make-the-record r rec (body .0) (body .1)
+
+  lengths-right : eqb recordLength recordLength && eqb (length (joinedOf r rec)) (givenLength r) ≡ true
+  lengths-right = let n = joined-length r rec (body .0) in rw n (and-eq-true-iff (eqb recordLength recordLength) (eqb (givenLength r) (givenLength r)) .1 (refl, eq-eqb (givenLength r) (givenLength r) refl))
+
+  door-opens : expects (w .stage) r ≡ true → doorAnswer w r (length (joinedOf r rec)) recordLength ≡ Accepted
+  door-opens t =
+      then-accepts (asked (eqb recordLength recordLength && eqb (length (joinedOf r rec)) (givenLength r)) WrongLength 0) (asked (expects (w .stage) r) NotExpected 1) .1
+      (asked-accepts (eqb recordLength recordLength && eqb (length (joinedOf r rec)) (givenLength r)) WrongLength 0 .1 lengths-right, asked-accepts (expects (w .stage) r) NotExpected 1 .1 t)
+
+  makes : makingAnswer (layoutOf r) (joinedOf r rec) amounts ≡ Accepted → makeAnswer r (joinedOf r rec) amounts recordLength ≡ Accepted
+  unfolding makeAnswer
+  makes a =
+      then-accepts (asked (eqb recordLength recordLength && eqb (length (joinedOf r rec)) (givenLength r)) WrongLength 0) (makingAnswer (layoutOf r) (joinedOf r rec) amounts) .1
+      (asked-accepts (eqb recordLength recordLength && eqb (length (joinedOf r rec)) (givenLength r)) WrongLength 0 .1 lengths-right, a)
+
+-- A has no amounts; those of G are what it received and its tariff.
+header-amounts : (rec : List ℕ)
+    → (makingAnswer (layoutOf Header) (joinedOf Header rec) (amountsIn (layoutOf Header) rec) ≡ makingAnswer (layoutOf Header) (joinedOf Header rec) (0 ∷ 0 ∷ []))
+    × (madeOf (layoutOf Header) (joinedOf Header rec) (amountsIn (layoutOf Header) rec) ≡ madeOf (layoutOf Header) (joinedOf Header rec) (0 ∷ 0 ∷ []))
+unfolding layoutOf
+header-amounts rec = (refl, refl)
+
+payment-amounts : (rec : List ℕ) → amountsIn (layoutOf Payment) rec ≡ paymentOf rec .received ∷ paymentOf rec .tariff ∷ []
+unfolding layoutOf rowAt table
+payment-amounts rec = refl
+
+pub fields-write-the-header : FieldsWriteTheHeader
+fields-write-the-header rec accepts named =
+    let both = made freshWriter Header rec (0 ∷ 0 ∷ []) accepts named in
+    let same = header-amounts rec in (
+      then-accepts (doorAnswer freshWriter Header (length (joinedOf Header rec)) recordLength) (makeAnswer Header (joinedOf Header rec) (0 ∷ 0 ∷ []) recordLength) .1
+          (door-opens freshWriter Header rec (0 ∷ 0 ∷ []) accepts named refl, makes freshWriter Header rec (0 ∷ 0 ∷ []) accepts named (sym (same .0) ∙ both .0)),
+      sym (same .1) ∙ both .1,
+    )
+
+pub fields-write-the-payment : FieldsWriteThePayment
+fields-write-the-payment w rec accepts named opened room =
+    let amounts = paymentOf rec .received ∷ paymentOf rec .tariff ∷ [] in
+    let given = joinedOf Payment rec in
+    let both = made w Payment rec amounts accepts named in
+    let same = payment-amounts rec in
+    let expected : expects (w .stage) Payment ≡ true = rw opened in
+    let asks : makingAnswer (layoutOf Payment) given amounts ≡ Accepted = rw same at (both .0) in (
+      then-accepts (doorAnswer w Payment (length given) recordLength) (makeAnswer Payment given amounts recordLength then fileAnswer (w .file) (paymentOf rec .received)) .1 (
+        door-opens w Payment rec amounts accepts named expected,
+        then-accepts (makeAnswer Payment given amounts recordLength) (fileAnswer (w .file) (paymentOf rec .received)) .1 (makes w Payment rec amounts accepts named asks, room),
+      ),
+      ap (madeOf (layoutOf Payment) given) (sym same) ∙ both .1,
+    )

@@ -4,16 +4,18 @@ use mathlib.Core.Bool.{Bool, true, false, _&&_}
 use mathlib.Core.List.{List, [], _∷_}
 use mathlib.Core.Path.{_≡_}
 use lib.Dec.{eqb}
-use lib.ListN.{length}
+use lib.ListN.{length, getD}
 use Rattle.answer.specs.declared.Reason.the-variants.{WrongLength, NotExpected}
 use Rattle.answer.specs.declared.Answer.{Answer}
 use Rattle.answer.specs.declared.Answer.the-variants.{Accepted}
 use Rattle.answer.specs.Orders.{asked, _then_, kept}
 use Rattle.decimal.specs.Numbers.{digitsOf}
+use Rattle.layout.specs.declared.Named.the-variants.{Is}
 use Rattle.layout.specs.declared.Record.{Record}
 use Rattle.layout.specs.declared.Record.the-variants.{Header, Payment, Trailer}
-use Rattle.layout.specs.Layouts.{recordLength, layoutOf, givenLength, joinedOf}
+use Rattle.layout.specs.Layouts.{recordLength, namedBy, layoutOf, givenLength, joinedOf}
 use Rattle.record.specs.Records.{recordAnswer}
+use Rattle.record.specs.Values as paid
 use Rattle.record.specs.Making.{madeOf, makeAnswer}
 use Rattle.file.specs.declared.File.{File}
 use Rattle.file.specs.Files.{freshFile, fileAnswer, fileWith, figuresOf, closingAnswer}
@@ -90,6 +92,19 @@ abbrev pub WrittenIsAccepted : Type 0
 WrittenIsAccepted =
     (r : Record) (given amounts : List ℕ) (room : ℕ) → makeAnswer r given amounts room ≡ Accepted
     → (recordAnswer (madeOf (layoutOf r) given amounts) ≡ Accepted) × (joinedOf r (madeOf (layoutOf r) given amounts) ≡ given)
+
+-- the fields of an accepted A, given to a fresh writer, write that A; those of an accepted G, to one whose file is open and has room for it, that G
+abbrev pub FieldsWriteTheHeader : Type 0
+FieldsWriteTheHeader =
+    (rec : List ℕ) → recordAnswer rec ≡ Accepted → namedBy (getD rec 0 0) ≡ Is Header
+    → (headerAnswer freshWriter (joinedOf Header rec) recordLength ≡ Accepted) × (headerBytes (joinedOf Header rec) ≡ rec)
+
+abbrev pub FieldsWriteThePayment : Type 0
+FieldsWriteThePayment =
+    (w : Writer) (rec : List ℕ) → recordAnswer rec ≡ Accepted → namedBy (getD rec 0 0) ≡ Is Payment
+    → w .stage ≡ Open → fileAnswer (w .file) (paid.paymentOf rec .received) ≡ Accepted
+    → (paymentAnswer w (joinedOf Payment rec) (paid.paymentOf rec .received) (paid.paymentOf rec .tariff) recordLength ≡ Accepted)
+    × (paymentBytes (joinedOf Payment rec) (paid.paymentOf rec .received) (paid.paymentOf rec .tariff) ≡ rec)
 
 -- a refusal leaves the writer as it was
 abbrev pub RefusalKeepsWriter : Type 0
