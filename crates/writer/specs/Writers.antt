@@ -93,6 +93,12 @@ WrittenIsAccepted =
     (r : Record) (given amounts : List ℕ) (room : ℕ) → makeAnswer r given amounts room ≡ Accepted
     → (recordAnswer (madeOf (layoutOf r) given amounts) ≡ Accepted) × (joinedOf r (madeOf (layoutOf r) given amounts) ≡ given)
 
+-- what was received and the tariff are read back as they were given
+abbrev pub WrittenAmountsAreRead : Type 0
+WrittenAmountsAreRead =
+    (given : List ℕ) (received tariff room : ℕ) → makeAnswer Payment given (received ∷ tariff ∷ []) room ≡ Accepted
+    → (paid.paymentOf (paymentBytes given received tariff) .received ≡ received) × (paid.paymentOf (paymentBytes given received tariff) .tariff ≡ tariff)
+
 -- the fields of an accepted A, given to a fresh writer, write that A; those of an accepted G, to one whose file is open and has room for it, that G
 abbrev pub FieldsWriteTheHeader : Type 0
 FieldsWriteTheHeader =

@@ -1,0 +1,118 @@
+-- The amounts that were written are read back. Assumes nothing.
+use Prim.Native.Nat.{ℕ, _-_, _^_, _<_}
+use mathlib.Core.Bool.{Bool, true, false, cond, _&&_, and-eq-true-iff}
+use mathlib.Core.List.{List, [], _∷_, _++_}
+use mathlib.Core.Path.{_≡_, refl, sym, ap, _∙_}
+use borrow.Author.Tests.{eqb-true, ltb-true}
+use lib.Dec.{eqb, ltb}
+use lib.ListN.{length, getD, take, drop}
+use lib.Seq.{take-at, drop-at, take-append-seam, drop-append-seam}
+use Rattle.answer.specs.declared.Reason.the-variants.{WrongLength, TooWide}
+use Rattle.answer.specs.declared.Answer.the-variants.{Accepted}
+use Rattle.answer.specs.Orders.{asked, behind}
+use Rattle.answer.proofs.Orders.{asked-accepts, then-accepts, moved-accepts}
+use Rattle.decimal.specs.Numbers.{numberOf, digitsOf, widthAnswer}
+use Rattle.decimal.specs.Places.{widthOf}
+use Rattle.decimal.proofs.Numbers.{number-of-digits, digits-fill}
+use Rattle.layout.specs.declared.Field.{Field}
+use Rattle.layout.specs.declared.Kind.{Kind}
+use Rattle.layout.specs.declared.Kind.the-variants as kind
+use Rattle.layout.specs.declared.Record.{Record}
+use Rattle.layout.specs.declared.Record.the-variants.{Payment}
+use Rattle.layout.specs.Layouts.{recordLength, layoutOf, stretchOf, givenLength, joinedOf, rowAt, table}
+use Rattle.record.specs.Kinds.{kindAnswer}
+use Rattle.record.specs.Values.{paymentOf}
+use Rattle.record.specs.Making.{writtenOf, isMoney, putAnswer, takes, pieceOf, pieceAnswer, amountsAfter, madeOf, makingAnswer, makeAnswer, amountsIn}
+use Rattle.record.proofs.Trips.{fields-make-the-record, made-is-accepted}
+use Rattle.writer.specs.Writers.{WrittenAmountsAreRead}
+
+-- One field: what is written for two amounts is as long, and tells them apart.
+module _ (w : ℕ) (g : List ℕ) (m n : ℕ) where
+  same-length : (k : Kind) → length (writtenOf k w g m) ≡ length (writtenOf k w g n)
+  same-length (kind.Mark byte) = refl
+  same-length kind.Version = refl
+  same-length kind.Service = refl
+  same-length kind.Blank = refl
+  same-length kind.Text = refl
+  same-length kind.Digits = refl
+  same-length kind.Money = digits-fill w m .0 ∙ sym (digits-fill w n .0)
+  same-length kind.Date = refl
+  same-length kind.Barcode = refl
+  same-length kind.Capture = refl
+  same-length kind.Form = refl
+
+fits : (w : ℕ) (g : List ℕ) (n : ℕ) → putAnswer kind.Money w g n ≡ Accepted → n < 10 ^ w
+unfolding putAnswer
+fits w g n a =
+    ltb-true n (10 ^ w) (asked-accepts (ltb n (10 ^ w)) TooWide 1 .0 (then-accepts (widthAnswer w n) (kindAnswer kind.Money (digitsOf w n)) .0 a .0))
+
+same-amount : (k : Kind) (w : ℕ) (g : List ℕ) (m n : ℕ) → isMoney k ≡ true → putAnswer k w g m ≡ Accepted → putAnswer k w g n ≡ Accepted
+    → writtenOf k w g m ≡ writtenOf k w g n → m ≡ n
+same-amount (kind.Mark byte) w g m n t a b e = cc
+same-amount kind.Version w g m n t a b e = cc
+same-amount kind.Service w g m n t a b e = cc
+same-amount kind.Blank w g m n t a b e = cc
+same-amount kind.Text w g m n t a b e = cc
+same-amount kind.Digits w g m n t a b e = cc
+same-amount kind.Money w g m n t a b e =
+    sym (number-of-digits w m (fits w g m a)) ∙ ap numberOf e ∙ number-of-digits w n (fits w g n b)
+same-amount kind.Date w g m n t a b e = cc
+same-amount kind.Barcode w g m n t a b e = cc
+same-amount kind.Capture w g m n t a b e = cc
+same-amount kind.Form w g m n t a b e = cc
+
+split : (p q x y : List ℕ) → length p ≡ length q → p ++ x ≡ q ++ y → (p ≡ q) × (x ≡ y)
+split p q x y n e = (
+  sym (take-at p x (length q) n) ∙ ap (take (length q)) e ∙ take-append-seam q y,
+  sym (drop-at p x (length q) n) ∙ ap (drop (length q)) e ∙ drop-append-seam q y,
+)
+
+cons-if : (t : Bool) (x y : ℕ) (l m : List ℕ) → (t ≡ true → x ≡ y) → l ≡ m → cond t (x ∷ l) l ≡ cond t (y ∷ m) m
+cons-if true x y l m h e = ap (λ (k : ℕ). k ∷ l) (h refl) ∙ ap (λ (k : List ℕ). y ∷ k) e
+cons-if false x y l m h e = e
+
+-- the amounts that rows take, in their order
+abbrev moneys : List Field → List ℕ → List ℕ
+moneys [] amounts = []
+moneys (f ∷ fs) amounts = cond (isMoney (f .kind)) (getD amounts 0 0 ∷ moneys fs (amountsAfter f amounts)) (moneys fs (amountsAfter f amounts))
+
+module _ (f : Field) (given xs ys : List ℕ) where
+  put-accepts : (l : List ℕ) → pieceAnswer f given l ≡ Accepted → putAnswer (f .kind) (widthOf (stretchOf f)) (take (takes f) given) (getD l 0 0) ≡ Accepted
+  put-accepts l e = moved-accepts (behind (f .first - 1)) (putAnswer (f .kind) (widthOf (stretchOf f)) (take (takes f) given) (getD l 0 0)) .0 e
+
+  amount-back : pieceAnswer f given xs ≡ Accepted → pieceAnswer f given ys ≡ Accepted → pieceOf f given xs ≡ pieceOf f given ys → isMoney (f .kind) ≡ true → getD xs 0 0 ≡ getD ys 0 0
+  amount-back a b e t =
+      same-amount (f .kind) (widthOf (stretchOf f)) (take (takes f) given) (getD xs 0 0) (getD ys 0 0) t (put-accepts xs a) (put-accepts ys b) e
+
+amounts-back : (rows : List Field) (given xs ys : List ℕ) → makingAnswer rows given xs ≡ Accepted → makingAnswer rows given ys ≡ Accepted
+    → madeOf rows given xs ≡ madeOf rows given ys → moneys rows xs ≡ moneys rows ys
+amounts-back [] given xs ys a b e = refl
+amounts-back (f ∷ fs) given xs ys a b e =
+    let rest = drop (takes f) given in
+    let pa = then-accepts (pieceAnswer f given xs) (makingAnswer fs rest (amountsAfter f xs)) .0 a in
+    let pb = then-accepts (pieceAnswer f given ys) (makingAnswer fs rest (amountsAfter f ys)) .0 b in
+    let cut =
+    split (pieceOf f given xs) (pieceOf f given ys) (madeOf fs rest (amountsAfter f xs)) (madeOf fs rest (amountsAfter f ys))
+    (same-length (widthOf (stretchOf f)) (take (takes f) given) (getD xs 0 0) (getD ys 0 0) (f .kind)) e in
+    cons-if (isMoney (f .kind)) (getD xs 0 0) (getD ys 0 0) (moneys fs (amountsAfter f xs)) (moneys fs (amountsAfter f ys)) (amount-back f given xs ys (pa .0) (pb .0) (cut .0))
+    (amounts-back fs rest (amountsAfter f xs) (amountsAfter f ys) (pa .1) (pb .1) (cut .1))
+
+-- what was made has the amounts it was made of
+read-back : (r : Record) (given amounts : List ℕ) (room : ℕ) → makeAnswer r given amounts room ≡ Accepted
+    → moneys (layoutOf r) (amountsIn (layoutOf r) (madeOf (layoutOf r) given amounts)) ≡ moneys (layoutOf r) amounts
+unfolding makeAnswer
+read-back r given amounts room e =
+    let lengths = eqb room recordLength && eqb (length given) (givenLength r) in
+    let both = then-accepts (asked lengths WrongLength 0) (makingAnswer (layoutOf r) given amounts) .0 e in
+    let t = asked-accepts lengths WrongLength 0 .0 (both .0) in
+    let n = eqb-true (length given) (givenLength r) (and-eq-true-iff (eqb room recordLength) (eqb (length given) (givenLength r)) .0 t .1) in
+    let made = made-is-accepted r given amounts n (both .1) in
+    let rec = madeOf (layoutOf r) given amounts in
+    let again = fields-make-the-record r rec (made .0) (made .1) in
+    amounts-back (layoutOf r) given (amountsIn (layoutOf r) rec) amounts (rw (made .2) at (again .0)) (both .1) (rw (made .2) at (again .1))
+
+pub written-amounts-are-read : WrittenAmountsAreRead
+unfolding layoutOf rowAt table
+written-amounts-are-read given received tariff room e =
+    let back = read-back Payment given (received ∷ tariff ∷ []) room e in
+    (ap (λ (l : List ℕ). getD l 0 0) back, ap (λ (l : List ℕ). getD l 1 0) back)
