@@ -1,7 +1,7 @@
 -- The amounts that were written are read back. Assumes nothing.
 use Prim.Native.Nat.{ℕ, _-_, _^_, _<_}
 use mathlib.Core.Bool.{Bool, true, false, cond, _&&_, and-eq-true-iff}
-use mathlib.Core.List.{List, [], _∷_, _++_}
+use mathlib.Core.List.{List, [], _∷_, _++_, append-nil}
 use mathlib.Core.Path.{_≡_, refl, sym, ap, _∙_}
 use borrow.Author.Tests.{eqb-true, ltb-true}
 use lib.Dec.{eqb, ltb}
@@ -9,7 +9,7 @@ use lib.ListN.{length, getD, take, drop}
 use lib.Seq.{take-at, drop-at, take-append-seam, drop-append-seam}
 use Rattle.answer.specs.declared.Reason.the-variants.{WrongLength, TooWide}
 use Rattle.answer.specs.declared.Answer.the-variants.{Accepted}
-use Rattle.answer.specs.Orders.{asked, behind}
+use Rattle.answer.specs.Orders.{asked, _then_, behind}
 use Rattle.answer.proofs.Orders.{asked-accepts, then-accepts, moved-accepts}
 use Rattle.decimal.specs.Numbers.{numberOf, digitsOf, widthAnswer}
 use Rattle.decimal.specs.Places.{widthOf}
@@ -18,13 +18,18 @@ use Rattle.layout.specs.declared.Field.{Field}
 use Rattle.layout.specs.declared.Kind.{Kind}
 use Rattle.layout.specs.declared.Kind.the-variants as kind
 use Rattle.layout.specs.declared.Record.{Record}
-use Rattle.layout.specs.declared.Record.the-variants.{Payment}
-use Rattle.layout.specs.Layouts.{recordLength, layoutOf, stretchOf, givenLength, joinedOf, rowAt, table}
+use Rattle.layout.specs.declared.Record.the-variants.{Payment, Trailer}
+use Rattle.layout.specs.Layouts.{recordLength, layoutOf, stretchOf, givenLength, joinedOf, rowAt, table, countRow}
 use Rattle.record.specs.Kinds.{kindAnswer}
-use Rattle.record.specs.Values.{paymentOf}
+use Rattle.record.specs.Records.{partOf}
+use Rattle.record.specs.Values.{trailerOf}
 use Rattle.record.specs.Making.{writtenOf, isMoney, putAnswer, takes, pieceOf, pieceAnswer, amountsAfter, madeOf, makingAnswer, makeAnswer, amountsIn}
 use Rattle.record.proofs.Trips.{fields-make-the-record, made-is-accepted}
-use Rattle.writer.specs.Writers.{WrittenAmountsAreRead}
+use Rattle.file.specs.Files.{figuresOf, closingAnswer}
+use Rattle.file.proofs.Files.{closing-accepts, figures-fit}
+use Rattle.writer.specs.declared.Writer.{Writer}
+use Rattle.writer.specs.Writers.{doorAnswer, countBytes, trailerBytes, WrittenAmountsAreRead, TrailerShowsTheFigures}
+use Rattle.writer.proofs.Written.{written-is-accepted}
 
 -- One field: what is written for two amounts is as long, and tells them apart.
 module _ (w : ℕ) (g : List ℕ) (m n : ℕ) where
@@ -116,3 +121,25 @@ unfolding layoutOf rowAt table
 written-amounts-are-read given received tariff room e =
     let back = read-back Payment given (received ∷ tariff ∷ []) room e in
     (ap (λ (l : List ℕ). getD l 0 0) back, ap (λ (l : List ℕ). getD l 1 0) back)
+
+-- The trailer: its count is its field bytes, its total its one amount.
+count-back : (rec : List ℕ) → joinedOf Trailer rec ≡ partOf (rowAt countRow) rec
+unfolding layoutOf rowAt table
+count-back rec = append-nil (partOf (rowAt countRow) rec)
+
+count-written : (w : Writer) → closingAnswer (w .file) ≡ Accepted → numberOf (countBytes w) ≡ figuresOf (w .file) .count
+unfolding givenLength layoutOf
+count-written w c = number-of-digits 6 (figuresOf (w .file) .count) (figures-fit (w .file) (closing-accepts (w .file) .0 c) .0)
+
+total-back : (w : Writer) (room : ℕ) → makeAnswer Trailer (countBytes w) (figuresOf (w .file) .total ∷ 0 ∷ []) room ≡ Accepted → trailerOf (trailerBytes w) .total ≡ w .file .total
+unfolding layoutOf rowAt table
+total-back w room e = ap (λ (l : List ℕ). getD l 0 0) (read-back Trailer (countBytes w) (figuresOf (w .file) .total ∷ 0 ∷ []) room e)
+
+pub trailer-shows-the-figures : TrailerShowsTheFigures
+trailer-shows-the-figures w room e =
+    let door = doorAnswer w Trailer (givenLength Trailer) room in
+    let make = makeAnswer Trailer (countBytes w) (figuresOf (w .file) .total ∷ 0 ∷ []) room in
+    let behind-door = then-accepts door (closingAnswer (w .file) then make) .0 e .1 in
+    let both = then-accepts (closingAnswer (w .file)) make .0 behind-door in
+    let joined = written-is-accepted Trailer (countBytes w) (figuresOf (w .file) .total ∷ 0 ∷ []) room (both .1) .1 in
+    (ap numberOf (sym (count-back (trailerBytes w)) ∙ joined) ∙ count-written w (both .0), total-back w room (both .1))

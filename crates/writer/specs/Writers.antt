@@ -1,5 +1,5 @@
 -- The file writer (document 01, "Sessions and the board"): A, then each G, then Z with its own count and total. Assumes nothing.
-use Prim.Native.Nat.{ℕ}
+use Prim.Native.Nat.{ℕ, _+_}
 use mathlib.Core.Bool.{Bool, true, false, _&&_}
 use mathlib.Core.List.{List, [], _∷_}
 use mathlib.Core.Path.{_≡_}
@@ -98,6 +98,12 @@ abbrev pub WrittenAmountsAreRead : Type 0
 WrittenAmountsAreRead =
     (given : List ℕ) (received tariff room : ℕ) → makeAnswer Payment given (received ∷ tariff ∷ []) room ≡ Accepted
     → (paid.paymentOf (paymentBytes given received tariff) .received ≡ received) × (paid.paymentOf (paymentBytes given received tariff) .tariff ≡ tariff)
+
+-- the trailer shows the writer's own figures: its payments, A and Z, and what they received
+abbrev pub TrailerShowsTheFigures : Type 0
+TrailerShowsTheFigures =
+    (w : Writer) (room : ℕ) → trailerAnswer w room ≡ Accepted
+    → (paid.trailerOf (trailerBytes w) .count ≡ w .file .taken + 2) × (paid.trailerOf (trailerBytes w) .total ≡ w .file .total)
 
 -- the fields of an accepted A, given to a fresh writer, write that A; those of an accepted G, to one whose file is open and has room for it, that G
 abbrev pub FieldsWriteTheHeader : Type 0
