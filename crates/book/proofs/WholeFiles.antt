@@ -100,7 +100,7 @@ module _ (shown : Board) (z : List ℕ) (right : IsRight Trailer z) where
 
 -- The file from its header on.
 
-received-each : (recs : List (List ℕ)) → receivedOf (receivedEach recs) ≡ receivedIn recs
+pub received-each : (recs : List (List ℕ)) → receivedOf (receivedEach recs) ≡ receivedIn recs
 received-each [] = refl
 received-each (rec ∷ recs) = omega (arith, received-each recs)
 

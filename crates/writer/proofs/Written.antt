@@ -28,7 +28,7 @@ use Rattle.file.specs.Files.{fileAnswer}
 use Rattle.writer.specs.declared.Writer.{Writer}
 use Rattle.writer.specs.Writers.{freshWriter, expects, doorAnswer, WrittenIsAccepted, FieldsWriteTheHeader, FieldsWriteThePayment}
 
-first-byte : (r : Record) (given amounts : List ℕ) → getD (madeOf (layoutOf r) given amounts) 0 0 ≡ markOf r
+pub first-byte : (r : Record) (given amounts : List ℕ) → getD (madeOf (layoutOf r) given amounts) 0 0 ≡ markOf r
 unfolding layoutOf
 first-byte Header given amounts = refl
 first-byte Payment given amounts = refl

@@ -1,0 +1,66 @@
+-- A file that the writer closed, as a fresh session takes it. Assumes nothing.
+use Prim.Native.Nat.{ℕ, _≤_}
+use mathlib.Core.List.{List, [], _∷_, map}
+use mathlib.Core.Path.{_≡_}
+use lib.ListN.{length}
+use Rattle.answer.specs.declared.Answer.the-variants.{Accepted}
+use Rattle.layout.specs.Layouts.{recordLength}
+use Rattle.board.specs.Lanes.{mostLanes, lanesFrom}
+use Rattle.session.specs.Sessions.{freshSession}
+use Rattle.writer.specs.declared.Writer.{Writer}
+use Rattle.writer.specs.Writers.{freshWriter, headerAnswer, headerOf, headerBytes, paymentAnswer, paymentOf, paymentBytes, trailerAnswer, trailerBytes}
+use Rattle.book.specs.Books.{Step, paidIn}
+use Rattle.book.specs.Promises.{answersOf, shownLanes}
+use Rattle.book.specs.WholeFiles.{Whole, fileOf, TrueFigures, AllAccepted}
+
+-- a payment as the writer is given it, and the record that it writes
+pub record Given : Type 0 where
+  pub fields : List ℕ
+  pub received : ℕ
+  pub tariff : ℕ
+
+abbrev pub recordOf : Given → List ℕ
+recordOf g = paymentBytes (g .fields) (g .received) (g .tariff)
+
+abbrev pub recordsOf : List Given → List (List ℕ)
+recordsOf gs = map recordOf gs
+
+-- payments written one after the other: the writer that follows, and that each is accepted
+abbrev pub writerAfter : Writer → List Given → Writer
+writerAfter w [] = w
+writerAfter w (g ∷ gs) = writerAfter (paymentOf w (g .fields) (g .received) (g .tariff) recordLength .writer) gs
+
+abbrev pub PaymentsWritten : Writer → List Given → Type 0
+PaymentsWritten w [] = Unit {0}
+PaymentsWritten w (g ∷ gs) =
+    (paymentAnswer w (g .fields) (g .received) (g .tariff) recordLength ≡ Accepted)
+    × PaymentsWritten (paymentOf w (g .fields) (g .received) (g .tariff) recordLength .writer) gs
+
+abbrev pub openedBy : List ℕ → Writer
+openedBy header = headerOf freshWriter header recordLength .writer
+
+-- a fresh writer accepted a header, payments and its trailer
+pub record Closed (header : List ℕ) (gs : List Given) : Type 0 where
+  pub opens : headerAnswer freshWriter header recordLength ≡ Accepted
+  pub pays : PaymentsWritten (openedBy header) gs
+  pub closes : trailerAnswer (writerAfter (openedBy header) gs) recordLength ≡ Accepted
+
+abbrev pub trailerAfter : List ℕ → List Given → List ℕ
+trailerAfter header gs = trailerBytes (writerAfter (openedBy header) gs)
+
+abbrev pub writtenFile : List ℕ → List Given → List Step
+writtenFile header gs = fileOf (headerBytes header) (recordsOf gs) (trailerAfter header gs)
+
+-- Promises.
+
+-- it is one A, its Gs and one Z, each right in itself, with the true count and total
+abbrev pub ClosedFileIsWhole : Type 0
+ClosedFileIsWhole =
+    (header : List ℕ) (gs : List Given) → Closed header gs
+    → Whole (headerBytes header) (recordsOf gs) (trailerAfter header gs) × TrueFigures (recordsOf gs) (trailerAfter header gs)
+
+-- a fresh session accepts it, unless it names over 64 issuers, and then shows its payments
+abbrev pub ClosedFileIsAccepted : Type 0
+ClosedFileIsAccepted =
+    (header : List ℕ) (gs : List Given) → Closed header gs → length (lanesFrom (paidIn (recordsOf gs))) ≤ mostLanes
+    → AllAccepted (answersOf freshSession (writtenFile header gs)) × (shownLanes (writtenFile header gs) ≡ lanesFrom (paidIn (recordsOf gs)))
