@@ -22,7 +22,7 @@ use Rattle.writer.proofs.Written.{first-byte, written-is-accepted}
 use Rattle.writer.proofs.Amounts.{written-amounts-are-read, trailer-shows-the-figures}
 use Rattle.book.specs.Books.{paidIn, receivedIn}
 use Rattle.book.specs.WholeFiles.{IsRight, Whole, receivedEach, TrueFigures}
-use Rattle.book.specs.WrittenFiles.{Given, recordOf, recordsOf, writerAfter, PaymentsWritten, openedBy, Closed, trailerAfter, ClosedFileIsWhole, ClosedFileIsAccepted}
+use Rattle.book.specs.WrittenFiles.{Given, recordOf, writtenRecords, writerAfter, PaymentsWritten, openedBy, Closed, trailerAfter, ClosedFileIsWhole, ClosedFileIsAccepted}
 use Rattle.book.proofs.WholeFiles.{received-each, fresh-session-accepts, fresh-session-shows}
 
 -- a writer whose file is open
@@ -34,9 +34,9 @@ right r given amounts e = (written-is-accepted r given amounts recordLength e .0
 
 -- payments that were written to an open file
 record Walked (f : File) (gs : List Given) : Type 0 where
-  each : Each (IsRight Payment) (recordsOf gs)
-  fits : fileAnswers f (receivedEach (recordsOf gs)) ≡ Accepted
-  leaves : writerAfter (opened f) gs ≡ opened (fileWithAll f (receivedEach (recordsOf gs)))
+  each : Each (IsRight Payment) (writtenRecords gs)
+  fits : fileAnswers f (receivedEach (writtenRecords gs)) ≡ Accepted
+  leaves : writerAfter (opened f) gs ≡ opened (fileWithAll f (receivedEach (writtenRecords gs)))
 
 walk : (f : File) (gs : List Given) → PaymentsWritten (opened f) gs → Walked f gs
 walk f [] p = record { each = tt; fits = refl; leaves = refl }
@@ -46,7 +46,7 @@ walk f (g ∷ gs) p =
     let asks = then-accepts (doorAnswer (opened f) Payment (length (g .fields)) recordLength) (make then fileAnswer f (g .received)) .0 (p .0) .1 in
     let both = then-accepts make (fileAnswer f (g .received)) .0 asks in
     let x = values.paymentOf (recordOf g) .received in
-    let xs = receivedEach (recordsOf gs) in
+    let xs = receivedEach (writtenRecords gs) in
     let read : x ≡ g .received = written-amounts-are-read (g .fields) (g .received) (g .tariff) recordLength (both .0) .0 in
     let next : paymentOf (opened f) (g .fields) (g .received) (g .tariff) recordLength .writer ≡ opened (fileWith f (g .received)) =
     accepted-takes (paymentAnswer (opened f) (g .fields) (g .received) (g .tariff) recordLength) (opened (fileWith f (g .received))) (opened f) (p .0) in
@@ -70,13 +70,13 @@ module _ (header : List ℕ) (gs : List Given) (c : Closed header gs) where
   abbrev last : Writer
   last = writerAfter (openedBy header) gs
 
-  file-is : last .file ≡ record { taken = length (receivedEach (recordsOf gs)); total = receivedIn (recordsOf gs) }
+  file-is : last .file ≡ record { taken = length (receivedEach (writtenRecords gs)); total = receivedIn (writtenRecords gs) }
   file-is =
       ap (λ (w : Writer). writerAfter w gs .file) opens ∙ ap (λ (w : Writer). w .file) (walked .leaves)
-      ∙ fresh-file-holds (receivedEach (recordsOf gs))
-      ∙ ap (λ (n : ℕ). record { taken = length (receivedEach (recordsOf gs)); total = n }) (received-each (recordsOf gs))
+      ∙ fresh-file-holds (receivedEach (writtenRecords gs))
+      ∙ ap (λ (n : ℕ). record { taken = length (receivedEach (writtenRecords gs)); total = n }) (received-each (writtenRecords gs))
 
-  count-is : length (receivedEach (recordsOf gs)) ≡ length (recordsOf gs)
+  count-is : length (receivedEach (writtenRecords gs)) ≡ length (writtenRecords gs)
   count-is = simp length-map
 
   trailer-made : makeAnswer Trailer (countBytes last) (figuresOf (last .file) .total ∷ 0 ∷ []) recordLength ≡ Accepted
@@ -88,7 +88,7 @@ module _ (header : List ℕ) (gs : List Given) (c : Closed header gs) where
   header-made : makeAnswer Header header (0 ∷ 0 ∷ []) recordLength ≡ Accepted
   header-made = then-accepts (doorAnswer freshWriter Header (length header) recordLength) (makeAnswer Header header (0 ∷ 0 ∷ []) recordLength) .0 (c .opens) .1
 
-  whole : Whole (headerBytes header) (recordsOf gs) (trailerAfter header gs)
+  whole : Whole (headerBytes header) (writtenRecords gs) (trailerAfter header gs)
   whole =
       record {
         header = right Header header (0 ∷ 0 ∷ []) header-made;
@@ -96,21 +96,21 @@ module _ (header : List ℕ) (gs : List Given) (c : Closed header gs) where
         trailer = right Trailer (countBytes last) (figuresOf (last .file) .total ∷ 0 ∷ []) trailer-made;
       }
 
-  figures : TrueFigures (recordsOf gs) (trailerAfter header gs)
+  figures : TrueFigures (writtenRecords gs) (trailerAfter header gs)
   figures =
       let shows = trailer-shows-the-figures last recordLength (c .closes) in
       (shows .0 ∙ ap (λ (f : File). f .taken + 2) file-is ∙ ap (λ (n : ℕ). n + 2) count-is, shows .1 ∙ ap (λ (f : File). f .total) file-is)
 
-  limits : (length (recordsOf gs) ≤ mostPayments) × (receivedIn (recordsOf gs) ≤ mostCentavos)
+  limits : (length (writtenRecords gs) ≤ mostPayments) × (receivedIn (writtenRecords gs) ≤ mostCentavos)
   limits =
-      let both = fresh-file-takes (receivedEach (recordsOf gs)) .0 (walked .fits) in
-      (subst (λ (n : ℕ). n ≤ mostPayments) count-is (both .0), subst (λ (n : ℕ). n ≤ mostCentavos) (received-each (recordsOf gs)) (both .1))
+      let both = fresh-file-takes (receivedEach (writtenRecords gs)) .0 (walked .fits) in
+      (subst (λ (n : ℕ). n ≤ mostPayments) count-is (both .0), subst (λ (n : ℕ). n ≤ mostCentavos) (received-each (writtenRecords gs)) (both .1))
 
 pub closed-file-is-whole : ClosedFileIsWhole
 closed-file-is-whole header gs c = (whole header gs c, figures header gs c)
 
 pub closed-file-is-accepted : ClosedFileIsAccepted
 closed-file-is-accepted header gs c few =
-    let recs = recordsOf gs in
+    let recs = writtenRecords gs in
     let all = fresh-session-accepts (headerBytes header) recs (trailerAfter header gs) (whole header gs c) .1 (limits header gs c .0, limits header gs c .1, few, figures header gs c) in
     (all, fresh-session-shows (headerBytes header) recs (trailerAfter header gs) (whole header gs c) all .0)

@@ -22,8 +22,8 @@ pub record Given : Type 0 where
 abbrev pub recordOf : Given → List ℕ
 recordOf g = paymentBytes (g .fields) (g .received) (g .tariff)
 
-abbrev pub recordsOf : List Given → List (List ℕ)
-recordsOf gs = map recordOf gs
+abbrev pub writtenRecords : List Given → List (List ℕ)
+writtenRecords gs = map recordOf gs
 
 -- payments written one after the other: the writer that follows, and that each is accepted
 abbrev pub writerAfter : Writer → List Given → Writer
@@ -49,7 +49,7 @@ abbrev pub trailerAfter : List ℕ → List Given → List ℕ
 trailerAfter header gs = trailerBytes (writerAfter (openedBy header) gs)
 
 abbrev pub writtenFile : List ℕ → List Given → List Step
-writtenFile header gs = fileOf (headerBytes header) (recordsOf gs) (trailerAfter header gs)
+writtenFile header gs = fileOf (headerBytes header) (writtenRecords gs) (trailerAfter header gs)
 
 -- Promises.
 
@@ -57,10 +57,10 @@ writtenFile header gs = fileOf (headerBytes header) (recordsOf gs) (trailerAfter
 abbrev pub ClosedFileIsWhole : Type 0
 ClosedFileIsWhole =
     (header : List ℕ) (gs : List Given) → Closed header gs
-    → Whole (headerBytes header) (recordsOf gs) (trailerAfter header gs) × TrueFigures (recordsOf gs) (trailerAfter header gs)
+    → Whole (headerBytes header) (writtenRecords gs) (trailerAfter header gs) × TrueFigures (writtenRecords gs) (trailerAfter header gs)
 
 -- a fresh session accepts it, unless it names over 64 issuers, and then shows its payments
 abbrev pub ClosedFileIsAccepted : Type 0
 ClosedFileIsAccepted =
-    (header : List ℕ) (gs : List Given) → Closed header gs → length (lanesFrom (paidIn (recordsOf gs))) ≤ mostLanes
-    → AllAccepted (answersOf freshSession (writtenFile header gs)) × (shownLanes (writtenFile header gs) ≡ lanesFrom (paidIn (recordsOf gs)))
+    (header : List ℕ) (gs : List Given) → Closed header gs → length (lanesFrom (paidIn (writtenRecords gs))) ≤ mostLanes
+    → AllAccepted (answersOf freshSession (writtenFile header gs)) × (shownLanes (writtenFile header gs) ≡ lanesFrom (paidIn (writtenRecords gs)))

@@ -1,15 +1,15 @@
 -- The amounts that were written are read back. Assumes nothing.
 use Prim.Native.Nat.{ℕ, _-_, _^_, _<_}
-use mathlib.Core.Bool.{Bool, true, false, cond, _&&_, and-eq-true-iff}
+use mathlib.Core.Bool.{Bool, true, false, cond}
 use mathlib.Core.List.{List, [], _∷_, _++_, append-nil}
 use mathlib.Core.Path.{_≡_, refl, sym, ap, _∙_}
-use borrow.Author.Tests.{eqb-true, ltb-true}
-use lib.Dec.{eqb, ltb}
+use borrow.Author.Tests.{ltb-true}
+use lib.Dec.{ltb}
 use lib.ListN.{length, getD, take, drop}
 use lib.Seq.{take-at, drop-at, take-append-seam, drop-append-seam}
-use Rattle.answer.specs.declared.Reason.the-variants.{WrongLength, TooWide}
+use Rattle.answer.specs.declared.Reason.the-variants.{TooWide}
 use Rattle.answer.specs.declared.Answer.the-variants.{Accepted}
-use Rattle.answer.specs.Orders.{asked, _then_, behind}
+use Rattle.answer.specs.Orders.{_then_, behind}
 use Rattle.answer.proofs.Orders.{asked-accepts, then-accepts, moved-accepts}
 use Rattle.decimal.specs.Numbers.{numberOf, digitsOf, widthAnswer}
 use Rattle.decimal.specs.Places.{widthOf}
@@ -19,7 +19,7 @@ use Rattle.layout.specs.declared.Kind.{Kind}
 use Rattle.layout.specs.declared.Kind.the-variants as kind
 use Rattle.layout.specs.declared.Record.{Record}
 use Rattle.layout.specs.declared.Record.the-variants.{Payment, Trailer}
-use Rattle.layout.specs.Layouts.{recordLength, layoutOf, stretchOf, givenLength, joinedOf, rowAt, table, countRow}
+use Rattle.layout.specs.Layouts.{layoutOf, stretchOf, givenLength, joinedOf, rowAt, table, countRow}
 use Rattle.record.specs.Kinds.{kindAnswer}
 use Rattle.record.specs.Records.{partOf}
 use Rattle.record.specs.Values.{trailerOf}
@@ -29,7 +29,7 @@ use Rattle.file.specs.Files.{figuresOf, closingAnswer}
 use Rattle.file.proofs.Files.{closing-accepts, figures-fit}
 use Rattle.writer.specs.declared.Writer.{Writer}
 use Rattle.writer.specs.Writers.{doorAnswer, countBytes, trailerBytes, WrittenAmountsAreRead, TrailerShowsTheFigures}
-use Rattle.writer.proofs.Written.{written-is-accepted}
+use Rattle.writer.proofs.Written.{making-is, written-is-accepted}
 
 -- One field: what is written for two amounts is as long, and tells them apart.
 module _ (w : ℕ) (g : List ℕ) (m n : ℕ) where
@@ -105,16 +105,12 @@ amounts-back (f ∷ fs) given xs ys a b e =
 -- what was made has the amounts it was made of
 read-back : (r : Record) (given amounts : List ℕ) (room : ℕ) → makeAnswer r given amounts room ≡ Accepted
     → moneys (layoutOf r) (amountsIn (layoutOf r) (madeOf (layoutOf r) given amounts)) ≡ moneys (layoutOf r) amounts
-unfolding makeAnswer
 read-back r given amounts room e =
-    let lengths = eqb room recordLength && eqb (length given) (givenLength r) in
-    let both = then-accepts (asked lengths WrongLength 0) (makingAnswer (layoutOf r) given amounts) .0 e in
-    let t = asked-accepts lengths WrongLength 0 .0 (both .0) in
-    let n = eqb-true (length given) (givenLength r) (and-eq-true-iff (eqb room recordLength) (eqb (length given) (givenLength r)) .0 t .1) in
-    let made = made-is-accepted r given amounts n (both .1) in
+    let making = making-is r given amounts room e in
+    let made = made-is-accepted r given amounts (making .0) (making .1) in
     let rec = madeOf (layoutOf r) given amounts in
     let again = fields-make-the-record r rec (made .0) (made .1) in
-    amounts-back (layoutOf r) given (amountsIn (layoutOf r) rec) amounts (rw (made .2) at (again .0)) (both .1) (rw (made .2) at (again .1))
+    amounts-back (layoutOf r) given (amountsIn (layoutOf r) rec) amounts (rw (made .2) at (again .0)) (making .1) (rw (made .2) at (again .1))
 
 pub written-amounts-are-read : WrittenAmountsAreRead
 unfolding layoutOf rowAt table

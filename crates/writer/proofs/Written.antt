@@ -43,14 +43,20 @@ accepted r rec n m b =
     then-accepts (asked (eqb (length rec) recordLength) WrongLength 0) (namedAnswer (namedBy (getD rec 0 0)) rec) .1
     (asked-accepts (eqb (length rec) recordLength) WrongLength 0 .1 long, named)
 
-pub written-is-accepted : WrittenIsAccepted
+-- an accepted making: as many field bytes as are asked, and every field accepted
+pub making-is : (r : Record) (given amounts : List ℕ) (room : ℕ) → makeAnswer r given amounts room ≡ Accepted
+    → (length given ≡ givenLength r) × (makingAnswer (layoutOf r) given amounts ≡ Accepted)
 unfolding makeAnswer
-written-is-accepted r given amounts room e =
+making-is r given amounts room e =
     let lengths = eqb room recordLength && eqb (length given) (givenLength r) in
     let both = then-accepts (asked lengths WrongLength 0) (makingAnswer (layoutOf r) given amounts) .0 e in
     let t = asked-accepts lengths WrongLength 0 .0 (both .0) in
-    let n = eqb-true (length given) (givenLength r) (and-eq-true-iff (eqb room recordLength) (eqb (length given) (givenLength r)) .0 t .1) in
-    let made = made-is-accepted r given amounts n (both .1) in
+    (eqb-true (length given) (givenLength r) (and-eq-true-iff (eqb room recordLength) (eqb (length given) (givenLength r)) .0 t .1), both .1)
+
+pub written-is-accepted : WrittenIsAccepted
+written-is-accepted r given amounts room e =
+    let making = making-is r given amounts room e in
+    let made = made-is-accepted r given amounts (making .0) (making .1) in
     (accepted r (madeOf (layoutOf r) given amounts) (made .0) (first-byte r given amounts) (made .1), made .2)
 
 -- The field bytes of a record are as many as the writer is given.
