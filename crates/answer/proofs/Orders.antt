@@ -1,15 +1,16 @@
 -- The laws of orders, each by cases on its answers. Assumes nothing.
-use Prim.Native.Nat.{ℕ, _≤_}
-use mathlib.Core.Bool.{Bool, true, false}
+use Prim.Native.Nat.{ℕ, _+_, _≤_, min}
+use mathlib.Core.Bool.{Bool, true, false, cond}
 use mathlib.Core.List.{List, [], _∷_}
 use mathlib.Core.Logic.{inl, inr, ⊎-elim}
 use mathlib.Core.Path.{_≡_, refl, sym, ap, _∙_}
 use native.Mathlib.Omega.{arith}
+use lib.Dec.{eqb}
 use Rattle.answer.specs.declared.Reason.{Reason}
 use Rattle.answer.specs.declared.Answer.{Answer}
 use Rattle.answer.specs.declared.Answer.the-variants.{Accepted, Refused}
 use Rattle.answer.specs.Refusals.{answerPlace}
-use Rattle.answer.specs.Orders.{asked, _then_, first, StopsAt, AskedAccepts, ThenAccepts, ThenRefuses, ThenGroups, FirstAccepts, FirstRefuses, FirstJoins, MovedNumber, MovedAccepts, MovedThen, MovedTwice, RefusalKeeps, AcceptedTakes, KeptSeen}
+use Rattle.answer.specs.Orders.{asked, _then_, first, lastPlace, StopsAt, AskedAccepts, ThenAccepts, ThenRefuses, ThenGroups, FirstAccepts, FirstRefuses, FirstJoins, MovedNumber, MovedAccepts, MovedThen, MovedTwice, BehindIsHeld, RefusalKeeps, AcceptedTakes, KeptSeen}
 
 -- an answer is accepted or refused, not both
 pub not-both : {X : Type 0} (a : Answer) {why : Reason} {p : ℕ} → a ≡ Refused why p → a ≡ Accepted → X
@@ -80,6 +81,13 @@ moved-then move (Refused why p) b = refl
 pub moved-twice : MovedTwice
 moved-twice move on Accepted = refl
 moved-twice move on (Refused why p) = refl
+
+pub behind-is-held : BehindIsHeld
+behind-is-held n Accepted h = refl
+behind-is-held n (Refused why p) h =
+    let fits : (t : Bool) → min (cond t 0 (p + n)) lastPlace ≡ cond t 0 (p + n) =
+    λ t. elim t as (λ (b : Bool). min (cond b 0 (p + n)) lastPlace ≡ cond b 0 (p + n)) [ true ↦ omega arith | false ↦ omega arith ] in
+    ap (Refused why) (fits (eqb p 0))
 
 pub refusal-keeps : {S : Type 0} → RefusalKeeps S
 refusal-keeps Accepted new old h = absurd (h refl)

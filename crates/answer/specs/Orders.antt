@@ -1,5 +1,5 @@
 -- The questions that every order of document 01 is written with, and their laws. Assumes nothing.
-use Prim.Native.Nat.{ℕ, _+_}
+use Prim.Native.Nat.{ℕ, _+_, _≤_, min}
 use mathlib.Core.Bool.{Bool, true, false, cond}
 use mathlib.Core.List.{List, [], _∷_, _++_}
 use mathlib.Core.Logic.{_↔_, _⊎_}
@@ -8,7 +8,7 @@ use lib.Dec.{eqb}
 use Rattle.answer.specs.declared.Reason.{Reason}
 use Rattle.answer.specs.declared.Answer.{Answer}
 use Rattle.answer.specs.declared.Answer.the-variants.{Accepted, Refused}
-use Rattle.answer.specs.Refusals.{answerNumber}
+use Rattle.answer.specs.Refusals.{answerNumber, answerPlace}
 
 -- one question: refused for this reason at this place, unless the test holds
 abbrev pub asked : Bool → Reason → ℕ → Answer
@@ -34,6 +34,13 @@ movedBy move (Refused why place) = Refused why (move place)
 -- the place of a part that stands behind n bytes; what has no place, 0, gets none
 abbrev pub behind : ℕ → ℕ → ℕ
 behind n place = cond (eqb place 0) 0 (place + n)
+
+-- a place is a number of 64 bits: past the largest it stays the largest
+abbrev pub lastPlace : ℕ
+lastPlace = 18446744073709551615
+
+abbrev pub heldBehind : ℕ → ℕ → ℕ
+heldBehind n place = min (behind n place) lastPlace
 
 -- the new state where it is accepted, else the old
 abbrev pub kept {ℓ} : {S : Type ℓ} → Answer → S → S → S
@@ -98,6 +105,10 @@ MovedThen = (move : ℕ → ℕ) (a b : Answer) → movedBy move (a then b) ≡ 
 
 abbrev pub MovedTwice : Type 0
 MovedTwice = (move on : ℕ → ℕ) (a : Answer) → movedBy on (movedBy move a) ≡ movedBy (λ p. on (move p)) a
+
+-- within 64 bits no place is cut
+abbrev pub BehindIsHeld : Type 0
+BehindIsHeld = (n : ℕ) (a : Answer) → answerPlace a + n ≤ lastPlace → movedBy (heldBehind n) a ≡ movedBy (behind n) a
 
 -- Promises: of a state. A refusal changes nothing; what is seen of the kept state is what is kept of what is seen.
 

@@ -1,6 +1,7 @@
 // What a call answers: accepted, or one refusal with its place.
 ghost use mathlib.Core.Path.{_≡_};
 ghost use Rattle.answer.specs.Refusals.{numberOf, answerNumber, answerPlace};
+ghost use Rattle.answer.specs.Orders.{movedBy, heldBehind};
 
 // What is wrong, in the order of document 01's refusal numbers.
 pub enum Reason {
@@ -63,6 +64,18 @@ impl Reason {
     }
 }
 
+fn place_behind(before: usize, place: usize) -> usize
+    ensures { λ r. ⌜ r ≡ heldBehind before place ⌝ }
+{
+    if place == 0 {
+        return 0;
+    }
+    if 18446744073709551615 - before < place {
+        return 18446744073709551615;
+    }
+    place + before
+}
+
 impl Answer {
     // 0 where it is accepted.
     pub fn number(self) -> u8
@@ -81,6 +94,15 @@ impl Answer {
         match self {
             Answer::Accepted => 0,
             Answer::Refused(_, place) => place,
+        }
+    }
+    // The same answer about a part, where the part stands behind so many bytes of the whole.
+    pub fn behind(self, before: usize) -> Answer
+        ensures { λ r. ⌜ r ≡ movedBy (heldBehind before) self ⌝ }
+    {
+        match self {
+            Answer::Accepted => self,
+            Answer::Refused(why, place) => Answer::Refused(why, place_behind(before, place)),
         }
     }
 }

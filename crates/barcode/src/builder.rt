@@ -2,7 +2,7 @@
 ghost use mathlib.Core.Path.{_≡_};
 ghost use Prim.Native.Nat.{_≤_};
 ghost use lib.ListN.{length, drop};
-ghost use mathlib.Core.List.{_∷_, _++_, []};
+ghost use mathlib.Core.List.{_∷_, _++_};
 ghost use Rattle.answer.specs.Orders.{kept};
 ghost use Rattle.barcode.specs.Building.{headOf, numbersAnswer, fieldsAnswer, checkAnswer, buildAnswer, codeWith, builtOf, Fit};
 use crate::Issuer;
@@ -24,7 +24,8 @@ fn ask_numbers(issuer: Issuer, value: u64, free: &[u8]) -> Answer
     if !decimal::fits_width(issuer.number, end - 15) {
         return Answer::Refused(Reason::TooWide, 16);
     }
-    crate::moved(decimal::first_not(Class::Digit, Reason::NoDigit, free), end)
+    let a = decimal::first_not(Class::Digit, Reason::NoDigit, free);
+    a.behind(end)
 }
 
 fn ask_fields(issuer: Issuer, kind: u64, value: u64, free: &[u8]) -> Answer

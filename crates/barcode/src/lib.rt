@@ -2,12 +2,9 @@
 pub mod builder;
 
 ghost use mathlib.Core.Path.{_≡_};
-ghost use mathlib.Core.Bool.{cond};
 ghost use Prim.Native.Nat.{_+_, _≤_};
-ghost use lib.Dec.{eqb};
 ghost use lib.ListN.{length, getD};
-ghost use Rattle.answer.specs.Refusals.{answerPlace};
-ghost use Rattle.answer.specs.Orders.{behind, movedBy};
+ghost use Rattle.answer.specs.Orders.{heldBehind, movedBy};
 ghost use Rattle.decimal.specs.Numbers.{valueOf};
 ghost use Rattle.barcode.specs.Codes.{isSegment, isKind, modulusOf, issuerEnd, leadAnswer, frontAnswer, generalCheck, generalRight, bodyAnswer, barcodeAnswer, fieldsOf, readOf, decodeOf, shownFree};
 use answer::Answer;
@@ -145,27 +142,12 @@ pub fn check(code: &[u8]) -> Answer
     body(code)
 }
 
-// An answer about bytes that stand behind others.
-fn moved(a: Answer, before: usize) -> Answer
-    requires { ⌜ (answerPlace a ≤ 45) × (before ≤ 255) ⌝ }
-    ensures { λ r. ⌜ r ≡ movedBy (behind before) a ⌝ }
-{
-    match a {
-        Answer::Accepted => Answer::Accepted,
-        Answer::Refused(why, place) => {
-            if place == 0 {
-                return Answer::Refused(why, 0);
-            }
-            Answer::Refused(why, place + before)
-        }
-    }
-}
-
 // The same of a barcode that stands behind other bytes, as in a G record.
-pub fn check_behind(code: &[u8], before: u8) -> Answer
-    ensures { λ r. ⌜ r ≡ movedBy (behind before) (barcodeAnswer (now (code .entry))) ⌝ }
+pub fn check_behind(code: &[u8], before: usize) -> Answer
+    ensures { λ r. ⌜ r ≡ movedBy (heldBehind before) (barcodeAnswer (now (code .entry))) ⌝ }
 {
-    moved(check(code), before as usize)
+    let a = check(code);
+    a.behind(before)
 }
 
 // The index behind the issuer's number: four digits, in segment 6 eight of the CNPJ.

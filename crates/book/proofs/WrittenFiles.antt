@@ -1,8 +1,8 @@
 -- A file that the writer closed is whole and true, so a fresh session accepts it. Assumes nothing.
 use Prim.Native.Nat.{ℕ, _+_, _≤_}
-use mathlib.Core.List.{List, [], _∷_, map}
+use mathlib.Core.List.{List, [], _∷_}
 use mathlib.Core.Path.{_≡_, refl, sym, ap, subst, _∙_}
-use lib.ListN.{length, getD, length-map}
+use lib.ListN.{length, length-map}
 use Rattle.answer.specs.declared.Answer.the-variants.{Accepted}
 use Rattle.answer.specs.Orders.{_then_, Each}
 use Rattle.answer.proofs.Orders.{then-accepts, accepted-takes}
@@ -11,16 +11,16 @@ use Rattle.layout.specs.declared.Record.the-variants.{Header, Payment, Trailer}
 use Rattle.layout.specs.Layouts.{recordLength, namedBy, layoutOf, givenLength}
 use Rattle.layout.proofs.Layouts.{mark-names}
 use Rattle.record.specs.Values as values
-use Rattle.record.specs.Making.{madeOf, makeAnswer}
+use Rattle.fields.specs.Making.{madeOf, makeAnswer}
 use Rattle.file.specs.declared.File.{File}
 use Rattle.file.specs.Files.{mostPayments, mostCentavos, freshFile, fileAnswer, fileAnswers, fileWith, fileWithAll, figuresOf, closingAnswer}
 use Rattle.file.proofs.Files.{fresh-file-takes, fresh-file-holds}
 use Rattle.writer.specs.declared.Stage.the-variants.{Open}
 use Rattle.writer.specs.declared.Writer.{Writer}
-use Rattle.writer.specs.Writers.{freshWriter, doorAnswer, headerAnswer, headerBytes, paymentAnswer, paymentOf, countBytes, trailerAnswer, trailerBytes}
+use Rattle.writer.specs.Writers.{freshWriter, doorAnswer, headerAnswer, headerBytes, paymentAnswer, paymentOf, countBytes}
 use Rattle.writer.proofs.Written.{first-byte, written-is-accepted}
 use Rattle.writer.proofs.Amounts.{written-amounts-are-read, trailer-shows-the-figures}
-use Rattle.book.specs.Books.{paidIn, receivedIn}
+use Rattle.book.specs.Books.{receivedIn}
 use Rattle.book.specs.WholeFiles.{IsRight, Whole, receivedEach, TrueFigures}
 use Rattle.book.specs.WrittenFiles.{Given, recordOf, writtenRecords, writerAfter, PaymentsWritten, openedBy, Closed, trailerAfter, ClosedFileIsWhole, ClosedFileIsAccepted}
 use Rattle.book.proofs.WholeFiles.{received-each, fresh-session-accepts, fresh-session-shows}

@@ -1,8 +1,8 @@
 -- The fields of a record cover its places 1 to 150 once each; so a record is its fields, joined. Assumes nothing.
 use Prim.Native.Nat.{ℕ, _+_, _-_, _≤_, _<_}
 use mathlib.Core.Bool.{Bool, true, _&&_, and-eq-true-iff}
-use mathlib.Core.List.{List, [], _∷_, _++_, map}
-use mathlib.Core.Path.{_≡_, refl, sym, ap, _∙_}
+use mathlib.Core.List.{List, [], _∷_, map}
+use mathlib.Core.Path.{_≡_, refl, sym}
 use native.Mathlib.Omega.{arith}
 use borrow.Author.Tests.{leb-true, eqb-true}
 use lib.Dec.{leb, eqb}
@@ -13,7 +13,7 @@ use Rattle.layout.specs.declared.Field.{Field}
 use Rattle.layout.specs.declared.Record.{Record}
 use Rattle.layout.specs.declared.Record.the-variants.{Header, Payment, Trailer}
 use Rattle.layout.specs.Layouts.{recordLength, namedBy, layoutOf, table, rowsOf, stretchOf, givenLength, covers, FieldsCover, RecordIsItsFields, MarkNames, GivenLengths}
-use Rattle.layout.proofs.Tables.{every, each}
+use Rattle.layout.proofs.Tables.{each}
 
 pub fields-cover : FieldsCover
 unfolding layoutOf

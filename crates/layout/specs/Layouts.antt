@@ -5,7 +5,7 @@ use mathlib.Core.List.{List, [], _∷_, _++_, map}
 use mathlib.Core.Path.{_≡_}
 use lib.Dec.{leb, eqb}
 use lib.ListN.{length, getD}
-use Rattle.decimal.specs.Places.{Stretch, widthOf, partAt, gather}
+use Rattle.decimal.specs.Places.{Stretch, widthOf, gather}
 use Rattle.layout.specs.declared.Field.{Field}
 use Rattle.layout.specs.declared.Given.{Given}
 use Rattle.layout.specs.declared.Kind.{Kind}

@@ -48,6 +48,9 @@ pub struct Given {
     pub to: usize,
 }
 
+// The bytes of a record.
+pub const LENGTH: usize = 150;
+
 const FIELDS: [Field; 28] = [
     Field {
         first: 1,

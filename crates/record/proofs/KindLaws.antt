@@ -11,7 +11,6 @@ use lib.ListN.{length, getD, drop, drop-of-length-le}
 use lib.Seq.{drop-cons}
 use Rattle.answer.specs.declared.Reason.{Reason}
 use Rattle.answer.specs.declared.Reason.the-variants.{NoDigit, NoText, FixedDiffers, NoDate, UnknownCode}
-use Rattle.answer.specs.declared.Answer.{Answer}
 use Rattle.answer.specs.declared.Answer.the-variants.{Accepted, Refused}
 use Rattle.answer.specs.Refusals.{answerPlace}
 use Rattle.answer.specs.Orders.{asked, _then_}

@@ -1,8 +1,8 @@
 -- Laws of what an accepted record shows. Assumes nothing.
 use Prim.Native.Nat.{ℕ, _+_, _-_, _≤_, _<_}
-use mathlib.Core.Bool.{Bool, true, false, _&&_, and-eq-true-iff}
+use mathlib.Core.Bool.{true}
 use mathlib.Core.List.{List}
-use mathlib.Core.Path.{_≡_, refl, sym, ap, _∙_}
+use mathlib.Core.Path.{_≡_, refl, ap, _∙_}
 use native.Mathlib.Omega.{arith}
 use borrow.Author.Tests.{eq-eqb, eqb-true, ltb-true, leb-true}
 use lib.Dec.{eqb, ltb, leb}
@@ -22,12 +22,13 @@ use Rattle.barcode.specs.Codes.{fieldsOf, readOf}
 use Rattle.layout.specs.declared.Field.{Field}
 use Rattle.layout.specs.declared.Named.{Named}
 use Rattle.layout.specs.declared.Named.the-variants.{Is, Other}
+use Rattle.layout.specs.declared.Record.{Record}
 use Rattle.layout.specs.declared.Record.the-variants.{Header, Payment, Trailer}
-use Rattle.layout.specs.Layouts.{recordLength, namedBy, noField, rowAt, table, layoutOf, stretchOf}
+use Rattle.layout.specs.Layouts.{recordLength, namedBy, noField, rowAt, table, layoutOf}
 use Rattle.layout.proofs.Layouts.{Lies, row-lies}
 use Rattle.layout.proofs.Tables.{getD-any}
-use Rattle.record.specs.Records.{partOf, namedAnswer, recordAnswer}
-use Rattle.record.specs.Values.{dayOf, decodeOf, shownOf, answerOf, unlessRefused, DecodeAnswers}
+use Rattle.record.specs.Records.{partOf, bodyAnswer, namedAnswer, recordAnswer}
+use Rattle.record.specs.Values.{dayOf, shownOf, answerOf, unlessRefused, DecodeAnswers}
 
 -- an accepted record has 150 bytes, and its named layout accepts
 pub accepted-is : (rec : List ℕ) → recordAnswer rec ≡ Accepted
@@ -36,6 +37,11 @@ unfolding recordAnswer
 accepted-is rec e =
     let both = then-accepts (asked (eqb (length rec) recordLength) WrongLength 0) (namedAnswer (namedBy (getD rec 0 0)) rec) .0 e in
     (eqb-true (length rec) recordLength (asked-accepts (eqb (length rec) recordLength) WrongLength 0 .0 (both .0)), both .1)
+
+-- 150 bytes that their first one names are asked its layout
+pub named-is : (r : Record) (rec : List ℕ) → length rec ≡ recordLength → namedBy (getD rec 0 0) ≡ Is r → recordAnswer rec ≡ bodyAnswer r rec
+unfolding recordAnswer
+named-is r rec n e = rw (eq-eqb (length rec) recordLength n, e)
 
 pub part-length : (f : Field) (rec : List ℕ) → Lies f → length rec ≡ recordLength → length (partOf f rec) ≡ f .last - (f .first - 1)
 part-length f rec l n =

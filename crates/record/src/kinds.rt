@@ -4,7 +4,7 @@ ghost use mathlib.Core.List.{[], _∷_};
 ghost use lib.ListN.{getD};
 ghost use Rattle.answer.specs.Orders.{asked};
 ghost use Rattle.decimal.specs.Bytes.{within};
-ghost use Rattle.record.specs.Kinds.{same, isSpelling, isService, isCapture, isForm, kindAnswer};
+ghost use Rattle.record.specs.Kinds.{same, serviceOf, isSpelling, isService, isCapture, isForm, kindAnswer};
 use answer::Answer;
 use answer::Reason;
 use calendar::Dated;
@@ -28,7 +28,7 @@ fn same_bytes(a: &[u8], b: &[u8]) -> bool
 }
 
 // 0 where there is none.
-pub(crate) fn byte_at(part: &[u8], i: usize) -> u8
+fn byte_at(part: &[u8], i: usize) -> u8
     ensures { λ r. ⌜ r ≡ getD (now (part .entry)) i 0 ⌝ }
 {
     if i < part.len() { part[i] } else { 0 }
@@ -51,7 +51,7 @@ fn is_mark(part: &[u8], byte: u8) -> bool
     same_bytes(part, &mark)
 }
 
-pub(crate) const SERVICE: [u8; 17] = [
+const SERVICE: [u8; 17] = [
     67,
     79,
     68,
@@ -71,6 +71,15 @@ pub(crate) const SERVICE: [u8; 17] = [
     32,
 ];
 
+// The service field with this second byte.
+pub fn service(second: u8) -> [u8; 17]
+    ensures { λ r. ⌜ r ≡ serviceOf second ⌝ }
+{
+    let mut service = SERVICE;
+    service[1] = second;
+    service
+}
+
 // The second byte has two spellings.
 fn is_spelling(second: u8) -> bool
     ensures { λ r. ⌜ r ≡ isSpelling second ⌝ }
@@ -85,9 +94,8 @@ fn is_service(part: &[u8]) -> bool
     if !is_spelling(second) {
         return false;
     }
-    let mut service = SERVICE;
-    service[1] = second;
-    same_bytes(part, &service)
+    let spelled = service(second);
+    same_bytes(part, &spelled)
 }
 
 fn between(lo: u8, hi: u8, b: u8) -> bool
@@ -124,7 +132,8 @@ fn check_date(part: &[u8]) -> Answer
     }
 }
 
-pub(crate) fn check_kind(kind: Kind, part: &[u8]) -> Answer
+// A field's bytes, with places in the field.
+pub fn check(kind: Kind, part: &[u8]) -> Answer
     ensures { λ r. ⌜ r ≡ kindAnswer kind (now (part .entry)) ⌝ }
 {
     match kind {

@@ -2,9 +2,7 @@
 ghost use mathlib.Core.Path.{_≡_};
 ghost use Rattle.record.specs.Values.{answerOf};
 
-mod joining;
-mod kinds;
-mod making;
+pub mod kinds;
 mod values;
 mod walk;
 
@@ -12,8 +10,6 @@ use answer::Answer;
 use answer::Reason;
 use barcode::Fields;
 use calendar::Date;
-pub use joining::join;
-pub use making::make;
 pub use values::decode;
 pub use values::field;
 pub use walk::check;

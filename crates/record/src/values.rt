@@ -5,7 +5,7 @@ ghost use lib.ListN.{length, getD};
 ghost use Rattle.decimal.specs.Numbers.{numberOf};
 ghost use Rattle.calendar.specs.Dates.{dateOf};
 ghost use Rattle.barcode.specs.Codes.{fieldsOf};
-ghost use Rattle.layout.specs.Layouts.{namedBy};
+ghost use Rattle.layout.specs.Layouts.{recordLength, namedBy};
 ghost use Rattle.layout.proofs.Layouts.{Lies};
 ghost use Rattle.record.specs.Records.{partOf};
 ghost use Rattle.record.specs.Values.{dayOf, headerOf, paymentOf, trailerOf, shownOf, decodeOf, fieldIn, shownField};
@@ -24,7 +24,7 @@ use layout::Named;
 use layout::Record;
 
 fn number_in(rec: &[u8], f: Field) -> u64
-    requires { ⌜ length (now rec) ≡ 150 ⌝ }
+    requires { ⌜ length (now rec) ≡ recordLength ⌝ }
     requires { ⌜ Lies f ⌝ }
     requires { ⌜ f .last ≤ f .first + 18 ⌝ }
     ensures { λ r. ⌜ r ≡ numberOf (partOf f (now (rec .entry))) ⌝ }
@@ -33,7 +33,7 @@ fn number_in(rec: &[u8], f: Field) -> u64
 }
 
 fn date_in(rec: &[u8], f: Field) -> Date
-    requires { ⌜ length (now rec) ≡ 150 ⌝ }
+    requires { ⌜ length (now rec) ≡ recordLength ⌝ }
     requires { ⌜ Lies f ⌝ }
     ensures { λ r. ⌜ r ≡ dayOf (dateOf (partOf f (now (rec .entry)))) ⌝ }
 {
@@ -48,7 +48,7 @@ fn date_in(rec: &[u8], f: Field) -> Date
 }
 
 fn fields_in(rec: &[u8], f: Field) -> Fields
-    requires { ⌜ length (now rec) ≡ 150 ⌝ }
+    requires { ⌜ length (now rec) ≡ recordLength ⌝ }
     requires { ⌜ Lies f ⌝ }
     requires { ⌜ f .last ≡ f .first + 43 ⌝ }
     ensures { λ r. ⌜ r ≡ fieldsOf (partOf f (now (rec .entry))) ⌝ }
@@ -57,7 +57,7 @@ fn fields_in(rec: &[u8], f: Field) -> Fields
 }
 
 fn read_header(rec: &[u8]) -> Header
-    requires { ⌜ length (now rec) ≡ 150 ⌝ }
+    requires { ⌜ length (now rec) ≡ recordLength ⌝ }
     ensures { λ r. ⌜ r ≡ headerOf (now (rec .entry)) ⌝ }
 {
     let table = layout::table();
@@ -69,7 +69,7 @@ fn read_header(rec: &[u8]) -> Header
 }
 
 fn read_payment(rec: &[u8]) -> Payment
-    requires { ⌜ length (now rec) ≡ 150 ⌝ }
+    requires { ⌜ length (now rec) ≡ recordLength ⌝ }
     ensures { λ r. ⌜ r ≡ paymentOf (now (rec .entry)) ⌝ }
 {
     let table = layout::table();
@@ -84,7 +84,7 @@ fn read_payment(rec: &[u8]) -> Payment
 }
 
 fn read_trailer(rec: &[u8]) -> Trailer
-    requires { ⌜ length (now rec) ≡ 150 ⌝ }
+    requires { ⌜ length (now rec) ≡ recordLength ⌝ }
     ensures { λ r. ⌜ r ≡ trailerOf (now (rec .entry)) ⌝ }
 {
     let table = layout::table();
@@ -95,7 +95,7 @@ fn read_trailer(rec: &[u8]) -> Trailer
 }
 
 fn shown(rec: &[u8]) -> Decoded
-    requires { ⌜ length (now rec) ≡ 150 ⌝ }
+    requires { ⌜ length (now rec) ≡ recordLength ⌝ }
     ensures { λ r. ⌜ r ≡ shownOf (namedBy (getD (now (rec .entry)) 0 0)) (now (rec .entry)) ⌝ }
 {
     match layout::named_by(rec[0]) {
@@ -118,7 +118,7 @@ pub fn decode(rec: &[u8]) -> Decoded
 }
 
 fn named_part(rec: &[u8], row: usize) -> &[u8]
-    requires { ⌜ length (now rec) ≡ 150 ⌝ }
+    requires { ⌜ length (now rec) ≡ recordLength ⌝ }
     ensures { λ r. ⌜ now r ≡ fieldIn (namedBy (getD (now (rec .entry)) 0 0)) row (now (rec .entry)) ⌝ }
 {
     match layout::named_by(rec[0]) {

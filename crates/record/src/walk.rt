@@ -1,10 +1,7 @@
 // The walk along the table: a record's fields from left to right.
 ghost use mathlib.Core.Path.{_≡_};
-ghost use Prim.Native.Nat.{_≤_};
 ghost use lib.ListN.{length};
-ghost use Rattle.answer.specs.Refusals.{answerPlace};
-ghost use Rattle.answer.specs.Orders.{movedBy};
-ghost use Rattle.answer.specs.Orders as orders;
+ghost use Rattle.layout.specs.Layouts.{recordLength};
 ghost use Rattle.layout.proofs.Layouts.{Lies};
 ghost use Rattle.record.specs.Records.{partOf, fieldAnswer, bodyAnswer, recordAnswer};
 use crate::kinds;
@@ -14,25 +11,9 @@ use layout::Field;
 use layout::Named;
 use layout::Record;
 
-// An answer about a part that stands behind so many bytes.
-pub(crate) fn behind(a: Answer, before: usize) -> Answer
-    requires { ⌜ (answerPlace a ≤ 151) × (before ≤ 150) ⌝ }
-    ensures { λ r. ⌜ r ≡ movedBy (orders.behind before) a ⌝ }
-{
-    match a {
-        Answer::Accepted => a,
-        Answer::Refused(why, place) => {
-            if place == 0 {
-                return a;
-            }
-            Answer::Refused(why, place + before)
-        }
-    }
-}
-
 // A field's bytes, as a part of the record's.
 pub(crate) fn part_of(rec: &[u8], f: Field) -> &[u8]
-    requires { ⌜ length (now rec) ≡ 150 ⌝ }
+    requires { ⌜ length (now rec) ≡ recordLength ⌝ }
     requires { ⌜ Lies f ⌝ }
     ensures { λ r. ⌜ now r ≡ partOf f (now (rec .entry)) ⌝ }
 {
@@ -42,17 +23,18 @@ pub(crate) fn part_of(rec: &[u8], f: Field) -> &[u8]
 }
 
 fn field_answer(rec: &[u8], f: Field) -> Answer
-    requires { ⌜ length (now rec) ≡ 150 ⌝ }
+    requires { ⌜ length (now rec) ≡ recordLength ⌝ }
     requires { ⌜ Lies f ⌝ }
     ensures { λ r. ⌜ r ≡ fieldAnswer (now (rec .entry)) f ⌝ }
 {
     let kind = f.kind;
-    behind(kinds::check_kind(kind, part_of(rec, f)), f.first - 1)
+    let a = kinds::check(kind, part_of(rec, f));
+    a.behind(f.first - 1)
 }
 
 // The table is copied once: a constant array would be made anew at each row.
-pub(crate) fn body_answer(which: Record, rec: &[u8]) -> Answer
-    requires { ⌜ length (now rec) ≡ 150 ⌝ }
+fn body_answer(which: Record, rec: &[u8]) -> Answer
+    requires { ⌜ length (now rec) ≡ recordLength ⌝ }
     ensures { λ r. ⌜ r ≡ bodyAnswer which (now (rec .entry)) ⌝ }
 {
     let table = layout::table();
@@ -77,7 +59,7 @@ pub(crate) fn body_answer(which: Record, rec: &[u8]) -> Answer
 pub fn check(rec: &[u8]) -> Answer
     ensures { λ r. ⌜ r ≡ recordAnswer (now (rec .entry)) ⌝ }
 {
-    if rec.len() != 150 {
+    if rec.len() != layout::LENGTH {
         return Answer::Refused(Reason::WrongLength, 0);
     }
     match layout::named_by(rec[0]) {

@@ -122,7 +122,7 @@ fn lanes_in_use(used: usize) -> usize
 impl Session {
     pub const LANES: usize = Board::LANES;
 
-    pub const RECORD: usize = 150;
+    pub const RECORD: usize = layout::LENGTH;
 
     pub const PAYMENTS: u64 = File::PAYMENTS;
 

@@ -1,5 +1,5 @@
 -- A line that passes, taken apart into its facts and put together again. Assumes nothing.
-use Prim.Native.Nat.{ℕ, zero, suc, _+_, _-_, _/_, _<_}
+use Prim.Native.Nat.{ℕ, zero, suc, _+_, _-_, _<_}
 use mathlib.Core.Bool.{true}
 use mathlib.Core.List.{List, [], _∷_}
 use mathlib.Core.Logic.{_↔_}
@@ -25,7 +25,6 @@ use Rattle.line.specs.Lines.{boxes, codeOf, inLine, boxRight, boxAnswer}
 use Rattle.barcode.proofs.Codes.{lead-same}
 use Rattle.line.proofs.RoundTrips.{code-byte}
 use Rattle.slips.specs.Slips.{Passes, Names, boxAt, wholeOf, PassesByChecks}
-use Rattle.slips.proofs.Pieces.{in-code}
 
 each-map : {A : Type 0} {P Q : A → Type 0} → ((x : A) → P x → Q x) → (xs : List A) → Each P xs → Each Q xs
 each-map f [] h = tt

@@ -23,8 +23,8 @@ use Rattle.layout.specs.Layouts.{layoutOf, stretchOf, givenLength, joinedOf, ro
 use Rattle.record.specs.Kinds.{kindAnswer}
 use Rattle.record.specs.Records.{partOf}
 use Rattle.record.specs.Values.{trailerOf}
-use Rattle.record.specs.Making.{writtenOf, isMoney, putAnswer, takes, pieceOf, pieceAnswer, amountsAfter, madeOf, makingAnswer, makeAnswer, amountsIn}
-use Rattle.record.proofs.Trips.{fields-make-the-record, made-is-accepted}
+use Rattle.fields.specs.Making.{writtenOf, isMoney, putAnswer, takes, pieceOf, pieceAnswer, amountsAfter, madeOf, makingAnswer, makeAnswer, amountsIn}
+use Rattle.fields.proofs.Trips.{fields-make-the-record, made-is-accepted}
 use Rattle.file.specs.Files.{figuresOf, closingAnswer}
 use Rattle.file.proofs.Files.{closing-accepts, figures-fit}
 use Rattle.writer.specs.declared.Writer.{Writer}

@@ -18,7 +18,7 @@ use Rattle.decimal.proofs.Places.{put-whole}
 use Rattle.layout.specs.declared.Record.{Record}
 use Rattle.layout.specs.declared.Record.the-variants.{Trailer}
 use Rattle.layout.specs.Layouts.{recordLength, layoutOf, givenLength}
-use Rattle.record.specs.Making.{madeOf, makeAnswer}
+use Rattle.fields.specs.Making.{madeOf, makeAnswer}
 use Rattle.file.specs.declared.Figures.{Figures}
 use Rattle.file.specs.Files.{figuresOf, closingAnswer}
 use Rattle.file.proofs.Files.{closing-accepts, figures-fit}

@@ -13,17 +13,16 @@ use Rattle.answer.specs.declared.Answer.the-variants.{Accepted}
 use Rattle.answer.specs.Orders.{asked, _then_}
 use Rattle.answer.proofs.Orders.{asked-accepts, then-accepts}
 use Rattle.decimal.specs.Places.{Stretch, widthOf, partAt, gather}
-use Rattle.layout.specs.declared.Named.{Named}
 use Rattle.layout.specs.declared.Named.the-variants.{Is}
 use Rattle.layout.specs.declared.Record.{Record}
 use Rattle.layout.specs.declared.Record.the-variants.{Header, Payment, Trailer}
 use Rattle.layout.specs.Layouts.{recordLength, markOf, namedBy, layoutOf, planOf, widthsOf, givenLength, joinedOf, rowAt, table}
 use Rattle.layout.proofs.Layouts.{mark-names}
-use Rattle.record.specs.Records.{bodyAnswer, namedAnswer, recordAnswer}
+use Rattle.record.specs.Records.{bodyAnswer, recordAnswer}
 use Rattle.record.specs.Values.{paymentOf}
-use Rattle.record.specs.Making.{amountsIn, madeOf, makingAnswer, makeAnswer}
-use Rattle.record.proofs.Shown.{accepted-is}
-use Rattle.record.proofs.Trips.{fields-make-the-record, made-is-accepted}
+use Rattle.fields.specs.Making.{amountsIn, madeOf, makingAnswer, makeAnswer}
+use Rattle.record.proofs.Shown.{accepted-is, named-is}
+use Rattle.fields.proofs.Trips.{fields-make-the-record, made-is-accepted}
 use Rattle.file.specs.Files.{fileAnswer}
 use Rattle.writer.specs.declared.Writer.{Writer}
 use Rattle.writer.specs.Writers.{freshWriter, expects, doorAnswer, WrittenIsAccepted, FieldsWriteTheHeader, FieldsWriteThePayment}
@@ -36,12 +35,7 @@ first-byte Trailer given amounts = refl
 
 -- a record of 150 bytes that its own first byte names
 accepted : (r : Record) (rec : List ℕ) → length rec ≡ recordLength → getD rec 0 0 ≡ markOf r → bodyAnswer r rec ≡ Accepted → recordAnswer rec ≡ Accepted
-unfolding recordAnswer
-accepted r rec n m b =
-    let long : eqb (length rec) recordLength ≡ true = rw n in
-    let named : namedAnswer (namedBy (getD rec 0 0)) rec ≡ Accepted = ap (λ (x : Named). namedAnswer x rec) (ap namedBy m ∙ mark-names r .0) ∙ b in
-    then-accepts (asked (eqb (length rec) recordLength) WrongLength 0) (namedAnswer (namedBy (getD rec 0 0)) rec) .1
-    (asked-accepts (eqb (length rec) recordLength) WrongLength 0 .1 long, named)
+accepted r rec n m b = named-is r rec n (ap namedBy m ∙ mark-names r .0) ∙ b
 
 -- an accepted making: as many field bytes as are asked, and every field accepted
 pub making-is : (r : Record) (given amounts : List ℕ) (room : ℕ) → makeAnswer r given amounts room ≡ Accepted

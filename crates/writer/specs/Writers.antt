@@ -16,8 +16,7 @@ use Rattle.layout.specs.declared.Record.the-variants.{Header, Payment, Trailer}
 use Rattle.layout.specs.Layouts.{recordLength, namedBy, layoutOf, givenLength, joinedOf}
 use Rattle.record.specs.Records.{recordAnswer}
 use Rattle.record.specs.Values as paid
-use Rattle.record.specs.Making.{madeOf, makeAnswer}
-use Rattle.file.specs.declared.File.{File}
+use Rattle.fields.specs.Making.{madeOf, makeAnswer}
 use Rattle.file.specs.Files.{freshFile, fileAnswer, fileWith, figuresOf, closingAnswer}
 use Rattle.writer.specs.declared.Stage.{Stage}
 use Rattle.writer.specs.declared.Stage.the-variants.{Fresh, Open, Closed}

@@ -1,5 +1,4 @@
 // A return file made record by record.
-ghost use mathlib.Core.List.{[], _∷_};
 ghost use mathlib.Core.Path.{_≡_};
 ghost use lib.ListN.{length};
 ghost use Rattle.answer.specs.Orders.{kept};
@@ -45,7 +44,7 @@ fn is_expected(stage: Stage, which: Record) -> bool
 }
 
 impl Writer {
-    pub const RECORD: usize = 150;
+    pub const RECORD: usize = layout::LENGTH;
 
     pub fn new() -> Self
         ensures { λ r. ⌜ r ≡ freshWriter ⌝ }
@@ -88,7 +87,7 @@ impl Writer {
             }
             Answer::Accepted => {}
         }
-        let a = record::make(Record::Header, fields, 0, 0, out);
+        let a = fields::make(Record::Header, fields, 0, 0, out);
         match a {
             Answer::Refused(_, _) => Wrote {
                 answer: a,
@@ -119,8 +118,8 @@ impl Writer {
             }
             Answer::Accepted => {}
         }
-        let mut made = [0u8; 150];
-        let a = record::make(Record::Payment, fields, received, tariff, &mut made);
+        let mut made = [0u8; Self::RECORD];
+        let a = fields::make(Record::Payment, fields, received, tariff, &mut made);
         match a {
             Answer::Refused(_, _) => {
                 return Wrote {
@@ -184,7 +183,7 @@ impl Writer {
         let figures = closed.figures;
         let mut count = [48u8; 6];
         decimal::put_number(figures.count, 6, &mut count, 0);
-        let a = record::make(Record::Trailer, &count, figures.total, 0, out);
+        let a = fields::make(Record::Trailer, &count, figures.total, 0, out);
         match a {
             Answer::Refused(_, _) => Wrote {
                 answer: a,

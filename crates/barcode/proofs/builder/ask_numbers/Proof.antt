@@ -5,8 +5,9 @@ use native.Mathlib.Omega.{arith}
 use borrow.Author.Needs.{needs}
 use borrow.Author.Tests.{not-true, not-false}
 use lib.Dec.{ltb}
+use Rattle.answer.proofs.Orders.{behind-is-held}
 use Rattle.answer.proofs.Steps.{stops, goes}
-use Rattle.answer.specs.Orders.{behind, movedBy}
+use Rattle.answer.specs.Orders.{behind, heldBehind, movedBy}
 use Rattle.answer.specs.declared.Reason.the-variants.{NoDigit}
 use Rattle.barcode.proofs.Building.{no-room, has-room}
 use Rattle.barcode.specs.Building.{numbersAnswer}
@@ -46,16 +47,17 @@ returns-3 c = goes _ _ _ (has-room (c .before .before .before .before .before .b
 first-not-requires : tie.Need-first-not-requires
 first-not-requires c κs = search needs
 
-moved-requires : tie.Need-moved-requires
-moved-requires c κs =
-    let place = each-place (isOf Digit) NoDigit 1 (c .before .before .before .before .before .before .before .before .args .free .now) in
-    rw (c .first-not .ensures) (omega arith, omega arith)
+behind-requires : tie.Need-behind-requires
+behind-requires c κs = search needs
 
 returns-4 : tie.Need-returns-4
 unfolding numbersAnswer
 returns-4 c =
+    let free = c .before .before .before .before .before .before .before .before .before .args .free .now in
+    let near = each-place (isOf Digit) NoDigit 1 free in
+    let held = behind-is-held (c .before .before .before .before .before .before .before .issuer-end .result) (eachIs (isOf Digit) NoDigit 1 free) (omega (arith, near, c .before .before .before .before .before .before .if1 .left)) in
     let place = ap (λ (e : ℕ). movedBy (behind e) (eachIs (isOf Digit) NoDigit 1 (c .before .before .before .before .before .before .before .before .before .args .free .now))) (c .before .before .before .before .before .before .before .issuer-end .ensures .0) in
-    goes _ _ _ (has-room (c .before .before .before .before .before .before .before .before .before .args .issuer .segment) (c .before .before .before .before .before .before .before .before .before .args .free .now) (c .before .before .before .before .before .before .before .issuer-end .ensures .0) (c .before .before .before .before .before .before .if1 .left)) (goes _ _ _ (sym (c .before .before .before .before .before .fits-width .ensures) ∙ not-false _ (c .before .before .before .before .if2 .left)) (goes _ _ _ (ap (λ (e : ℕ). ltb (c .before .before .before .before .before .before .before .before .before .args .issuer .number) (10 ^ (e - 15))) (sym (c .before .before .before .before .before .before .before .issuer-end .ensures .0)) ∙ sym (c .before .before .before .fits-width2 .ensures) ∙ not-false _ (c .before .before .if3 .left)) (c .moved .ensures ∙ ap (movedBy (behind (c .before .before .before .before .before .before .before .issuer-end .result))) (c .before .first-not .ensures) ∙ place)))
+    goes _ _ _ (has-room (c .before .before .before .before .before .before .before .before .before .args .issuer .segment) (c .before .before .before .before .before .before .before .before .before .args .free .now) (c .before .before .before .before .before .before .before .issuer-end .ensures .0) (c .before .before .before .before .before .before .if1 .left)) (goes _ _ _ (sym (c .before .before .before .before .before .fits-width .ensures) ∙ not-false _ (c .before .before .before .before .if2 .left)) (goes _ _ _ (ap (λ (e : ℕ). ltb (c .before .before .before .before .before .before .before .before .before .args .issuer .number) (10 ^ (e - 15))) (sym (c .before .before .before .before .before .before .before .issuer-end .ensures .0)) ∙ sym (c .before .before .before .fits-width2 .ensures) ∙ not-false _ (c .before .before .if3 .left)) (c .behind .ensures ∙ ap (movedBy (heldBehind (c .before .before .before .before .before .before .before .issuer-end .result))) (c .before .first-not .ensures) ∙ held ∙ place)))
 
 pub ask-numbers-spec : {M : Type 1} → statement M
 ask-numbers-spec =
@@ -70,5 +72,5 @@ ask-numbers-spec =
     fits-width-requires-2
     returns-3
     first-not-requires
-    moved-requires
+    behind-requires
     returns-4)

@@ -1,7 +1,10 @@
 -- `record::walk::field_answer` meets its contract. Assumes nothing.
+use Prim.Native.Nat.{_-_}
 use mathlib.Core.Path.{ap, _∙_}
 use native.Mathlib.Omega.{arith}
 use borrow.Author.Needs.{needs}
+use Rattle.answer.specs.Orders.{movedBy, heldBehind}
+use Rattle.answer.proofs.Orders.{behind-is-held}
 use Rattle.record.proofs.KindLaws.{kind-place}
 use Rattle.record.proofs.Shown.{part-length}
 use Rattle.record.specs.Kinds.{kindAnswer}
@@ -12,19 +15,25 @@ use Rattle.record.proofs.walk.field_answer.Tie as tie
 part-of-requires : tie.Need-part-of-requires
 part-of-requires c κs = search needs
 
-check-kind-requires : tie.Need-check-kind-requires
-check-kind-requires c κs = search needs
+check-requires : tie.Need-check-requires
+check-requires c κs = search needs
 
 sub-behind : tie.Need-sub-behind
 sub-behind c = search needs
 
 behind-requires : tie.Need-behind-requires
-behind-requires c κs = let s = c .before .before .before .before in let e = c .before .check-kind .ensures ∙ ap (kindAnswer (s .args .f .kind)) (c .before .before .part-of .ensures) in let n = part-length (s .args .f) (s .args .rec .now) (s .pre .1) (s .pre .0) in (rw e (kind-place (s .args .f .kind) (partOf (s .args .f) (s .args .rec .now)) (omega (arith, n, s .pre .1 .end))), omega (arith, s .pre .1 .order, s .pre .1 .end))
+behind-requires c κs = search needs
 
 returns : tie.Need-returns
 unfolding fieldAnswer
-returns c = rw (c .behind .ensures, c .before .before .check-kind .ensures, c .before .before .before .part-of .ensures)
+returns c =
+    let s = c .before .before .before .before .before in
+    let k = c .before .before .check .ensures ∙ ap (kindAnswer (s .args .f .kind)) (c .before .before .before .part-of .ensures) in
+    let bs = partOf (s .args .f) (s .args .rec .now) in
+    let n = part-length (s .args .f) (s .args .rec .now) (s .pre .1) (s .pre .0) in
+    let near = kind-place (s .args .f .kind) bs (omega (arith, n, s .pre .1 .end)) in
+    c .behind .ensures ∙ ap (movedBy (heldBehind (s .args .f .first - 1))) k ∙ behind-is-held (s .args .f .first - 1) (kindAnswer (s .args .f .kind) bs) (omega (arith, near, s .pre .1 .order, s .pre .1 .end))
 
 pub field-answer-spec : {M : Type 1} → statement M
 field-answer-spec =
-    tie.close (tie.spec part-of-requires check-kind-requires sub-behind behind-requires returns)
+    tie.close (tie.spec part-of-requires check-requires sub-behind behind-requires returns)

@@ -5,7 +5,7 @@ use lib.ListN.{length}
 use Rattle.answer.proofs.Orders.{accepted-takes}
 use Rattle.file.specs.declared.Taken.{Taken}
 use Rattle.layout.specs.declared.Record.the-variants.{Payment}
-use Rattle.record.proofs.Makes.{made-copied}
+use Rattle.fields.proofs.Makes.{made-copied}
 use Rattle.writer.proofs.Doors.{door-room}
 use Rattle.writer.proofs.Writer.payment.Statement.{statement}
 use Rattle.writer.proofs.Writer.payment.Tie as tie

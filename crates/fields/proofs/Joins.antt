@@ -1,0 +1,133 @@
+-- Laws of field bytes that are joined row by row. Assumes nothing.
+use Prim.Native.Nat.{ℕ, _+_, _-_, _≤_, _<_}
+use mathlib.Core.Bool.{true, and-eq-true-iff}
+use mathlib.Core.List.{List, [], _∷_, _++_, map, append-assoc, append-nil}
+use mathlib.Core.Path.{_≡_, refl, sym, ap, _∙_}
+use native.Mathlib.Nat.{le-antisymm, add-assoc}
+use native.Mathlib.Numerals.{add-one}
+use native.Mathlib.Omega.{arith}
+use borrow.Author.Tests.{eqb-true}
+use lib.ListN.{length, getD, take, drop, length-append, length-drop}
+use lib.Seq.{slice, slice-cons, slice-empty, take-all, length-take-le, take-at, drop-drop}
+use Rattle.decimal.specs.Places.{widthOf, partAt, gather}
+use Rattle.layout.specs.declared.Field.{Field}
+use Rattle.layout.specs.declared.Given.{Given}
+use Rattle.layout.specs.declared.Kind.{Kind}
+use Rattle.layout.specs.declared.Kind.the-variants as kind
+use Rattle.layout.specs.declared.Record.{Record}
+use Rattle.layout.specs.Layouts.{recordLength, layoutOf, stretchOf, givenOf, givenAt, givenLength, widthsOf}
+use Rattle.layout.proofs.Layouts.{Lies}
+use Rattle.layout.proofs.Tables.{every}
+use Rattle.fields.proofs.Makes.{fitsKind, fitsField, layout-fits, given-order, takes-are}
+
+-- what is given of a field lies in it
+pub given-in : (k : Kind) (w : ℕ) → fitsKind k w ≡ true → givenOf k w .to ≤ w
+unfolding fitsKind
+given-in (kind.Mark byte) w t = omega arith
+given-in kind.Version w t = omega arith
+given-in kind.Service w t = omega (arith, eqb-true w 17 t)
+given-in kind.Blank w t = omega arith
+given-in kind.Text w t = omega arith
+given-in kind.Digits w t = omega arith
+given-in kind.Money w t = omega arith
+given-in kind.Date w t = omega arith
+given-in kind.Barcode w t = omega arith
+given-in kind.Capture w t = omega arith
+given-in kind.Form w t = omega arith
+
+-- What is known before a row: the bytes joined so far and those to come.
+pub record Joining (rows : List Field) (rec out : List ℕ) (at : ℕ) (room : ℕ) (whole : List ℕ) : Type 0 where
+  pub same : length out ≡ room
+  pub fits : every fitsField rows ≡ true
+  pub left : at + widthsOf (map givenAt rows) ≡ length out
+  pub bytes : take at out ++ gather (map givenAt rows) rec ≡ whole
+
+pub begin : (r : Record) {rows : List Field} (rec out : List ℕ) → rows ≡ layoutOf r → length out ≡ givenLength r
+    → Joining rows rec out 0 (length out) (gather (map givenAt rows) rec)
+unfolding givenLength
+begin r rec out e n = rw e (record { same = refl; fits = layout-fits r .0; left = omega (arith, n); bytes = refl })
+
+pub joined : {rec out : List ℕ} {at room : ℕ} {whole : List ℕ} → Joining [] rec out at room whole → out ≡ whole
+joined {out = out} {at = at} m =
+    let t : take at out ≡ out = take-all at out (omega (arith, m .left)) in
+    sym t ∙ sym (append-nil (take at out)) ∙ m .bytes
+
+length-rest : (out : List ℕ) (at w k : ℕ) → k ≡ at + w → k ≤ length out → length (drop (k - at) (drop at out)) + k ≡ length out
+length-rest out at w k e h =
+    let n : at + (k - at) ≡ k = omega arith in
+    let d : drop (k - at) (drop at out) ≡ drop k out = drop-drop (k - at) at out ∙ ap (λ (n : ℕ). drop n out) n in
+    rw (d, length-drop k out) (omega arith)
+
+length-gap : (out : List ℕ) (at w k : ℕ) → k ≡ at + w → k ≤ length out → length (take (k - at) (drop at out)) ≡ w
+length-gap out at w k e h =
+    let d : k - at ≡ w = omega arith in
+    rw d (length-take-le w (drop at out) (omega (arith, length-drop at out)))
+
+-- bytes put behind the first of a list, with its rest
+after : (out ys : List ℕ) (at w k : ℕ) → length ys ≡ w → k ≡ at + w → k ≤ length out
+    → (take k (take at out ++ (ys ++ drop (k - at) (drop at out))) ≡ take at out ++ ys) × (length (take at out ++ (ys ++ drop (k - at) (drop at out))) ≡ length out)
+after out ys at w k ly ek h =
+    let lt : length (take at out) ≡ at = length-take-le at out (omega arith) in
+    let la : length (take at out ++ ys) ≡ k = length-append (take at out) ys ∙ omega arith in
+    let rest = drop (k - at) (drop at out) in
+    let d : k - at ≡ w = omega arith in
+    let lr : length rest + k ≡ length out = length-rest out at w k ek h in (
+      rw (← append-assoc (take at out) ys rest) (take-at (take at out ++ ys) rest k la),
+      length-append (take at out) (ys ++ rest) ∙ omega (arith, length-append ys rest, lr),
+    )
+
+module _ {f : Field} {fs : List Field} {rec out : List ℕ} {at room : ℕ} {whole : List ℕ} (m : Joining (f ∷ fs) rec out at room whole) (l : Lies f) (n : length rec ≡ recordLength)
+    {g : Given} (e : g ≡ givenOf (f .kind) (f .last - (f .first - 1))) where
+  fit : (fitsField f ≡ true) × (every fitsField fs ≡ true)
+  fit = and-eq-true-iff (fitsField f) (every fitsField fs) .0 (m .fits)
+
+  pub spans : (g .from ≤ g .to) × (f .first - 1 + g .to ≤ f .last) × (g .to - g .from ≡ widthOf (givenAt f)) × (at + (g .to - g .from) ≤ length out)
+  spans =
+      let o : g .from ≤ g .to = rw e (given-order (f .kind) (widthOf (stretchOf f))) in
+      let i : g .to ≤ f .last - (f .first - 1) = rw e (given-in (f .kind) (widthOf (stretchOf f)) (fit .0)) in
+      let t : g .to - g .from ≡ widthOf (givenAt f) = rw e (takes-are f (l .start)) in
+      (o, omega (arith, l .order, l .start), t, omega (arith, m .left))
+
+  part : take (f .first - 1 + g .to - (f .first - 1 + g .from)) (drop (f .first - 1 + g .from) rec) ≡ partAt (givenAt f) rec
+  part =
+      let a : f .first - 1 + g .from ≡ givenAt f .first - 1 = rw e (omega (arith, l .start)) in
+      let b : f .first - 1 + g .to - (f .first - 1 + g .from) ≡ widthOf (givenAt f) = omega (arith, spans .0, spans .2) in
+      rw (b, a)
+
+  wide : f .first - 1 + g .to - (f .first - 1 + g .from) ≡ widthOf (givenAt f)
+  wide = omega (arith, spans .0, spans .2)
+
+  part-length : length (take (f .first - 1 + g .to - (f .first - 1 + g .from)) (drop (f .first - 1 + g .from) rec)) ≡ widthOf (givenAt f)
+  part-length =
+      length-take-le _ (drop (f .first - 1 + g .from) rec) (omega (arith, length-drop (f .first - 1 + g .from) rec, spans .0, spans .1, l .end, n)) ∙ wide
+
+  pub same-parts : {k : ℕ} → k ≡ at + (f .first - 1 + g .to - (f .first - 1 + g .from))
+      → length (take (f .first - 1 + g .to - (f .first - 1 + g .from)) (drop (f .first - 1 + g .from) rec)) ≡ length (take (k - at) (drop at out))
+  same-parts {k} ek =
+      let h : at + widthOf (givenAt f) ≤ length out = rw (spans .2) at (spans .3) in
+      let j : k ≡ at + widthOf (givenAt f) = ek ∙ ap (λ (v : ℕ). at + v) wide in
+      part-length ∙ sym (length-gap out at (widthOf (givenAt f)) k j (rw j h))
+
+  pub on : {k : ℕ} {ys : List ℕ} → k ≡ at + (f .first - 1 + g .to - (f .first - 1 + g .from))
+      → ys ≡ take (f .first - 1 + g .to - (f .first - 1 + g .from)) (drop (f .first - 1 + g .from) rec)
+      → Joining fs rec (take at out ++ (ys ++ drop (k - at) (drop at out))) k room whole
+  on {k} {ys} ek ey =
+      let w = wide in
+      let y : ys ≡ partAt (givenAt f) rec = ey ∙ part in
+      let ly : length ys ≡ widthOf (givenAt f) = ap length ey ∙ part-length in
+      let p = after out ys at (widthOf (givenAt f)) k ly (ek ∙ ap (λ (v : ℕ). at + v) w) (rw (ek, w) (rw (spans .2) at (spans .3))) in
+      record {
+        same = p .1 ∙ m .same;
+        fits = fit .1;
+        left =
+            ap (λ (v : ℕ). v + widthsOf (map givenAt fs)) (ek ∙ ap (λ (v : ℕ). at + v) w) ∙ add-assoc at (widthOf (givenAt f)) (widthsOf (map givenAt fs)) ∙ m .left ∙ sym (p .1);
+        bytes = rw (p .0, y) (append-assoc (take at out) (partAt (givenAt f) rec) (gather (map givenAt fs) rec) ∙ m .bytes);
+      }
+
+pub at-row : (copy : List Field) (d : Field) (i to : ℕ) {rec out : List ℕ} {at room : ℕ} {whole : List ℕ} → i < to → to ≤ length copy
+    → Joining (slice i to copy) rec out at room whole → Joining (getD copy i d ∷ slice (i + 1) to copy) rec out at room whole
+at-row copy d i to h k m = rw add-one (rw (slice-cons i to copy d h k) at m)
+
+pub at-end : (copy : List Field) (i to : ℕ) {rec out : List ℕ} {at room : ℕ} {whole : List ℕ} → i ≤ to → to ≤ i
+    → Joining (slice i to copy) rec out at room whole → out ≡ whole
+at-end copy i to h k m = joined (rw (le-antisymm h k, slice-empty) at m)

@@ -1,0 +1,324 @@
+-- Laws of a record that is made field by field. Assumes nothing.
+use Prim.Native.Nat.{ℕ, suc, _+_, _-_, _^_, _≤_, _<_}
+use mathlib.Core.Bool.{Bool, true, false, cond, and-eq-true-iff}
+use mathlib.Core.List.{List, [], _∷_, _++_, map, append-assoc, append-nil}
+use mathlib.Core.Path.{_≡_, refl, sym, ap, _∙_}
+use native.Mathlib.Nat.{le-antisymm}
+use native.Mathlib.Numerals.{add-one}
+use native.Mathlib.Omega.{arith}
+use borrow.Author.Tests.{eq-eqb, ne-eqb, eqb-true}
+use lib.Dec.{eqb, ltb}
+use lib.ListN.{length, getD, set, take, drop, replicate, length-append, length-drop, length-replicate, replicate-append-replicate}
+use lib.Seq.{slice, slice-cons, slice-empty, take-all, drop-length, length-take-le, take-at, drop-drop, getD-drop, take-suc-set}
+use Rattle.answer.specs.declared.Reason.{Reason}
+use Rattle.answer.specs.declared.Reason.the-variants.{WrongLength, NoDigit, TooWide}
+use Rattle.answer.specs.declared.Answer.{Answer}
+use Rattle.answer.specs.declared.Answer.the-variants.{Accepted, Refused}
+use Rattle.answer.specs.Refusals.{answerPlace}
+use Rattle.answer.specs.Orders.{asked, _then_, kept, movedBy, behind, heldBehind}
+use Rattle.answer.proofs.Orders.{accepted-takes, asked-place, then-place, behind-is-held}
+use Rattle.decimal.specs.declared.Class.the-variants.{Digit}
+use Rattle.decimal.specs.Bytes.{isOf}
+use Rattle.decimal.specs.Numbers.{digitsOf, widthAnswer}
+use Rattle.decimal.proofs.Bytes.{each-accepts}
+use Rattle.decimal.proofs.Numbers.{digits-fill}
+use Rattle.decimal.specs.Places.{widthOf, putAt}
+use Rattle.decimal.proofs.Places.{put-whole}
+use Rattle.layout.specs.declared.Field.{Field}
+use Rattle.layout.specs.declared.Given.{Given}
+use Rattle.layout.specs.declared.Kind.{Kind}
+use Rattle.layout.specs.declared.Kind.the-variants as kind
+use Rattle.layout.specs.declared.Record.{Record}
+use Rattle.layout.specs.declared.Record.the-variants.{Header, Payment, Trailer}
+use Rattle.layout.specs.Layouts.{recordLength, layoutOf, stretchOf, givenOf, givenAt, givenLength, widthsOf, covers}
+use Rattle.layout.proofs.Layouts.{Next, next, covers-end, fields-cover}
+use Rattle.layout.proofs.Tables.{every}
+use Rattle.record.specs.Kinds.{kindAnswer}
+use Rattle.record.proofs.KindLaws.{kind-place}
+use Rattle.fields.specs.Making.{writtenOf, isMoney, putAnswer, takes, pieceOf, pieceAnswer, amountsAfter, madeOf, makingAnswer, makeAnswer}
+
+-- bytes that are copied into as many
+pub copied : (src out : List ℕ) {l : List ℕ} → length src ≡ length out → l ≡ take (length src) src ++ drop (length src) out → l ≡ src
+copied src out n e =
+    let a : take (length src) src ≡ src = take-all (length src) src (omega arith) in
+    let b : drop (length src) out ≡ [] = rw n (drop-length out) in
+    e ∙ rw (a, b) (append-nil src)
+
+-- one blank more
+pub blank-step : (out : List ℕ) (i : ℕ) → i < length out → take i out ≡ replicate i 32 → take (i + 1) (set out i 32) ≡ replicate (i + 1) 32
+blank-step out i h e =
+    let f : take (suc i) (set out i 32) ≡ take i out ++ (32 ∷ []) = take-suc-set out i 32 h in
+    rw add-one (f ∙ rw e (replicate-append-replicate i 1 32 ∙ rw add-one))
+
+-- Money is its digits, and everything else is asked by its kind.
+
+money-is : (k : Kind) → isMoney k ≡ true → k ≡ kind.Money
+money-is (kind.Mark byte) e = cc
+money-is kind.Version e = cc
+money-is kind.Service e = cc
+money-is kind.Blank e = cc
+money-is kind.Text e = cc
+money-is kind.Digits e = cc
+money-is kind.Money e = refl
+money-is kind.Date e = cc
+money-is kind.Barcode e = cc
+money-is kind.Capture e = cc
+money-is kind.Form e = cc
+
+pub other-is : (k : Kind) (w : ℕ) (given : List ℕ) (n : ℕ) → isMoney k ≡ false → writtenOf k w given n ≡ writtenOf k w given 0
+other-is (kind.Mark byte) w given n e = refl
+other-is kind.Version w given n e = refl
+other-is kind.Service w given n e = refl
+other-is kind.Blank w given n e = refl
+other-is kind.Text w given n e = refl
+other-is kind.Digits w given n e = refl
+other-is kind.Money w given n e = cc
+other-is kind.Date w given n e = refl
+other-is kind.Barcode w given n e = refl
+other-is kind.Capture w given n e = refl
+other-is kind.Form w given n e = refl
+
+digits-accepted : (w n : ℕ) → kindAnswer kind.Money (digitsOf w n) ≡ Accepted
+unfolding kindAnswer
+digits-accepted w n = each-accepts (isOf Digit) NoDigit 1 (digitsOf w n) .1 (digits-fill w n .1)
+
+then-none : (a : Answer) → a then Accepted ≡ a
+then-none Accepted = refl
+then-none (Refused why p) = refl
+
+module _ (k : Kind) (w : ℕ) (given : List ℕ) (n : ℕ) where
+  pub put-money : {r : Answer} → isMoney k ≡ true → r ≡ widthAnswer w n → r ≡ putAnswer k w given n
+  unfolding putAnswer
+  put-money e q = rw (money-is k e, digits-accepted w n, then-none (widthAnswer w n)) q
+
+  pub put-money-bytes : (r : Answer) (old : List ℕ) {new : List ℕ} → isMoney k ≡ true → length old ≡ w → new ≡ kept r (putAt 0 (digitsOf w n) old) old → r ≡ Accepted
+      → new ≡ writtenOf k w given n
+  put-money-bytes r old e l q a =
+      rw (money-is k e) (q ∙ accepted-takes r (putAt 0 (digitsOf w n) old) old a ∙ put-whole (digitsOf w n) old (digits-fill w n .0 ∙ sym l))
+
+  pub put-other : {r : Answer} {new : List ℕ} → isMoney k ≡ false → new ≡ writtenOf k w given 0 → r ≡ kindAnswer k new → r ≡ putAnswer k w given n
+  unfolding putAnswer
+  put-other e q a = rw e (a ∙ ap (kindAnswer k) (q ∙ sym (other-is k w given n e)))
+
+-- The widths: what is given for a field, and what is written for it.
+
+pub given-order : (k : Kind) (w : ℕ) → (givenOf k w .from ≤ givenOf k w .to)
+given-order (kind.Mark byte) w = omega arith
+given-order kind.Version w = omega arith
+given-order kind.Service w = omega arith
+given-order kind.Blank w = omega arith
+given-order kind.Text w = omega arith
+given-order kind.Digits w = omega arith
+given-order kind.Money w = omega arith
+given-order kind.Date w = omega arith
+given-order kind.Barcode w = omega arith
+given-order kind.Capture w = omega arith
+given-order kind.Form w = omega arith
+
+-- the width of what is given of a field
+pub takes-are : (f : Field) → 1 ≤ f .first → givenOf (f .kind) (widthOf (stretchOf f)) .to - givenOf (f .kind) (widthOf (stretchOf f)) .from ≡ takes f
+takes-are f h = omega (arith, given-order (f .kind) (widthOf (stretchOf f)))
+
+-- a kind that is fixed fits its width
+unfoldable pub fitsKind : Kind → ℕ → Bool
+fitsKind (kind.Mark byte) w = eqb w 1
+fitsKind kind.Version w = eqb w 2
+fitsKind kind.Service w = eqb w 17
+fitsKind kind.Blank w = true
+fitsKind kind.Text w = true
+fitsKind kind.Digits w = true
+fitsKind kind.Money w = true
+fitsKind kind.Date w = true
+fitsKind kind.Barcode w = true
+fitsKind kind.Capture w = true
+fitsKind kind.Form w = true
+
+pub written-length : (k : Kind) (w : ℕ) (piece : List ℕ) (n : ℕ) → fitsKind k w ≡ true → length piece ≡ givenOf k w .to - givenOf k w .from
+    → length (writtenOf k w piece n) ≡ w
+unfolding fitsKind
+written-length (kind.Mark byte) w piece n t e = sym (eqb-true w 1 t)
+written-length kind.Version w piece n t e = sym (eqb-true w 2 t)
+written-length kind.Service w piece n t e = sym (eqb-true w 17 t)
+written-length kind.Blank w piece n t e = length-replicate w 32
+written-length kind.Text w piece n t e = e ∙ omega arith
+written-length kind.Digits w piece n t e = e ∙ omega arith
+written-length kind.Money w piece n t e = digits-fill w n .0
+written-length kind.Date w piece n t e = e ∙ omega arith
+written-length kind.Barcode w piece n t e = e ∙ omega arith
+written-length kind.Capture w piece n t e = e ∙ omega arith
+written-length kind.Form w piece n t e = e ∙ omega arith
+
+abbrev pub fitsField : Field → Bool
+fitsField f = fitsKind (f .kind) (widthOf (stretchOf f))
+
+-- What is known before a field: the bytes made so far and those to come are the record, and so the answers.
+pub record Making (rows : List Field) (given amounts made : List ℕ) (done at used : ℕ) (r : Answer) (whole : List ℕ) : Type 0 where
+  pub room : length made ≡ recordLength
+  pub cover : covers (done + 1) rows ≡ true
+  pub fits : every fitsField rows ≡ true
+  pub left : at + widthsOf (map givenAt rows) ≡ length given
+  pub few : used + length rows ≤ 28
+  pub bytes : take done made ++ madeOf rows (drop at given) (drop used amounts) ≡ whole
+  pub asks : makingAnswer rows (drop at given) (drop used amounts) ≡ r
+
+pub layout-fits : (r : Record) → (every fitsField (layoutOf r) ≡ true) × (length (layoutOf r) ≤ 28)
+unfolding layoutOf fitsKind
+layout-fits Header = (refl, omega arith)
+layout-fits Payment = (refl, omega arith)
+layout-fits Trailer = (refl, omega arith)
+
+pub start : (r : Record) {rows : List Field} (given amounts made : List ℕ) → rows ≡ layoutOf r → length made ≡ recordLength → length given ≡ givenLength r
+    → Making rows given amounts made 0 0 0 (makingAnswer rows given amounts) (madeOf rows given amounts)
+unfolding givenLength
+start r given amounts made e n g =
+    rw e (record {
+      room = n;
+      cover = fields-cover r;
+      fits = layout-fits r .0;
+      left = omega (arith, g);
+      few = omega (arith, layout-fits r .1);
+      bytes = refl;
+      asks = refl;
+    })
+
+pub finish : {given amounts made : List ℕ} {done at used : ℕ} {r : Answer} {whole : List ℕ} → Making [] given amounts made done at used r whole
+    → (Accepted ≡ r) × (made ≡ whole)
+finish {made = made} {done = done} m =
+    let d : done ≡ recordLength = omega (arith, eqb-true (done + 1) (recordLength + 1) (m .cover)) in
+    let t : take done made ≡ made = take-all done made (omega (arith, m .room)) in
+    (m .asks, sym t ∙ sym (append-nil (take done made)) ∙ m .bytes)
+
+pub blank-end : (out old : List ℕ) (i : ℕ) → length out ≤ i → i ≤ length out → length out ≡ length old → take i out ≡ replicate i 32
+    → out ≡ replicate (length old) 32
+blank-end out old i h k n e =
+    let l : i ≡ length old = omega arith in
+    sym (take-all i out h) ∙ e ∙ ap (λ (m : ℕ). replicate m 32) l
+
+put-place : (k : Kind) (w : ℕ) (piece : List ℕ) (n : ℕ) → length (writtenOf k w piece n) ≡ w → w ≤ 150 → answerPlace (putAnswer k w piece n) ≤ 151
+unfolding putAnswer
+put-place k w piece n e h =
+    let wide : (t : Bool) → answerPlace (cond t (widthAnswer w n) Accepted) ≤ 151 =
+    λ t. elim t as (λ (b : Bool). answerPlace (cond b (widthAnswer w n) Accepted) ≤ 151) [ true ↦ asked-place 151 (ltb n (10 ^ w)) TooWide 1 (omega arith) | false ↦ omega arith ] in
+    then-place 151 (cond (isMoney k) (widthAnswer w n) Accepted) (kindAnswer k (writtenOf k w piece n)) (wide (isMoney k))
+    (kind-place k (writtenOf k w piece n) (omega arith))
+
+used-on : (t : Bool) (used : ℕ) (amounts : List ℕ) → drop (cond t (used + 1) used) amounts ≡ cond t (drop 1 (drop used amounts)) (drop used amounts)
+used-on true used amounts = sym (drop-drop 1 used amounts)
+used-on false used amounts = refl
+
+used-few : (t : Bool) (used : ℕ) {u : ℕ} → u ≡ cond t (used + 1) used → u ≤ used + 1
+used-few true used e = omega arith
+used-few false used e = omega arith
+
+-- One field: what the code asks of it, and what is known after it.
+module _ {f : Field} {fs : List Field} {given amounts made : List ℕ} {done at used : ℕ} {r : Answer} {whole : List ℕ} (m : Making (f ∷ fs) given amounts made done at used r whole) where
+  here : Next (done + 1) f fs
+  here = next (done + 1) f fs (m .cover)
+
+  fit : (fitsField f ≡ true) × (every fitsField fs ≡ true)
+  fit = and-eq-true-iff (fitsField f) (every fitsField fs) .0 (m .fits)
+
+  pub ends : (done ≤ f .last) × (f .last ≤ recordLength) × (used ≤ 28)
+  ends = (omega (arith, here .wide), omega (arith, covers-end fs (f .last + 1) (here .rest)), omega (arith, m .few))
+
+  front : f .first - 1 ≡ done
+  front = omega (arith, here .here)
+
+  width : length (take (f .last - done) (drop done made)) ≡ widthOf (stretchOf f)
+  width =
+      let l = length-take-le (f .last - done) (drop done made) (omega (arith, length-drop done made, m .room, ends .0, ends .1)) in
+      l ∙ omega (arith, front)
+
+  -- the bytes that are given for it
+  module _ {g : Given} (e : g ≡ givenOf (f .kind) (f .last - done)) where
+    same-given : g ≡ givenOf (f .kind) (widthOf (stretchOf f))
+    same-given = let w : f .last - done ≡ widthOf (stretchOf f) = omega (arith, front) in e ∙ ap (givenOf (f .kind)) w
+
+    pub spans : (g .from ≤ g .to) × (g .to - g .from ≡ takes f) × (at + (g .to - g .from) ≤ length given)
+    spans =
+        let o : g .from ≤ g .to = rw same-given (given-order (f .kind) (widthOf (stretchOf f))) in
+        let t : g .to - g .from ≡ takes f = rw same-given (takes-are f (omega (arith, here .here))) in
+        (o, t, omega (arith, m .left))
+
+    piece : take (at + (g .to - g .from) - at) (drop at given) ≡ take (takes f) (drop at given)
+    piece = let n : at + (g .to - g .from) - at ≡ takes f = omega (arith, spans .1) in ap (λ (k : ℕ). take k (drop at given)) n
+
+    piece-length : length (take (takes f) (drop at given)) ≡ givenOf (f .kind) (widthOf (stretchOf f)) .to - givenOf (f .kind) (widthOf (stretchOf f)) .from
+    piece-length =
+        length-take-le (takes f) (drop at given) (omega (arith, length-drop at given, spans .1, spans .2)) ∙ sym (spans .1) ∙ rw same-given
+
+    pub fits-part : (x : ℕ)
+        → length (writtenOf (f .kind) (length (take (f .last - done) (drop done made))) (take (at + (g .to - g .from) - at) (drop at given)) x) ≡ length (take (f .last - done) (drop done made))
+    fits-part x = rw (width, piece) (written-length (f .kind) (widthOf (stretchOf f)) (take (takes f) (drop at given)) x (fit .0) piece-length)
+
+    -- the answer of the call, in the table's words
+    module _ {a : Answer} {x : ℕ} (ax : x ≡ getD amounts used 0)
+        (q : a ≡ putAnswer (f .kind) (length (take (f .last - done) (drop done made))) (take (at + (g .to - g .from) - at) (drop at given)) x) where
+      amount : x ≡ getD (drop used amounts) 0 0
+      amount = let z : used + 0 ≡ used = omega arith in ax ∙ ap (λ (k : ℕ). getD amounts k 0) (sym z) ∙ sym (getD-drop used amounts 0 0)
+
+      asked-as : a ≡ putAnswer (f .kind) (widthOf (stretchOf f)) (take (takes f) (drop at given)) (getD (drop used amounts) 0 0)
+      asked-as = q ∙ rw (width, piece, ← amount)
+
+      near : (answerPlace a ≤ 151) × (done ≤ 150)
+      near =
+          let l = written-length (f .kind) (widthOf (stretchOf f)) (take (takes f) (drop at given)) (getD (drop used amounts) 0 0) (fit .0) piece-length in
+          let s : widthOf (stretchOf f) ≤ 150 = omega (arith, ends .1) in
+          (rw asked-as (put-place (f .kind) (widthOf (stretchOf f)) (take (takes f) (drop at given)) (getD (drop used amounts) 0 0) l s), omega (arith, ends .0, ends .1))
+
+      pub refuses : {b : Answer} {why : Reason} {p : ℕ} → a ≡ Refused why p → b ≡ movedBy (heldBehind done) a → b ≡ r
+      refuses {b} {why} {p} e2 h =
+          let z : pieceAnswer f (drop at given) (drop used amounts) ≡ Refused why (behind done p) =
+          ap (movedBy (behind (f .first - 1))) (sym asked-as ∙ e2) ∙ ap (λ (k : ℕ). Refused why (behind k p)) front in
+          h ∙ behind-is-held done a (omega (arith, near)) ∙ rw e2 (rw z at (m .asks))
+
+      pub step : {n u : ℕ} {ys : List ℕ} → a ≡ Accepted → n ≡ at + (g .to - g .from) → u ≡ cond (isMoney (f .kind)) (used + 1) used
+          → ys ≡ writtenOf (f .kind) (length (take (f .last - done) (drop done made))) (take (at + (g .to - g .from) - at) (drop at given)) x
+          → Making fs given amounts (take done made ++ (ys ++ drop (f .last - done) (drop done made))) (f .last) n u r whole
+      step {n} {u} {ys} e2 en eu ey =
+          let y : ys ≡ pieceOf f (drop at given) (drop used amounts) = ey ∙ rw (width, piece, ← amount) in
+          let ly : length ys ≡ widthOf (stretchOf f) = rw y (written-length (f .kind) (widthOf (stretchOf f)) (take (takes f) (drop at given)) (getD (drop used amounts) 0 0) (fit .0) piece-length) in
+          let lt : length (take done made) ≡ done = length-take-le done made (omega (arith, m .room, ends .0, ends .1)) in
+          let rest = drop (f .last - done) (drop done made) in
+          let lr : length rest ≡ recordLength - f .last = length-drop (f .last - done) (drop done made) ∙ omega (arith, length-drop done made, m .room, ends .0) in
+          let la : length (take done made ++ ys) ≡ f .last = length-append (take done made) ys ∙ omega (arith, front, ends .0) in
+          let tk : take (f .last) (take done made ++ (ys ++ rest)) ≡ take done made ++ ys = rw (← append-assoc (take done made) ys rest) (take-at (take done made ++ ys) rest (f .last) la) in
+          let gn : drop n given ≡ drop (takes f) (drop at given) = rw (en, spans .1) (sym (drop-drop (takes f) at given)) in
+          let un : drop u amounts ≡ amountsAfter f (drop used amounts) = rw eu (used-on (isMoney (f .kind)) used amounts) in
+          let z : pieceAnswer f (drop at given) (drop used amounts) ≡ Accepted = ap (movedBy (behind (f .first - 1))) (sym asked-as ∙ e2) in
+          record {
+            room = length-append (take done made) (ys ++ rest) ∙ omega (arith, length-append ys rest, front, ends .0, ends .1);
+            cover = here .rest;
+            fits = fit .1;
+            left = omega (arith, m .left, spans .1);
+            few = omega (arith, m .few, used-few (isMoney (f .kind)) used eu);
+            bytes = rw (tk, gn, un, y) (append-assoc (take done made) (pieceOf f (drop at given) (drop used amounts)) (madeOf fs (drop (takes f) (drop at given)) (amountsAfter f (drop used amounts))) ∙ m .bytes);
+            asks = rw (gn, un) (rw z at (m .asks));
+          }
+
+-- at a row of the table
+pub at-row : (copy : List Field) (d : Field) (i to : ℕ) {given amounts made : List ℕ} {done at used : ℕ} {r : Answer} {whole : List ℕ} → i < to → to ≤ length copy
+    → Making (slice i to copy) given amounts made done at used r whole → Making (getD copy i d ∷ slice (i + 1) to copy) given amounts made done at used r whole
+at-row copy d i to h k m = rw add-one (rw (slice-cons i to copy d h k) at m)
+
+pub at-end : (copy : List Field) (i to : ℕ) {given amounts made : List ℕ} {done at used : ℕ} {r : Answer} {whole : List ℕ} → i ≤ to → to ≤ i
+    → Making (slice i to copy) given amounts made done at used r whole → (Accepted ≡ r) × (made ≡ whole)
+at-end copy i to h k m = finish (rw (le-antisymm h k, slice-empty) at m)
+
+-- The door: the two lengths, then the fields.
+module _ (r : Record) (given amounts : List ℕ) {room : ℕ} where
+  pub no-room : (room ≡ recordLength → ⊥) → Refused WrongLength 0 ≡ makeAnswer r given amounts room
+  unfolding makeAnswer
+  no-room h = rw (ne-eqb room recordLength h)
+
+  pub no-given : {n : ℕ} → room ≡ recordLength → n ≡ givenLength r → (length given ≡ n → ⊥) → Refused WrongLength 0 ≡ makeAnswer r given amounts room
+  unfolding makeAnswer
+  no-given e q h = rw (eq-eqb room recordLength e, ne-eqb (length given) (givenLength r) (λ k. h (k ∙ sym q)))
+
+  pub goes-on : {a : Answer} → room ≡ recordLength → length given ≡ givenLength r → a ≡ makingAnswer (layoutOf r) given amounts → a ≡ makeAnswer r given amounts room
+  unfolding makeAnswer
+  goes-on e q h = rw (eq-eqb room recordLength e, eq-eqb (length given) (givenLength r) q) h
+
+pub made-copied : (made out : List ℕ) {l x : List ℕ} {a : Answer} → length made ≡ length out → a ≡ Accepted → made ≡ x
+    → l ≡ take (length made) made ++ drop (length made) out → l ≡ kept a x out
+made-copied made out n e f q = rw e (copied made out n q ∙ f)

@@ -1,0 +1,236 @@
+-- The round trips: a record's fields make it again, and what is made has the fields it was given. Assumes nothing.
+use Prim.Native.Nat.{ℕ, zero, suc, _+_, _-_, _^_, _≤_, _<_}
+use mathlib.Core.Bool.{Bool, true, false, cond, _&&_, and-eq-true-iff}
+use mathlib.Core.List.{List, [], _∷_, _++_, map, append-assoc, append-nil}
+use mathlib.Core.Path.{_≡_, refl, sym, ap, _∙_}
+use native.Mathlib.Nat.{not-suc-le-zero, le-of-suc-le-suc}
+use native.Mathlib.Omega.{arith}
+use borrow.Author.Tests.{lt-ltb, eqb-true}
+use lib.Dec.{eqb, ltb}
+use lib.ListN.{length, getD, take, drop, replicate, length-append, length-drop, drop-of-length-le, take-append-drop}
+use lib.Seq.{length-take-le, take-all, take-at, drop-at, drop-drop, take-take}
+use Rattle.answer.specs.declared.Reason.the-variants.{NoDigit, FixedDiffers, TooWide}
+use Rattle.answer.specs.declared.Answer.the-variants.{Accepted}
+use Rattle.answer.specs.Orders.{_then_, first, movedBy, behind}
+use Rattle.answer.proofs.Orders.{asked-accepts, then-accepts, moved-accepts}
+use Rattle.decimal.specs.declared.Class.the-variants.{Digit, Blank}
+use Rattle.decimal.specs.Bytes.{isOf, all}
+use Rattle.decimal.specs.Numbers.{numberOf, digitsOf, widthAnswer}
+use Rattle.decimal.proofs.Bytes.{each-accepts}
+use Rattle.decimal.proofs.Numbers.{number-fits, digits-of-number}
+use Rattle.decimal.specs.Places.{widthOf, partAt, gather}
+use Rattle.layout.specs.declared.Field.{Field}
+use Rattle.layout.specs.declared.Kind.{Kind}
+use Rattle.layout.specs.declared.Kind.the-variants as kind
+use Rattle.layout.specs.Layouts.{recordLength, layoutOf, stretchOf, givenOf, givenAt, givenLength, widthsOf, covers}
+use Rattle.layout.proofs.Layouts.{next, covers-end, fields-cover}
+use Rattle.layout.proofs.Tables.{every}
+use Rattle.record.specs.Kinds.{version, serviceOf, isSpelling, isService, same, kindAnswer}
+use Rattle.record.specs.Records.{partOf, fieldAnswer}
+use Rattle.fields.specs.Making.{writtenOf, isMoney, putAnswer, takes, pieceOf, pieceAnswer, amountsAfter, madeOf, makingAnswer, amountsIn, FieldsMakeTheRecord, MadeIsAccepted}
+use Rattle.record.proofs.KindLaws.{same-equal}
+use Rattle.fields.proofs.Makes.{fitsKind, fitsField, given-order, takes-are, written-length, layout-fits, other-is}
+use Rattle.fields.proofs.Joins.{given-in}
+
+blanks : (bs : List ℕ) → all (isOf Blank) bs ≡ true → replicate (length bs) 32 ≡ bs
+unfolding isOf
+blanks [] t = refl
+blanks (b ∷ bs) t =
+    let both = and-eq-true-iff (eqb b 32) (all (isOf Blank) bs) .0 t in
+    rw (eqb-true b 32 (both .0), blanks bs (both .1))
+
+-- an accepted field's bytes are written again from what is given of them, and from their number
+written-back : (k : Kind) (w : ℕ) (bs : List ℕ) → length bs ≡ w → fitsKind k w ≡ true → kindAnswer k bs ≡ Accepted
+    → writtenOf k w (take (givenOf k w .to - givenOf k w .from) (drop (givenOf k w .from) bs)) (numberOf bs) ≡ bs
+unfolding kindAnswer isService
+written-back (kind.Mark byte) w bs n t a = sym (same-equal bs (byte ∷ []) (asked-accepts (same bs (byte ∷ [])) FixedDiffers 1 .0 a))
+written-back kind.Version w bs n t a = sym (same-equal bs version (asked-accepts (same bs version) FixedDiffers 1 .0 a))
+written-back kind.Service w bs n t a =
+    let s = asked-accepts (isSpelling (getD bs 1 0) && same bs (serviceOf (getD bs 1 0))) FixedDiffers 1 .0 a in
+    let e = same-equal bs (serviceOf (getD bs 1 0)) (and-eq-true-iff (isSpelling (getD bs 1 0)) (same bs (serviceOf (getD bs 1 0))) .0 s .1) in
+    let g : getD (take 1 (drop 1 bs)) 0 0 ≡ getD bs 1 0 = ap (λ (l : List ℕ). getD (take 1 (drop 1 l)) 0 0) e in
+    ap serviceOf g ∙ sym e
+written-back kind.Blank w bs n t a =
+    ap (λ (m : ℕ). replicate m 32) (sym n) ∙ blanks bs (asked-accepts (all (isOf Blank) bs) FixedDiffers 1 .0 a)
+written-back kind.Text w bs n t a = take-all (w - 0) bs (omega arith)
+written-back kind.Digits w bs n t a = take-all (w - 0) bs (omega arith)
+written-back kind.Money w bs n t a =
+    ap (λ (m : ℕ). digitsOf m (numberOf bs)) (sym n) ∙ digits-of-number bs (each-accepts (isOf Digit) NoDigit 1 bs .0 a)
+written-back kind.Date w bs n t a = take-all (w - 0) bs (omega arith)
+written-back kind.Barcode w bs n t a = take-all (w - 0) bs (omega arith)
+written-back kind.Capture w bs n t a = take-all (w - 0) bs (omega arith)
+written-back kind.Form w bs n t a = take-all (w - 0) bs (omega arith)
+
+-- a number that was read has room where it stood
+number-fits-back : (k : Kind) (w : ℕ) (bs : List ℕ) → length bs ≡ w → cond (isMoney k) (widthAnswer w (numberOf bs)) Accepted ≡ Accepted
+number-fits-back k w bs n =
+    let h : numberOf bs < 10 ^ w = rw (sym n) (number-fits bs) in
+    let a : widthAnswer w (numberOf bs) ≡ Accepted = asked-accepts (ltb (numberOf bs) (10 ^ w)) TooWide 1 .1 (lt-ltb (numberOf bs) (10 ^ w) h) in
+    elim (isMoney k) as (λ (b : Bool). cond b (widthAnswer w (numberOf bs)) Accepted ≡ Accepted) [ true ↦ a | false ↦ refl ]
+
+-- a part of a part
+drop-take : (m w : ℕ) (l : List ℕ) → m ≤ w → drop m (take w l) ≡ take (w - m) (drop m l)
+drop-take zero w l h = let e : w - 0 ≡ w = omega arith in rw e
+drop-take (suc m) zero l h = absurd (not-suc-le-zero h)
+drop-take (suc m) (suc w) [] h = sym (take-all (suc w - suc m) [] (omega arith))
+drop-take (suc m) (suc w) (x ∷ l) h = let e : suc w - suc m ≡ w - m = omega arith in rw e (drop-take m w l (le-of-suc-le-suc h))
+
+part-of-part : (rec : List ℕ) (a w m n : ℕ) → m + n ≤ w → take n (drop m (take w (drop a rec))) ≡ take n (drop (a + m) rec)
+part-of-part rec a w m n h =
+    rw (drop-take m w (drop a rec) (omega arith), drop-drop m a rec) (take-take n (w - m) (drop (a + m) rec) (omega arith))
+
+-- what is given of a field, from the field's bytes
+given-part : (f : Field) (rec : List ℕ) → 1 ≤ f .first → fitsField f ≡ true
+    → take (givenOf (f .kind) (widthOf (stretchOf f)) .to - givenOf (f .kind) (widthOf (stretchOf f)) .from) (drop (givenOf (f .kind) (widthOf (stretchOf f)) .from) (partOf f rec))
+    ≡ partAt (givenAt f) rec
+given-part f rec h t =
+    let w = widthOf (stretchOf f) in
+    let from = givenOf (f .kind) w .from in
+    let to = givenOf (f .kind) w .to in
+    let o : from ≤ to = given-order (f .kind) w in
+    let i : to ≤ w = given-in (f .kind) w t in
+    let a : f .first - 1 + from ≡ f .first + from - 1 = omega arith in
+    part-of-part rec (f .first - 1) w from (to - from) (omega arith) ∙ rw (a, takes-are f h)
+
+given-length : (f : Field) (rec : List ℕ) → 1 ≤ f .first → fitsField f ≡ true → f .first ≤ f .last → f .last ≤ recordLength → length rec ≡ recordLength
+    → length (partAt (givenAt f) rec) ≡ takes f
+given-length f rec h t o e n =
+    let i : givenOf (f .kind) (widthOf (stretchOf f)) .to ≤ widthOf (stretchOf f) = given-in (f .kind) (widthOf (stretchOf f)) t in
+    length-take-le (takes f) (drop (givenAt f .first - 1) rec) (omega (arith, length-drop (givenAt f .first - 1) rec, given-order (f .kind) (widthOf (stretchOf f))))
+
+-- the amount in a field's turn, and those after it
+after-is : (t : Bool) (x : ℕ) (rest : List ℕ) → cond t (drop 1 (cond t (x ∷ rest) rest)) (cond t (x ∷ rest) rest) ≡ rest
+after-is true x rest = refl
+after-is false x rest = refl
+
+put-back : (k : Kind) (w : ℕ) (piece rest bs : List ℕ) → length bs ≡ w → kindAnswer k bs ≡ Accepted → writtenOf k w piece (numberOf bs) ≡ bs
+    → (putAnswer k w piece (getD (cond (isMoney k) (numberOf bs ∷ rest) rest) 0 0) ≡ Accepted) × (writtenOf k w piece (getD (cond (isMoney k) (numberOf bs ∷ rest) rest) 0 0) ≡ bs)
+unfolding putAnswer
+put-back k w piece rest bs n a e = go (isMoney k) refl
+  where
+    go : (t : Bool) → isMoney k ≡ t
+        → (cond t (widthAnswer w (getD (cond t (numberOf bs ∷ rest) rest) 0 0)) Accepted then kindAnswer k (writtenOf k w piece (getD (cond t (numberOf bs ∷ rest) rest) 0 0)) ≡ Accepted)
+        × (writtenOf k w piece (getD (cond t (numberOf bs ∷ rest) rest) 0 0) ≡ bs)
+    go true q =
+        let wide : widthAnswer w (numberOf bs) ≡ Accepted = rw q at (number-fits-back k w bs n) in
+        (then-accepts (widthAnswer w (numberOf bs)) (kindAnswer k (writtenOf k w piece (numberOf bs))) .1 (wide, ap (kindAnswer k) e ∙ a), e)
+    go false q =
+        let f = other-is k w piece (getD rest 0 0) q ∙ sym (other-is k w piece (numberOf bs) q) ∙ e in
+        (ap (kindAnswer k) f ∙ a, f)
+
+seam : (place last : ℕ) → 1 ≤ place → place ≤ last → last + 1 - 1 ≡ (place - 1) + (last - (place - 1))
+seam place last h k = omega arith
+
+-- Trip one, from a field on.
+made-from : (fs : List Field) (place : ℕ) (rec : List ℕ) → 1 ≤ place → length rec ≡ recordLength → covers place fs ≡ true → every fitsField fs ≡ true
+    → first (fieldAnswer rec) fs ≡ Accepted
+    → (makingAnswer fs (gather (map givenAt fs) rec) (amountsIn fs rec) ≡ Accepted) × (madeOf fs (gather (map givenAt fs) rec) (amountsIn fs rec) ≡ drop (place - 1) rec)
+unfolding fieldAnswer
+made-from [] place rec h n t q a =
+    let l : length rec ≤ place - 1 = omega (arith, eqb-true place (recordLength + 1) t) in
+    (refl, sym (drop-of-length-le rec l))
+made-from (f ∷ fs) place rec h n t q a =
+    let x = next place f fs t in
+    let fit = and-eq-true-iff (fitsField f) (every fitsField fs) .0 q in
+    let both = then-accepts (fieldAnswer rec f) (first (fieldAnswer rec) fs) .0 a in
+    let k = moved-accepts (behind (f .first - 1)) (kindAnswer (f .kind) (partOf f rec)) .0 (both .0) in
+    let one : 1 ≤ f .first = omega (arith, x .here) in
+    let end : f .last ≤ recordLength = omega (arith, covers-end fs (f .last + 1) (x .rest)) in
+    let w = widthOf (stretchOf f) in
+    let lb : length (partOf f rec) ≡ w = length-take-le w (drop (f .first - 1) rec) (omega (arith, length-drop (f .first - 1) rec, x .here, x .wide)) in
+    let g = partAt (givenAt f) rec in
+    let rest = gather (map givenAt fs) rec in
+    let amounts = amountsIn fs rec in
+    let gp = given-part f rec one (fit .0) in
+    let wb : writtenOf (f .kind) w g (numberOf (partOf f rec)) ≡ partOf f rec =
+    ap (λ (l : List ℕ). writtenOf (f .kind) w l (numberOf (partOf f rec))) (sym gp) ∙ written-back (f .kind) w (partOf f rec) lb (fit .0) k in
+    let p = put-back (f .kind) w g amounts (partOf f rec) lb k wb in
+    let lg : length g ≡ takes f = given-length f rec one (fit .0) (omega (arith, x .here, x .wide)) end n in
+    let tg : take (takes f) (g ++ rest) ≡ g = take-at g rest (takes f) lg in
+    let dg : drop (takes f) (g ++ rest) ≡ rest = drop-at g rest (takes f) lg in
+    let am = after-is (isMoney (f .kind)) (numberOf (partOf f rec)) amounts in
+    let ih = made-from fs (f .last + 1) rec (omega arith) n (x .rest) (fit .1) (both .1) in
+    let e = seam place (f .last) h (x .wide) in (
+      rw (tg, dg, am) (then-accepts _ _ .1 (ap (movedBy (behind (f .first - 1))) (p .0), ih .0)),
+      rw (tg, dg, am, p .1, ih .1, x .here, e, ← drop-drop (f .last - (place - 1)) (place - 1) rec) (take-append-drop (f .last - (place - 1)) (drop (place - 1) rec)),
+    )
+
+pub fields-make-the-record : FieldsMakeTheRecord
+fields-make-the-record r rec n a = made-from (layoutOf r) 1 rec (omega arith) n (fields-cover r) (layout-fits r .0) a
+
+no-bytes : (l : List ℕ) → length l ≡ 0 → l ≡ []
+no-bytes [] e = refl
+no-bytes (x ∷ l) e = absurd (omega arith)
+
+one-byte : (l : List ℕ) → length l ≡ 1 → getD l 0 0 ∷ [] ≡ l
+one-byte [] e = absurd (omega arith)
+one-byte (x ∷ l) e = ap (λ (r : List ℕ). x ∷ r) (sym (no-bytes l (omega arith)))
+
+joint : (p w a z : ℕ) → a ≡ p + 1 → p + 1 ≤ z → w ≡ z - (a - 1) → p + w + 1 ≡ z + 1
+joint p w a z e h k = omega arith
+
+-- what is given of a field that was written is what was given for it
+written-given : (k : Kind) (w : ℕ) (piece : List ℕ) (n : ℕ) → length piece ≡ givenOf k w .to - givenOf k w .from
+    → take (givenOf k w .to - givenOf k w .from) (drop (givenOf k w .from) (writtenOf k w piece n)) ≡ piece
+written-given (kind.Mark byte) w piece n e = sym (no-bytes piece e)
+written-given kind.Version w piece n e = sym (no-bytes piece e)
+written-given kind.Service w piece n e = one-byte piece e
+written-given kind.Blank w piece n e = sym (no-bytes piece e)
+written-given kind.Text w piece n e = take-all (w - 0) piece (omega arith)
+written-given kind.Digits w piece n e = take-all (w - 0) piece (omega arith)
+written-given kind.Money w piece n e = sym (no-bytes piece e)
+written-given kind.Date w piece n e = take-all (w - 0) piece (omega arith)
+written-given kind.Barcode w piece n e = take-all (w - 0) piece (omega arith)
+written-given kind.Capture w piece n e = take-all (w - 0) piece (omega arith)
+written-given kind.Form w piece n e = take-all (w - 0) piece (omega arith)
+
+-- Trip two, from a field on: what stands before it, what it makes, and what follows.
+module _ (pre piece rest : List ℕ) (a w : ℕ) (lp : length pre ≡ a) (lw : length piece ≡ w) where
+  middle : take w (drop a (pre ++ (piece ++ rest))) ≡ piece
+  middle = rw (drop-at pre (piece ++ rest) a lp) (take-at piece rest w lw)
+
+asked-kind : (k : Kind) (w : ℕ) (piece : List ℕ) (n : ℕ) → putAnswer k w piece n ≡ Accepted → kindAnswer k (writtenOf k w piece n) ≡ Accepted
+unfolding putAnswer
+asked-kind k w piece n e = then-accepts (cond (isMoney k) (widthAnswer w n) Accepted) (kindAnswer k (writtenOf k w piece n)) .0 e .1
+
+made-accepts : (fs : List Field) (pre given amounts : List ℕ) → covers (length pre + 1) fs ≡ true → every fitsField fs ≡ true → widthsOf (map givenAt fs) ≡ length given
+    → makingAnswer fs given amounts ≡ Accepted
+    → (length (pre ++ madeOf fs given amounts) ≡ recordLength)
+    × (first (fieldAnswer (pre ++ madeOf fs given amounts)) fs ≡ Accepted)
+    × (gather (map givenAt fs) (pre ++ madeOf fs given amounts) ≡ given)
+unfolding fieldAnswer
+made-accepts [] pre given amounts t q n a =
+    let z : given ≡ [] = no-bytes given (sym n) in
+    (rw append-nil (omega (arith, eqb-true (length pre + 1) (recordLength + 1) t)), refl, sym z)
+made-accepts (f ∷ fs) pre given amounts t q n a =
+    let x = next (length pre + 1) f fs t in
+    let fit = and-eq-true-iff (fitsField f) (every fitsField fs) .0 q in
+    let both = then-accepts (pieceAnswer f given amounts) (makingAnswer fs (drop (takes f) given) (amountsAfter f amounts)) .0 a in
+    let w = widthOf (stretchOf f) in
+    let one : 1 ≤ f .first = omega (arith, x .here) in
+    let front : length pre ≡ f .first - 1 = omega (arith, x .here) in
+    let lt : length (take (takes f) given) ≡ takes f = length-take-le (takes f) given (omega arith) in
+    let lg = lt ∙ sym (takes-are f one) in
+    let piece = pieceOf f given amounts in
+    let lw : length piece ≡ w = written-length (f .kind) w (take (takes f) given) (getD amounts 0 0) (fit .0) lg in
+    let rest = madeOf fs (drop (takes f) given) (amountsAfter f amounts) in
+    let k = asked-kind (f .kind) w (take (takes f) given) (getD amounts 0 0) (moved-accepts (behind (f .first - 1)) (putAnswer (f .kind) w (take (takes f) given) (getD amounts 0 0)) .0 (both .0)) in
+    let m : partOf f (pre ++ (piece ++ rest)) ≡ piece = middle pre piece rest (f .first - 1) w front lw in
+    let lp : length (pre ++ piece) + 1 ≡ f .last + 1 = ap (λ (v : ℕ). v + 1) (length-append pre piece) ∙ joint (length pre) (length piece) (f .first) (f .last) (x .here) (x .wide) lw in
+    let cv : covers (length (pre ++ piece) + 1) fs ≡ true = rw lp (x .rest) in
+    let ln : widthsOf (map givenAt fs) ≡ length (drop (takes f) given) = rw (length-drop (takes f) given) (omega arith) in
+    let ih = made-accepts fs (pre ++ piece) (drop (takes f) given) (amountsAfter f amounts) cv (fit .1) ln (both .1) in
+    let al : (pre ++ piece) ++ rest ≡ pre ++ (piece ++ rest) = append-assoc pre piece rest in
+    let i0 = rw al at (ih .0) in
+    let i1 = rw al at (ih .1) in
+    let i2 = rw al at (ih .2) in
+    let g : partAt (givenAt f) (pre ++ (piece ++ rest)) ≡ take (takes f) given =
+    sym (given-part f (pre ++ (piece ++ rest)) one (fit .0)) ∙ rw m (written-given (f .kind) w (take (takes f) given) (getD amounts 0 0) lg) in (
+      i0,
+      then-accepts _ _ .1 (ap (movedBy (behind (f .first - 1))) (ap (kindAnswer (f .kind)) m ∙ k), i1),
+      rw (g, i2) (take-append-drop (takes f) given),
+    )
+
+pub made-is-accepted : MadeIsAccepted
+unfolding givenLength
+made-is-accepted r given amounts n a = made-accepts (layoutOf r) [] given amounts (fields-cover r) (layout-fits r .0) (sym n) a

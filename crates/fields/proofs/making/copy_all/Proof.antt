@@ -1,0 +1,17 @@
+-- `fields::making::copy_all` meets its contract. Assumes nothing.
+use borrow.Author.Needs.{needs}
+use Rattle.fields.proofs.Makes.{copied}
+use Rattle.fields.proofs.making.copy_all.Statement.{statement}
+use Rattle.fields.proofs.making.copy_all.Tie as tie
+
+copy-requires : tie.Need-copy-requires
+copy-requires c κs = search needs
+
+same-length : tie.Need-same-length
+same-length c = search needs
+
+returns : tie.Need-returns
+returns c = copied (c .before .before .before .before .before .before .args .src .now) (c .before .before .before .before .before .before .args .out .now) (c .before .before .before .before .before .before .pre) (c .before .before .copy .ensures .1)
+
+pub copy-all-spec : {M : Type 1} → statement M
+copy-all-spec = tie.close (tie.spec copy-requires same-length returns)

@@ -1,0 +1,60 @@
+-- `fields::making::make` meets its contract. Assumes nothing.
+use mathlib.Core.List.{[], _∷_}
+use mathlib.Core.Path.{refl, _∙_}
+use borrow.Author.Needs.{needs}
+use Rattle.fields.proofs.Makes.{no-room, no-given, goes-on, made-copied}
+use Rattle.fields.proofs.making.make.Statement.{statement}
+use Rattle.fields.proofs.making.make.Tie as tie
+
+returns : tie.Need-returns
+returns c = (no-room (c .before .before .before .args .which) (c .before .before .before .args .given .now) (c .before .before .before .args .first ∷ c .before .before .before .args .second ∷ []) (c .if1 .taken), refl)
+
+given-length-requires : tie.Need-given-length-requires
+given-length-requires c κs = search needs
+
+returns-2 : tie.Need-returns-2
+returns-2 c = (no-given (c .before .before .before .before .before .args .which) (c .before .before .before .before .before .args .given .now) (c .before .before .before .before .before .args .first ∷ c .before .before .before .before .before .args .second ∷ []) (c .before .before .if1 .left) (c .before .given-length .ensures) (c .if2 .taken), refl)
+
+slice-aggregate-make-rows : tie.Need-slice-aggregate-make-rows
+slice-aggregate-make-rows c = search needs
+
+make-rows-requires : tie.Need-make-rows-requires
+make-rows-requires c κs = search needs
+
+enum-told : tie.Need-enum-told
+enum-told c = search needs
+
+slice-aggregate-copy : tie.Need-slice-aggregate-copy
+slice-aggregate-copy c = search needs
+
+copy-requires : tie.Need-copy-requires
+copy-requires c κs = search needs
+
+enum-told-2 : tie.Need-enum-told-2
+enum-told-2 c = search needs
+
+same-length : tie.Need-same-length
+same-length c = search needs
+
+returns-3 : tie.Need-returns-3
+returns-3 c = (goes-on (c .before .before .before .before .before .before .before .before .before .before .before .before .before .before .before .args .which) (c .before .before .before .before .before .before .before .before .before .before .before .before .before .before .before .args .given .now) (c .before .before .before .before .before .before .before .before .before .before .before .before .before .before .before .args .first ∷ c .before .before .before .before .before .before .before .before .before .before .before .before .before .before .before .args .second ∷ []) (c .before .before .before .before .before .before .before .before .before .before .before .before .if1 .left) (c .before .before .before .before .before .before .before .before .before .before .if2 .left ∙ c .before .before .before .before .before .before .before .before .before .before .before .given-length .ensures) (c .before .before .before .before .before .before .before .before .make-rows .ensures .0), made-copied _ _ (search needs) (c .before .before .before .before .before .enum-told .given .1) (c .before .before .before .before .before .before .before .before .make-rows .ensures .1 (c .before .before .before .before .before .enum-told .given .1)) (c .before .before .copy .ensures .1))
+
+returns-4 : tie.Need-returns-4
+returns-4 c = (goes-on (c .before .before .before .before .before .before .before .before .before .before .args .which) (c .before .before .before .before .before .before .before .before .before .before .args .given .now) (c .before .before .before .before .before .before .before .before .before .before .args .first ∷ c .before .before .before .before .before .before .before .before .before .before .args .second ∷ []) (c .before .before .before .before .before .before .before .if1 .left) (c .before .before .before .before .before .if2 .left ∙ c .before .before .before .before .before .before .given-length .ensures) (c .before .before .before .make-rows .ensures .0), rw (c .enum-told2 .given .1))
+
+pub make-spec : {M : Type 1} → statement M
+make-spec =
+    tie.close
+    (tie.spec
+    returns
+    given-length-requires
+    returns-2
+    slice-aggregate-make-rows
+    make-rows-requires
+    enum-told
+    slice-aggregate-copy
+    copy-requires
+    enum-told-2
+    same-length
+    returns-3
+    returns-4)

@@ -1,0 +1,18 @@
+-- `fields::making::second_byte` meets its contract. Assumes nothing.
+use mathlib.Core.Path.{sym}
+use borrow.Author.Needs.{needs}
+use lib.ListN.{List·getD-eq-default}
+use Rattle.fields.proofs.making.second_byte.Statement.{statement}
+use Rattle.fields.proofs.making.second_byte.Tie as tie
+
+shared-slice-read-result : tie.Need-shared-slice-read-result
+shared-slice-read-result c = search needs
+
+returns : tie.Need-returns
+returns c = search needs
+
+returns-2 : tie.Need-returns-2
+returns-2 c = sym (List·getD-eq-default (c .before .args .given .now) 0 (c .if1 .left))
+
+pub second-byte-spec : {M : Type 1} → statement M
+second-byte-spec = tie.close (tie.spec shared-slice-read-result returns returns-2)

@@ -1,0 +1,81 @@
+// The field bytes of an accepted A or G, joined in record order.
+ghost use mathlib.Core.Path.{_≡_};
+ghost use lib.ListN.{length, getD};
+ghost use Rattle.answer.specs.Orders.{kept};
+ghost use Rattle.layout.specs.Layouts.{recordLength, namedBy, givenLength, joinedOf};
+ghost use Rattle.fields.specs.Joining.{isGiven, namedJoin, joinAnswer, joinedIn};
+ghost use Rattle.layout.specs.declared.Named.the-variants as named;
+use answer::Answer;
+use answer::Reason;
+use layout::Named;
+use layout::Record;
+
+fn is_given(which: Record) -> bool
+    ensures { λ r. ⌜ r ≡ isGiven which ⌝ }
+{
+    match which {
+        Record::Header => true,
+        Record::Payment => true,
+        Record::Trailer => false,
+    }
+}
+
+fn join_rows(which: Record, rec: &[u8], out: &mut [u8])
+    requires { ⌜ length (now rec) ≡ recordLength ⌝ }
+    requires { ⌜ length (now out) ≡ givenLength which ⌝ }
+    ensures { λ _. ⌜ now (out .exit) ≡ joinedOf which (now (rec .entry)) ⌝ }
+{
+    let table = layout::table();
+    let rows = layout::rows_of(which);
+    let to = rows.to;
+    let mut i = rows.from;
+    let mut at = 0;
+    while i < to {
+        let f = table[i];
+        let kind = f.kind;
+        let before = f.first - 1;
+        let g = layout::given_of(kind, f.last - before);
+        let start = before + g.from;
+        let end = before + g.to;
+        let next = at + (end - start);
+        bytes::copy(&rec[start..end], &mut out[at..next]);
+        at = next;
+        i += 1;
+    }
+}
+
+fn join_named(which: Record, rec: &[u8], out: &mut [u8]) -> Answer
+    requires { ⌜ length (now rec) ≡ recordLength ⌝ }
+    requires { ⌜ namedBy (getD (now rec) 0 0) ≡ named.Is which ⌝ }
+    ensures answer { λ r. ⌜ r ≡ namedJoin (named.Is which) (now (rec .entry)) (length (now (out .entry))) ⌝ }
+    ensures bytes { λ r. ⌜ now (out .exit) ≡ kept r (joinedOf which (now (rec .entry))) (now (out .entry)) ⌝ }
+{
+    if !is_given(which) {
+        return Answer::Refused(Reason::NotExpected, 1);
+    }
+    if out.len() != layout::given_length(which) {
+        return Answer::Refused(Reason::WrongLength, 0);
+    }
+    let a = record::check(rec);
+    match a {
+        Answer::Accepted => {
+            join_rows(which, rec, out);
+            a
+        }
+        Answer::Refused(_, _) => a,
+    }
+}
+
+// A refusal leaves the lent bytes as they were.
+pub fn join(rec: &[u8], out: &mut [u8]) -> Answer
+    ensures answer { λ r. ⌜ r ≡ joinAnswer (now (rec .entry)) (length (now (out .entry))) ⌝ }
+    ensures bytes { λ r. ⌜ now (out .exit) ≡ kept r (joinedIn (namedBy (getD (now (rec .entry)) 0 0)) (now (rec .entry))) (now (out .entry)) ⌝ }
+{
+    if rec.len() != layout::LENGTH {
+        return Answer::Refused(Reason::WrongLength, 0);
+    }
+    match layout::named_by(rec[0]) {
+        Named::Is(which) => join_named(which, rec, out),
+        Named::Other => Answer::Refused(Reason::NotExpected, 1),
+    }
+}

@@ -1,0 +1,190 @@
+// A record made from its field bytes and amounts, along the same table.
+ghost use Prim.Native.Nat.{_+_, _≤_};
+ghost use mathlib.Core.Bool.{false, cond};
+ghost use mathlib.Core.List.{[], _∷_};
+ghost use mathlib.Core.Path.{_≡_};
+ghost use lib.ListN.{length, getD, replicate};
+ghost use Rattle.answer.specs.declared.Answer.the-variants as answers;
+ghost use Rattle.answer.specs.Orders.{kept};
+ghost use Rattle.layout.specs.Layouts.{recordLength, layoutOf, givenLength};
+ghost use Rattle.record.specs.Kinds.{serviceOf};
+ghost use Rattle.fields.specs.Making.{writtenOf, isMoney, putAnswer, madeOf, makingAnswer, makeAnswer};
+use answer::Answer;
+use answer::Reason;
+use layout::Kind;
+use layout::Record;
+use record::kinds;
+
+fn is_money(kind: Kind) -> bool
+    ensures { λ r. ⌜ r ≡ isMoney kind ⌝ }
+{
+    match kind {
+        Kind::Mark(_) => false,
+        Kind::Version => false,
+        Kind::Service => false,
+        Kind::Blank => false,
+        Kind::Text => false,
+        Kind::Digits => false,
+        Kind::Money => true,
+        Kind::Date => false,
+        Kind::Barcode => false,
+        Kind::Capture => false,
+        Kind::Form => false,
+    }
+}
+
+fn copy_all(src: &[u8], out: &mut [u8])
+    requires { ⌜ length (now src) ≡ length (now out) ⌝ }
+    ensures { λ _. ⌜ now (out .exit) ≡ now (src .entry) ⌝ }
+{
+    bytes::copy(src, out);
+}
+
+fn put_mark(byte: u8, out: &mut [u8])
+    requires { ⌜ length (now out) ≡ 1 ⌝ }
+    ensures { λ _. ⌜ now (out .exit) ≡ byte ∷ [] ⌝ }
+{
+    let mark = [byte];
+    copy_all(&mark, out);
+}
+
+// 0 where none is given.
+fn second_byte(given: &[u8]) -> u8
+    ensures { λ r. ⌜ r ≡ getD (now (given .entry)) 0 0 ⌝ }
+{
+    if 0 < given.len() { given[0] } else { 0 }
+}
+
+fn put_service(given: &[u8], out: &mut [u8])
+    requires { ⌜ length (now out) ≡ 17 ⌝ }
+    ensures { λ _. ⌜ now (out .exit) ≡ serviceOf (getD (now (given .entry)) 0 0) ⌝ }
+{
+    let spelled = kinds::service(second_byte(given));
+    copy_all(&spelled, out);
+}
+
+fn put_blanks(out: &mut [u8])
+    ensures { λ _. ⌜ now (out .exit) ≡ replicate (length (now (out .entry))) 32 ⌝ }
+{
+    let mut i = 0;
+    while i < out.len() {
+        out[i] = 32;
+        i += 1;
+    }
+}
+
+fn put_bytes(kind: Kind, given: &[u8], out: &mut [u8])
+    requires { ⌜ isMoney kind ≡ false ⌝ }
+    requires { ⌜ length (writtenOf kind (length (now out)) (now given) 0) ≡ length (now out) ⌝ }
+    ensures { λ _. ⌜ now (out .exit) ≡ writtenOf kind (length (now (out .entry))) (now (given .entry)) 0 ⌝ }
+{
+    match kind {
+        Kind::Mark(byte) => put_mark(byte, out),
+        Kind::Version => copy_all(b"04", out),
+        Kind::Service => put_service(given, out),
+        Kind::Blank => put_blanks(out),
+        Kind::Text => copy_all(given, out),
+        Kind::Digits => copy_all(given, out),
+        Kind::Money => {}
+        Kind::Date => copy_all(given, out),
+        Kind::Barcode => copy_all(given, out),
+        Kind::Capture => copy_all(given, out),
+        Kind::Form => copy_all(given, out),
+    }
+}
+
+// A field's bytes are written first and asked then, by the reader's own question.
+fn put(kind: Kind, given: &[u8], amount: u64, out: &mut [u8]) -> Answer
+    requires { ⌜ length (writtenOf kind (length (now out)) (now given) amount) ≡ length (now out) ⌝ }
+    ensures answer { λ r. ⌜ r ≡ putAnswer kind (length (now (out .entry))) (now (given .entry)) amount ⌝ }
+    ensures bytes { λ r. ⌜ (r ≡ answers.Accepted → now (out .exit) ≡ writtenOf kind (length (now (out .entry))) (now (given .entry)) amount) ⌝ }
+{
+    if is_money(kind) {
+        return decimal::put_number(amount, out.len(), out, 0);
+    }
+    put_bytes(kind, given, out);
+    kinds::check(kind, out)
+}
+
+// The next of two amounts, and after them 0.
+fn amount_at(used: usize, first: u64, second: u64) -> u64
+    ensures { λ r. ⌜ r ≡ getD (first ∷ second ∷ []) used 0 ⌝ }
+{
+    if used == 0 {
+        return first;
+    }
+    if used == 1 {
+        return second;
+    }
+    0
+}
+
+fn used_after(kind: Kind, used: usize) -> usize
+    requires { ⌜ used ≤ 28 ⌝ }
+    ensures { λ r. ⌜ (r ≡ cond (isMoney kind) (used + 1) used) ⌝ }
+{
+    if is_money(kind) { used + 1 } else { used }
+}
+
+// The record itself, in bytes of our own that are spoilt where a field is refused.
+fn make_rows(which: Record, given: &[u8], first: u64, second: u64, made: &mut [u8]) -> Answer
+    requires { ⌜ length (now made) ≡ recordLength ⌝ }
+    requires { ⌜ length (now given) ≡ givenLength which ⌝ }
+    ensures answer { λ r. ⌜ r ≡ makingAnswer (layoutOf which) (now (given .entry)) (first ∷ second ∷ []) ⌝ }
+    ensures bytes { λ r. ⌜ (r ≡ answers.Accepted → now (made .exit) ≡ madeOf (layoutOf which) (now (given .entry)) (first ∷ second ∷ [])) ⌝ }
+{
+    let table = layout::table();
+    let rows = layout::rows_of(which);
+    let to = rows.to;
+    let mut i = rows.from;
+    let mut done = 0;
+    let mut at = 0;
+    let mut used = 0;
+    while i < to {
+        let f = table[i];
+        let kind = f.kind;
+        let end = f.last;
+        let g = layout::given_of(kind, end - done);
+        let next = at + (g.to - g.from);
+        let a = put(
+            kind,
+            &given[at..next],
+            amount_at(used, first, second),
+            &mut made[done..end],
+        );
+        match a {
+            Answer::Accepted => {
+                used = used_after(kind, used);
+                at = next;
+                done = end;
+                i += 1;
+            }
+            Answer::Refused(_, _) => {
+                return a.behind(done);
+            }
+        }
+    }
+    Answer::Accepted
+}
+
+// A refusal leaves the lent bytes as they were.
+pub fn make(which: Record, given: &[u8], first: u64, second: u64, out: &mut [u8]) -> Answer
+    ensures answer { λ r. ⌜ r ≡ makeAnswer which (now (given .entry)) (first ∷ second ∷ []) (length (now (out .entry))) ⌝ }
+    ensures bytes { λ r. ⌜ now (out .exit) ≡ kept r (madeOf (layoutOf which) (now (given .entry)) (first ∷ second ∷ [])) (now (out .entry)) ⌝ }
+{
+    if out.len() != layout::LENGTH {
+        return Answer::Refused(Reason::WrongLength, 0);
+    }
+    if given.len() != layout::given_length(which) {
+        return Answer::Refused(Reason::WrongLength, 0);
+    }
+    let mut made = [0u8; layout::LENGTH];
+    let a = make_rows(which, given, first, second, &mut made);
+    match a {
+        Answer::Accepted => {
+            bytes::copy(&made, out);
+            a
+        }
+        Answer::Refused(_, _) => a,
+    }
+}
