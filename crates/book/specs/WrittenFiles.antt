@@ -4,9 +4,12 @@ use mathlib.Core.List.{List, [], _∷_, map}
 use mathlib.Core.Path.{_≡_}
 use lib.ListN.{length}
 use Rattle.answer.specs.declared.Answer.the-variants.{Accepted}
-use Rattle.layout.specs.Layouts.{recordLength}
+use Rattle.layout.specs.declared.Record.the-variants.{Header, Payment}
+use Rattle.layout.specs.Layouts.{recordLength, joinedOf}
+use Rattle.record.specs.Values as values
+use Rattle.board.specs.declared.Board.{Board}
 use Rattle.board.specs.Lanes.{mostLanes, lanesFrom}
-use Rattle.session.specs.Sessions.{freshSession}
+use Rattle.session.specs.Sessions.{freshSession, closedAt}
 use Rattle.writer.specs.declared.Writer.{Writer}
 use Rattle.writer.specs.Writers.{freshWriter, headerAnswer, headerOf, headerBytes, paymentAnswer, paymentOf, paymentBytes, trailerAnswer, trailerBytes}
 use Rattle.book.specs.Books.{Step, paidIn}
@@ -51,6 +54,11 @@ trailerAfter header gs = trailerBytes (writerAfter (openedBy header) gs)
 abbrev pub writtenFile : List ℕ → List Given → List Step
 writtenFile header gs = fileOf (headerBytes header) (writtenRecords gs) (trailerAfter header gs)
 
+-- what the writer is given of a payment's record: its fields, joined, and its two amounts
+abbrev pub givenBy : List ℕ → Given
+givenBy rec =
+    record { fields = joinedOf Payment rec; received = values.paymentOf rec .received; tariff = values.paymentOf rec .tariff }
+
 -- Promises.
 
 -- it is one A, its Gs and one Z, each right in itself, with the true count and total
@@ -64,3 +72,9 @@ abbrev pub ClosedFileIsAccepted : Type 0
 ClosedFileIsAccepted =
     (header : List ℕ) (gs : List Given) → Closed header gs → length (lanesFrom (paidIn (writtenRecords gs))) ≤ mostLanes
     → AllAccepted (answersOf freshSession (writtenFile header gs)) × (shownLanes (writtenFile header gs) ≡ lanesFrom (paidIn (writtenRecords gs)))
+
+-- the fields of a file that a session accepted, given to a fresh writer, are that file again, its trailer too
+abbrev pub FieldsWriteTheFile : Type 0
+FieldsWriteTheFile =
+    (b : Board) (a : List ℕ) (recs : List (List ℕ)) (z : List ℕ) → Whole a recs z → AllAccepted (answersOf (closedAt b) (fileOf a recs z))
+    → Closed (joinedOf Header a) (map givenBy recs) × (writtenFile (joinedOf Header a) (map givenBy recs) ≡ fileOf a recs z)

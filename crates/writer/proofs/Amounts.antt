@@ -119,7 +119,7 @@ written-amounts-are-read given received tariff room e =
     (ap (λ (l : List ℕ). getD l 0 0) back, ap (λ (l : List ℕ). getD l 1 0) back)
 
 -- The trailer: its count is its field bytes, its total its one amount.
-count-back : (rec : List ℕ) → joinedOf Trailer rec ≡ partOf (rowAt countRow) rec
+pub count-back : (rec : List ℕ) → joinedOf Trailer rec ≡ partOf (rowAt countRow) rec
 unfolding layoutOf rowAt table
 count-back rec = append-nil (partOf (rowAt countRow) rec)
 

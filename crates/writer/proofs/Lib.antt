@@ -1,3 +1,4 @@
 pub mod Doors
 pub mod Written
 pub mod Amounts
+pub mod Trailers

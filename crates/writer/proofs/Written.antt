@@ -73,28 +73,28 @@ lies-inside Header = refl
 lies-inside Payment = refl
 lies-inside Trailer = refl
 
-joined-length : (r : Record) (rec : List ℕ) → length rec ≡ recordLength → length (joinedOf r rec) ≡ givenLength r
+pub joined-length : (r : Record) (rec : List ℕ) → length rec ≡ recordLength → length (joinedOf r rec) ≡ givenLength r
 unfolding givenLength
 joined-length r rec n = gathered-length (planOf r) rec (rw n (lies-inside r))
 
 -- The fields of an accepted record, with any amounts that make it as its own do.
 module _ (w : Writer) (r : Record) (rec amounts : List ℕ) (accepts : recordAnswer rec ≡ Accepted) (named : namedBy (getD rec 0 0) ≡ Is r) where
-  body : (length rec ≡ recordLength) × (bodyAnswer r rec ≡ Accepted)
+  pub body : (length rec ≡ recordLength) × (bodyAnswer r rec ≡ Accepted)
   body = let both = accepted-is rec accepts in (both .0, rw named at (both .1))
 
-  made : (makingAnswer (layoutOf r) (joinedOf r rec) (amountsIn (layoutOf r) rec) ≡ Accepted)
+  pub made : (makingAnswer (layoutOf r) (joinedOf r rec) (amountsIn (layoutOf r) rec) ≡ Accepted)
       × (madeOf (layoutOf r) (joinedOf r rec) (amountsIn (layoutOf r) rec) ≡ rec)
   made = fields-make-the-record r rec (body .0) (body .1)
 
   lengths-right : eqb recordLength recordLength && eqb (length (joinedOf r rec)) (givenLength r) ≡ true
   lengths-right = let n = joined-length r rec (body .0) in rw n (and-eq-true-iff (eqb recordLength recordLength) (eqb (givenLength r) (givenLength r)) .1 (refl, eq-eqb (givenLength r) (givenLength r) refl))
 
-  door-opens : expects (w .stage) r ≡ true → doorAnswer w r (length (joinedOf r rec)) recordLength ≡ Accepted
+  pub door-opens : expects (w .stage) r ≡ true → doorAnswer w r (length (joinedOf r rec)) recordLength ≡ Accepted
   door-opens t =
       then-accepts (asked (eqb recordLength recordLength && eqb (length (joinedOf r rec)) (givenLength r)) WrongLength 0) (asked (expects (w .stage) r) NotExpected 1) .1
       (asked-accepts (eqb recordLength recordLength && eqb (length (joinedOf r rec)) (givenLength r)) WrongLength 0 .1 lengths-right, asked-accepts (expects (w .stage) r) NotExpected 1 .1 t)
 
-  makes : makingAnswer (layoutOf r) (joinedOf r rec) amounts ≡ Accepted → makeAnswer r (joinedOf r rec) amounts recordLength ≡ Accepted
+  pub makes : makingAnswer (layoutOf r) (joinedOf r rec) amounts ≡ Accepted → makeAnswer r (joinedOf r rec) amounts recordLength ≡ Accepted
   unfolding makeAnswer
   makes a =
       then-accepts (asked (eqb recordLength recordLength && eqb (length (joinedOf r rec)) (givenLength r)) WrongLength 0) (makingAnswer (layoutOf r) (joinedOf r rec) amounts) .1

@@ -117,6 +117,13 @@ FieldsWriteThePayment =
     → (paymentAnswer w (joinedOf Payment rec) (paid.paymentOf rec .received) (paid.paymentOf rec .tariff) recordLength ≡ Accepted)
     × (paymentBytes (joinedOf Payment rec) (paid.paymentOf rec .received) (paid.paymentOf rec .tariff) ≡ rec)
 
+-- an accepted Z that shows the writer's own figures is the Z that it writes
+abbrev pub FieldsWriteTheTrailer : Type 0
+FieldsWriteTheTrailer =
+    (w : Writer) (rec : List ℕ) → recordAnswer rec ≡ Accepted → namedBy (getD rec 0 0) ≡ Is Trailer
+    → w .stage ≡ Open → paid.trailerOf rec .count ≡ w .file .taken + 2 → paid.trailerOf rec .total ≡ w .file .total
+    → (trailerAnswer w recordLength ≡ Accepted) × (trailerBytes w ≡ rec)
+
 -- a refusal leaves the writer as it was
 abbrev pub RefusalKeepsWriter : Type 0
 RefusalKeepsWriter = (a : Answer) (new old : Writer) → (a ≡ Accepted → ⊥) → wrote a new old .writer ≡ old
