@@ -27,7 +27,7 @@ use Rattle.board.specs.declared.Posted.{Posted}
 use Rattle.board.specs.Boards.{lanesOf, indexOf, slotAt, entryOf, postAnswer}
 use Rattle.board.proofs.Slots.{put-back}
 use Rattle.session.specs.declared.Session.{Session}
-use Rattle.session.specs.declared.Paid.{Paid}
+use Rattle.session.specs.declared.running.Paid.{Paid}
 use Rattle.session.specs.Sessions.{paidBy, takeAnswer, takeOf, follows}
 use Rattle.session.specs.Runs.{closedBy, withPaid, PaidOf}
 use Rattle.session.proofs.Steps.{posted-board, taken-file}

@@ -16,7 +16,7 @@ use Rattle.record.specs.Values.{decodeOf}
 use Rattle.session.specs.declared.Session.{Session}
 use Rattle.session.specs.declared.Ran.{Ran}
 use Rattle.session.specs.declared.Took.{Took}
-use Rattle.session.specs.declared.Paid.{Paid}
+use Rattle.session.specs.declared.running.Paid.{Paid}
 use Rattle.session.specs.Sessions.{takeAnswer, follows, takeOf}
 use Rattle.session.specs.Runs.{piecesUpTo, piecesOf, closedBy, ranOut, after, runOf, withPaid, PaidOf}
 

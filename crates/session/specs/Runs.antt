@@ -12,7 +12,7 @@ use Rattle.layout.specs.Layouts.{recordLength, namedBy}
 use Rattle.record.specs.Values.{decodeOf}
 use Rattle.session.specs.declared.Session.{Session}
 use Rattle.session.specs.declared.Ran.{Ran}
-use Rattle.session.specs.declared.Paid.{Paid}
+use Rattle.session.specs.declared.running.Paid.{Paid}
 use Rattle.session.specs.Sessions.{takeAnswer, follows}
 
 -- records follow each other with nothing between them; a short last piece is a record of wrong length

@@ -2,25 +2,21 @@
 ghost use mathlib.Core.Path.{_≡_};
 ghost use Rattle.record.specs.Values.{decodeOf};
 ghost use Rattle.file.specs.Files.{trailerAnswer};
-ghost use Rattle.board.specs.Lanes.{mostLanes, paymentOf};
+ghost use Rattle.board.specs.Lanes.{paymentOf};
 ghost use Rattle.board.specs.Boards.{postAnswer};
-ghost use Rattle.session.specs.Sessions.{freshSession, openedAt, closedAt, expectsThe, expects, paidBy, payAnswer, paying, posting, meets, follows, took, takeOf, abandonOf, finishOf};
-ghost use Prim.Native.Nat.{_+_, _-_, _<_, _≤_, min};
-ghost use Rattle.layout.specs.Layouts.{recordLength};
-ghost use Rattle.session.specs.Runs.{closedBy, runOf, PaidOf};
+ghost use Rattle.session.specs.Sessions.{freshSession, openedAt, closedAt, expectsThe, expects, payAnswer, paying, posting, meets, follows, took, takeOf, abandonOf, finishOf};
+
+mod running;
+
 use answer::Answer;
 use answer::Reason;
 use barcode::Issuer;
 use board::Board;
-use board::Lane;
-use board::Slot;
-use board::Tally;
 use file::Figures;
 use file::File;
 use layout::Named;
 use layout::Record;
 use record::Decoded;
-use record::Payment;
 
 // The board shown, of accepted files only; the working board and the file with what the open file adds.
 pub struct Session {
@@ -44,14 +40,6 @@ pub struct Ran {
     pub files: u64,
 }
 
-// The working board and the file after some payments, and how many records and bytes these were.
-struct Paid {
-    work: Board,
-    file: File,
-    records: u64,
-    at: usize,
-}
-
 fn is_the_expected(opened: bool, which: Record) -> bool
     ensures { λ r. ⌜ r ≡ expectsThe opened which ⌝ }
 {
@@ -69,54 +57,6 @@ fn is_expected(opened: bool, named: Named) -> bool
         Named::Is(which) => is_the_expected(opened, which),
         Named::Other => false,
     }
-}
-
-// The index behind the piece that starts at one: a record, or what is left.
-fn piece_end(at: usize, length: usize) -> usize
-    requires { ⌜ at < length ⌝ }
-    ensures { λ r. ⌜ (r ≡ at + min recordLength (length - at)) × (at < r) × (r ≤ length) ⌝ }
-{
-    if length - at < Session::RECORD {
-        return length;
-    }
-    at + Session::RECORD
-}
-
-fn files_closed(named: Named) -> u64
-    ensures { λ r. ⌜ r ≡ closedBy named ⌝ }
-    ensures small { λ r. ⌜ r ≤ 1 ⌝ }
-{
-    match named {
-        Named::Is(which) => match which {
-            Record::Header => 0,
-            Record::Payment => 0,
-            Record::Trailer => 1,
-        },
-        Named::Other => 0,
-    }
-}
-
-fn paid_by(p: Payment) -> Lane
-    ensures { λ r. ⌜ r ≡ paidBy p ⌝ }
-{
-    let issuer = p.barcode.issuer;
-    Lane {
-        issuer,
-        tally: Tally {
-            payments: 1,
-            centavos: p.received,
-        },
-    }
-}
-
-// All of them where a board put together by hand says more.
-fn lanes_in_use(used: usize) -> usize
-    ensures { λ r. ⌜ r ≡ min used mostLanes ⌝ }
-{
-    if Session::LANES < used {
-        return Session::LANES;
-    }
-    used
 }
 
 impl Session {
@@ -293,115 +233,6 @@ impl Session {
         Took {
             answer: Answer::Accepted,
             session: self,
-        }
-    }
-
-    // The accepted payments at the front, up to the first other record. No board is copied for them: each is posted in place.
-    fn pay_on(self, bytes: &[u8]) -> Paid
-        ensures { λ r. ⌜ PaidOf self (now (bytes .entry)) r ⌝ }
-    {
-        let mut work = self.work;
-        let mut file = self.file;
-        let mut records: u64 = 0;
-        let mut at: usize = 0;
-        while at < bytes.len() {
-            if !self.opened {
-                break;
-            }
-            let end = piece_end(at, bytes.len());
-            let Decoded::Payment(p) = record::decode(&bytes[at..end]) else {
-                break;
-            };
-            let taken = file.take(p.received);
-            let answer = taken.answer;
-            let Answer::Accepted = answer else {
-                break;
-            };
-            let payment = paid_by(p);
-            let issuer = payment.issuer;
-            let used = work.used;
-            let most = lanes_in_use(used);
-            let mut place: usize = 0;
-            while place < most {
-                let lane = work.lanes[place];
-                if lane.is_of(issuer) {
-                    break;
-                }
-                place += 1;
-            }
-            if Self::LANES <= place {
-                break;
-            }
-            let lane = work.lanes[place];
-            let total = work.total;
-            let slot = Slot {
-                at: place,
-                lane,
-                used,
-                total,
-            };
-            let entry = slot.post(payment);
-            let answer = entry.answer;
-            let Answer::Accepted = answer else {
-                break;
-            };
-            let after = entry.slot;
-            let lane = after.lane;
-            let total = after.total;
-            work.lanes[place] = lane;
-            work.used = after.used;
-            work.total = total;
-            file = taken.file;
-            records += 1;
-            at = end;
-        }
-        Paid {
-            work,
-            file,
-            records,
-            at,
-        }
-    }
-
-    // Records one after the other, until the first that is refused.
-    pub fn run(self, bytes: &[u8]) -> Ran
-        ensures { λ r. ⌜ r ≡ runOf self (now (bytes .entry)) ⌝ }
-    {
-        let mut session = self;
-        let mut records: u64 = 0;
-        let mut files: u64 = 0;
-        let mut at: usize = 0;
-        loop {
-            let paid = session.pay_on(&bytes[at..]);
-            let work = paid.work;
-            let file = paid.file;
-            session.work = work;
-            session.file = file;
-            records += paid.records;
-            at += paid.at;
-            if bytes.len() <= at {
-                return Ran {
-                    answer: Answer::Accepted,
-                    session,
-                    records,
-                    files,
-                };
-            }
-            let end = piece_end(at, bytes.len());
-            let took = session.take(&bytes[at..end]);
-            let answer = took.answer;
-            let Answer::Accepted = answer else {
-                return Ran {
-                    answer,
-                    session,
-                    records,
-                    files,
-                };
-            };
-            session = took.session;
-            files += files_closed(layout::named_by(bytes[at]));
-            records += 1;
-            at = end;
         }
     }
 }
