@@ -28,8 +28,9 @@ use Rattle.modulus.specs.declared.Modulus.{Modulus}
 use Rattle.modulus.specs.Checks.{sizeOf, sumOf, ruleOf, checkOf}
 use Rattle.modulus.proofs.Sums.{parts-compose}
 use Rattle.barcode.specs.declared.Fields.{Fields}
+use Rattle.barcode.specs.declared.Issuer.{Issuer}
 use Rattle.barcode.specs.declared.Decoded.the-variants as decoding
-use Rattle.barcode.specs.Codes.{digitAt, product, isSegment, isKind, modulusOf, checked, issuerEnd, leadAnswer, generalCheck, generalRight, frontAnswer, bodyAnswer, barcodeAnswer, fieldsOf, readOf, decodeOf, shownFree}
+use Rattle.barcode.specs.Codes.{issuerOf, digitAt, product, isSegment, isKind, modulusOf, checked, issuerEnd, leadAnswer, generalCheck, generalRight, frontAnswer, bodyAnswer, barcodeAnswer, fieldsOf, readOf, decodeOf, shownFree}
 
 -- past the end
 pub no-digit : 0 ≡ valueOf 0
@@ -97,17 +98,23 @@ module _ (code : List ℕ) (n : length code ≡ 44) where
       let b : e + 1 - 1 ≡ e = omega arith in
       rw (a, b) (sym (take-take 8 (44 - e) (drop e code) (omega arith)))
 
-  pub as-fields : {s e k v i : ℕ} {d : Dated} → s ≡ digitAt 2 code → e ≡ issuerEnd s → k ≡ digitAt 3 code
-      → v ≡ heldOf (numberOf (take 11 (drop 4 code))) → i ≡ heldOf (numberOf (take (e - 15) (drop 15 code)))
-      → d ≡ dateOf (take (e + 8 - e) (drop e code))
-      → _≡_ {A = Fields} (record { kind = k; value = v; issuer = record { segment = s; number = i }; due = d }) (fieldsOf code)
-  as-fields {s} {e} es ee ek ev ei ed =
+  pub as-issuer : {s e i : ℕ} → s ≡ digitAt 2 code → e ≡ issuerEnd s → i ≡ heldOf (numberOf (take (e - 15) (drop 15 code)))
+      → _≡_ {A = Issuer} (record { segment = s; number = i }) (issuerOf code)
+  as-issuer {s} {e} es ee ei =
       let range = issuer-end-range s in
-      let fv = held 4 11 (omega arith) (omega arith) ev in
       let fi = held 15 (e - 15) (omega arith) (omega arith) ei in
-      let fd = ed ∙ ap dateOf (due-part e (omega arith)) in
       let f : e ≡ issuerEnd (digitAt 2 code) = ee ∙ ap issuerEnd es in
-      rw (ek, fv, fi, fd, f, es)
+      rw (fi, f, es)
+
+  pub as-fields : {i : Issuer} {e k v : ℕ} {d : Dated} → i ≡ issuerOf code → e ≡ issuerEnd (i .segment) → k ≡ digitAt 3 code
+      → v ≡ heldOf (numberOf (take 11 (drop 4 code))) → d ≡ dateOf (take (e + 8 - e) (drop e code))
+      → _≡_ {A = Fields} (record { kind = k; value = v; issuer = i; due = d }) (fieldsOf code)
+  as-fields {i} {e} ei ee ek ev ed =
+      let range = issuer-end-range (i .segment) in
+      let fv = held 4 11 (omega arith) (omega arith) ev in
+      let fd = ed ∙ ap dateOf (due-part e (omega arith)) in
+      let f : e ≡ issuerEnd (digitAt 2 code) = ee ∙ ap (λ (x : Issuer). issuerEnd (x .segment)) ei in
+      rw (ek, fv, fd, f, ei)
 
 -- What is shown, from the answer.
 

@@ -6,7 +6,7 @@ ghost use Prim.Native.Nat.{_+_, _≤_};
 ghost use lib.ListN.{length, getD};
 ghost use Rattle.answer.specs.Orders.{heldBehind, movedBy};
 ghost use Rattle.decimal.specs.Numbers.{valueOf};
-ghost use Rattle.barcode.specs.Codes.{isSegment, isKind, modulusOf, issuerEnd, leadAnswer, frontAnswer, generalCheck, generalRight, bodyAnswer, barcodeAnswer, fieldsOf, readOf, decodeOf, shownFree};
+ghost use Rattle.barcode.specs.Codes.{isSegment, isKind, modulusOf, issuerEnd, leadAnswer, frontAnswer, generalCheck, generalRight, bodyAnswer, barcodeAnswer, issuerOf, fieldsOf, readOf, decodeOf, shownFree};
 use answer::Answer;
 use answer::Reason;
 use calendar::Dated;
@@ -158,19 +158,28 @@ fn issuer_end(segment: u64) -> usize
     if segment == 6 { 23 } else { 19 }
 }
 
+fn issuer_of(code: &[u8]) -> Issuer
+    requires { ⌜ length (now code) ≡ 44 ⌝ }
+    ensures { λ r. ⌜ r ≡ issuerOf (now (code .entry)) ⌝ }
+{
+    let segment = digit(code, 1);
+    let end = issuer_end(segment);
+    Issuer {
+        segment,
+        number: decimal::number(&code[15..end]),
+    }
+}
+
 fn fields_of(code: &[u8]) -> Fields
     requires { ⌜ length (now code) ≡ 44 ⌝ }
     ensures { λ r. ⌜ r ≡ fieldsOf (now (code .entry)) ⌝ }
 {
-    let segment = digit(code, 1);
-    let end = issuer_end(segment);
+    let issuer = issuer_of(code);
+    let end = issuer_end(issuer.segment);
     Fields {
         kind: digit(code, 2),
         value: decimal::number(&code[4..15]),
-        issuer: Issuer {
-            segment: segment,
-            number: decimal::number(&code[15..end]),
-        },
+        issuer,
         due: calendar::read_date(&code[end..end + 8]),
     }
 }
@@ -191,6 +200,19 @@ pub fn read_fields(code: &[u8]) -> Fields
         };
     }
     fields_of(code)
+}
+
+// The same of the issuer alone.
+pub fn read_issuer(code: &[u8]) -> Issuer
+    ensures { λ r. ⌜ r ≡ readOf (now (code .entry)) .issuer ⌝ }
+{
+    if code.len() != 44 {
+        return Issuer {
+            segment: 0,
+            number: 0,
+        };
+    }
+    issuer_of(code)
 }
 
 pub fn decode(code: &[u8]) -> Decoded

@@ -90,7 +90,7 @@ module _ (ok : ℕ → Bool) (why : Reason) (bs : List ℕ) (i : ℕ) where
 or-one : (n : ℕ) → eqb (bitOr n 1) 0 ≡ false
 or-one n = ne-eqb _ _ (λ (e : bitOr n 1 ≡ 0). omega (arith, or-add-and n 1, and-le-l n 1))
 
-flag-on : (t : Bool) (n : ℕ) (rest : Bool) → (eqb (bitOr n (cond t 0 1)) 0 && rest) ≡ (eqb n 0 && (t && rest))
+pub flag-on : (t : Bool) (n : ℕ) (rest : Bool) → (eqb (bitOr n (cond t 0 1)) 0 && rest) ≡ (eqb n 0 && (t && rest))
 flag-on true n rest = rw or-zero-r
 flag-on false n rest = rw (or-one, and-false)
 

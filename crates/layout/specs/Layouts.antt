@@ -119,6 +119,9 @@ tariffRow = 17
 abbrev pub numberRow : ℕ
 numberRow = 18
 
+abbrev pub captureRow : ℕ
+captureRow = 20
+
 abbrev pub countRow : ℕ
 countRow = 25
 

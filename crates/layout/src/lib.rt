@@ -213,6 +213,8 @@ pub const TARIFF: usize = 17;
 
 pub const NUMBER: usize = 18;
 
+pub const CAPTURE: usize = 20;
+
 pub const COUNT: usize = 25;
 
 pub const TOTAL: usize = 26;

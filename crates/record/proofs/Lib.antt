@@ -1,3 +1,4 @@
 pub mod KindLaws
+pub mod Pictures
 pub mod Shown
 pub mod Walks

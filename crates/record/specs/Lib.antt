@@ -1,3 +1,4 @@
 pub mod Kinds
+pub mod Pictures
 pub mod Records
 pub mod Values

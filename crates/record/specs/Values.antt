@@ -22,6 +22,8 @@ use Rattle.layout.specs.Layouts.{rowAt, rowsOf, namedBy, bankRow, fileDateRow, 
 use Rattle.record.specs.declared.Header.{Header}
 use Rattle.record.specs.declared.Payment.{Payment}
 use Rattle.record.specs.declared.Trailer.{Trailer}
+use Rattle.record.specs.declared.Pays.{Pays}
+use Rattle.record.specs.declared.Pays.the-variants as pays
 use Rattle.record.specs.declared.Decoded.{Decoded}
 use Rattle.record.specs.declared.Decoded.the-variants as decoded
 use Rattle.record.specs.Records.{partOf, recordAnswer}
@@ -75,6 +77,13 @@ answerOf (decoded.Header h) = answer.Accepted
 answerOf (decoded.Payment p) = answer.Accepted
 answerOf (decoded.Trailer t) = answer.Accepted
 answerOf (decoded.Refused why place) = answer.Refused why place
+
+-- what a record pays: an accepted G its received centavos to its issuer
+abbrev pub paysOf : Decoded → Pays
+paysOf (decoded.Header h) = pays.Nothing
+paysOf (decoded.Payment p) = pays.To (p .barcode .issuer) (p .received)
+paysOf (decoded.Trailer t) = pays.Nothing
+paysOf (decoded.Refused why place) = pays.Nothing
 
 -- A field by its row: the empty part for a refused record, for another record's row and for a row past the table.
 

@@ -3,15 +3,18 @@ ghost use mathlib.Core.Path.{_≡_};
 ghost use Rattle.record.specs.Values.{answerOf};
 
 pub mod kinds;
+mod quick;
 mod values;
 mod walk;
 
 use answer::Answer;
 use answer::Reason;
 use barcode::Fields;
+use barcode::Issuer;
 use calendar::Date;
 pub use values::decode;
 pub use values::field;
+pub use values::paid;
 pub use walk::check;
 
 pub struct Header {
@@ -34,6 +37,12 @@ pub struct Payment {
 pub struct Trailer {
     pub count: u64,
     pub total: u64,
+}
+
+// To whom an accepted G pays, and the centavos received.
+pub enum Pays {
+    To(Issuer, u64),
+    Nothing,
 }
 
 pub enum Decoded {

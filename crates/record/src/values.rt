@@ -4,19 +4,21 @@ ghost use Prim.Native.Nat.{_+_, _≤_};
 ghost use lib.ListN.{length, getD};
 ghost use Rattle.decimal.specs.Numbers.{numberOf};
 ghost use Rattle.calendar.specs.Dates.{dateOf};
-ghost use Rattle.barcode.specs.Codes.{fieldsOf};
+ghost use Rattle.barcode.specs.Codes.{issuerOf, fieldsOf};
 ghost use Rattle.layout.specs.Layouts.{recordLength, namedBy};
 ghost use Rattle.layout.proofs.Layouts.{Lies};
 ghost use Rattle.record.specs.Records.{partOf};
-ghost use Rattle.record.specs.Values.{dayOf, headerOf, paymentOf, trailerOf, shownOf, decodeOf, fieldIn, shownField};
+ghost use Rattle.record.specs.Values.{dayOf, headerOf, paymentOf, trailerOf, shownOf, decodeOf, paysOf, fieldIn, shownField};
 use crate::Decoded;
 use crate::Header;
 use crate::Payment;
+use crate::Pays;
 use crate::Trailer;
 use crate::walk;
 use answer::Answer;
 use answer::Reason;
 use barcode::Fields;
+use barcode::Issuer;
 use calendar::Date;
 use calendar::Dated;
 use layout::Field;
@@ -114,6 +116,42 @@ pub fn decode(rec: &[u8]) -> Decoded
     match walk::check(rec) {
         Answer::Accepted => shown(rec),
         Answer::Refused(why, place) => Decoded::Refused(why, place),
+    }
+}
+
+fn issuer_in(rec: &[u8], f: Field) -> Issuer
+    requires { ⌜ length (now rec) ≡ recordLength ⌝ }
+    requires { ⌜ Lies f ⌝ }
+    requires { ⌜ f .last ≡ f .first + 43 ⌝ }
+    ensures { λ r. ⌜ r ≡ issuerOf (partOf f (now (rec .entry))) ⌝ }
+{
+    barcode::read_issuer(walk::part_of(rec, f))
+}
+
+fn read_pays(rec: &[u8]) -> Pays
+    requires { ⌜ length (now rec) ≡ recordLength ⌝ }
+    ensures { λ r. ⌜ r ≡ paysOf (shownOf (namedBy (getD (now (rec .entry)) 0 0)) (now (rec .entry))) ⌝ }
+{
+    match layout::named_by(rec[0]) {
+        Named::Is(which) => match which {
+            Record::Header => Pays::Nothing,
+            Record::Payment => Pays::To(
+                issuer_in(rec, layout::row(layout::BARCODE)),
+                number_in(rec, layout::row(layout::RECEIVED)),
+            ),
+            Record::Trailer => Pays::Nothing,
+        },
+        Named::Other => Pays::Nothing,
+    }
+}
+
+// Of an accepted payment only what a session needs: decoding the rest of it would cost as much again.
+pub fn paid(rec: &[u8]) -> Pays
+    ensures { λ r. ⌜ r ≡ paysOf (decodeOf (now (rec .entry))) ⌝ }
+{
+    match walk::check(rec) {
+        Answer::Accepted => read_pays(rec),
+        Answer::Refused(_, _) => Pays::Nothing,
     }
 }
 

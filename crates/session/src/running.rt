@@ -2,12 +2,12 @@
 ghost use mathlib.Core.Path.{_≡_};
 ghost use Prim.Native.Nat.{_+_, _-_, _<_, _≤_, min};
 ghost use Rattle.layout.specs.Layouts.{recordLength};
-ghost use Rattle.board.specs.Lanes.{mostLanes};
-ghost use Rattle.session.specs.Sessions.{paidBy};
+ghost use Rattle.board.specs.Lanes.{mostLanes, paymentOf};
 ghost use Rattle.session.specs.Runs.{closedBy, runOf, PaidOf};
 use crate::Ran;
 use crate::Session;
 use answer::Answer;
+use barcode::Issuer;
 use board::Board;
 use board::Lane;
 use board::Slot;
@@ -15,8 +15,7 @@ use board::Tally;
 use file::File;
 use layout::Named;
 use layout::Record;
-use record::Decoded;
-use record::Payment;
+use record::Pays;
 
 // The working board and the file after some payments, and how many records and bytes these were.
 struct Paid {
@@ -51,15 +50,14 @@ fn files_closed(named: Named) -> u64
     }
 }
 
-fn paid_by(p: Payment) -> Lane
-    ensures { λ r. ⌜ r ≡ paidBy p ⌝ }
+fn paid_to(issuer: Issuer, received: u64) -> Lane
+    ensures { λ r. ⌜ r ≡ paymentOf issuer received ⌝ }
 {
-    let issuer = p.barcode.issuer;
     Lane {
         issuer,
         tally: Tally {
             payments: 1,
-            centavos: p.received,
+            centavos: received,
         },
     }
 }
@@ -88,15 +86,15 @@ impl Session {
                 break;
             }
             let end = piece_end(at, bytes.len());
-            let Decoded::Payment(p) = record::decode(&bytes[at..end]) else {
+            let Pays::To(payee, received) = record::paid(&bytes[at..end]) else {
                 break;
             };
-            let taken = file.take(p.received);
+            let taken = file.take(received);
             let answer = taken.answer;
             let Answer::Accepted = answer else {
                 break;
             };
-            let payment = paid_by(p);
+            let payment = paid_to(payee, received);
             let issuer = payment.issuer;
             let used = work.used;
             let most = lanes_in_use(used);

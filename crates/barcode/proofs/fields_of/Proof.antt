@@ -4,14 +4,14 @@ use Rattle.barcode.proofs.Codes.{as-fields}
 use Rattle.barcode.proofs.fields_of.Statement.{statement}
 use Rattle.barcode.proofs.fields_of.Tie as tie
 
-digit-requires : tie.Need-digit-requires
-digit-requires c κs = search needs
+issuer-of-requires : tie.Need-issuer-of-requires
+issuer-of-requires c κs = search needs
 
 issuer-end-requires : tie.Need-issuer-end-requires
 issuer-end-requires c κs = search needs
 
-digit-requires-2 : tie.Need-digit-requires-2
-digit-requires-2 c κs = search needs
+digit-requires : tie.Need-digit-requires
+digit-requires c κs = search needs
 
 sub-number : tie.Need-sub-number
 sub-number c = search needs
@@ -24,18 +24,6 @@ part-number-end c = search needs
 
 number-requires : tie.Need-number-requires
 number-requires c κs = search needs
-
-sub-number-2 : tie.Need-sub-number-2
-sub-number-2 c = search needs
-
-part-number-start-2 : tie.Need-part-number-start-2
-part-number-start-2 c = search needs
-
-part-number-end-2 : tie.Need-part-number-end-2
-part-number-end-2 c = search needs
-
-number-requires-2 : tie.Need-number-requires-2
-number-requires-2 c κs = search needs
 
 add-read-date : tie.Need-add-read-date
 add-read-date c = search needs
@@ -54,24 +42,19 @@ read-date-requires c κs = search needs
 
 returns : tie.Need-returns
 returns c =
-    as-fields (c .before .before .before .before .before .before .before .before .before .before .args .code .now) (c .before .before .before .before .before .before .before .before .before .before .pre) (c .before .before .before .before .before .before .before .before .digit .ensures) (c .before .before .before .before .before .before .before .issuer-end .ensures .0) (c .before .before .before .before .before .before .digit2 .ensures)
-    (c .before .before .before .before .number .ensures) (c .before .before .number2 .ensures) (c .read-date .ensures)
+    as-fields (c .before .before .before .before .before .before .before .before .args .code .now) (c .before .before .before .before .before .before .before .before .pre) (c .before .before .before .before .before .before .issuer-of .ensures) (c .before .before .before .before .before .issuer-end .ensures .0) (c .before .before .before .before .digit .ensures) (c .before .before .number .ensures) (c .read-date .ensures)
 
 pub fields-of-spec : {M : Type 1} → statement M
 fields-of-spec =
     tie.close
     (tie.spec
-    digit-requires
+    issuer-of-requires
     issuer-end-requires
-    digit-requires-2
+    digit-requires
     sub-number
     part-number-start
     part-number-end
     number-requires
-    sub-number-2
-    part-number-start-2
-    part-number-end-2
-    number-requires-2
     add-read-date
     sub-read-date
     part-read-date-start

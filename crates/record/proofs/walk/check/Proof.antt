@@ -19,15 +19,15 @@ named-by-requires c κs = search needs
 enum-known-which : tie.Need-enum-known-which
 enum-known-which c = search needs
 
-body-answer-requires : tie.Need-body-answer-requires
-body-answer-requires c κs = search needs
+look-or-walk-requires : tie.Need-look-or-walk-requires
+look-or-walk-requires c κs = search needs
 
 enum-told : tie.Need-enum-told
 enum-told c = search needs
 
 returns-2 : tie.Need-returns-2
 unfolding recordAnswer
-returns-2 c = rw (eq-eqb _ _ (c .before .before .before .before .before .before .if1 .left), sym (c .before .before .before .before .named-by .ensures) ∙ c .before .before .which .given .1) (c .body-answer .ensures)
+returns-2 c = rw (eq-eqb _ _ (c .before .before .before .before .before .before .if1 .left), sym (c .before .before .before .before .named-by .ensures) ∙ c .before .before .which .given .1) (c .look-or-walk .ensures)
 
 returns-3 : tie.Need-returns-3
 unfolding recordAnswer
@@ -41,7 +41,7 @@ check-spec =
     shared-slice-read-named-by
     named-by-requires
     enum-known-which
-    body-answer-requires
+    look-or-walk-requires
     enum-told
     returns-2
     returns-3)

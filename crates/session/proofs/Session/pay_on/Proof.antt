@@ -16,10 +16,10 @@ use Rattle.session.proofs.Session.pay_on.Statement.{statement}
 use Rattle.session.proofs.Session.pay_on.Tie as tie
 
 abbrev Inv-loop2 : tie.InvT-loop2
-Inv-loop2 self bytes work file records at end taken payment issuer used most place₀ place = (place ≤ most) × (indexOf issuer (lanesOf work) ≡ place + indexOf issuer (drop place (lanesOf work)))
+Inv-loop2 self bytes work file records at end received taken payment issuer used most place₀ place = (place ≤ most) × (indexOf issuer (lanesOf work) ≡ place + indexOf issuer (drop place (lanesOf work)))
 
 abbrev μ-loop2 : tie.MeasureT-loop2
-μ-loop2 self bytes work file records at end taken payment issuer used most place₀ place = most - place
+μ-loop2 self bytes work file records at end received taken payment issuer used most place₀ place = most - place
 
 abbrev Inv-loop : tie.InvT-loop
 Inv-loop self bytes work₀ file₀ records₀ at₀ work file records at = (length (work .lanes) ≡ mostLanes) × PaidOf self bytes (record { work = work; file = file; records = records; at = at })
@@ -37,20 +37,20 @@ loop-holds c =
 piece-end-requires : tie.Need-piece-end-requires Inv-loop2 μ-loop2 Inv-loop μ-loop
 piece-end-requires c κs = search needs
 
-sub-decode : tie.Need-sub-decode Inv-loop2 μ-loop2 Inv-loop μ-loop
-sub-decode c = search needs
+sub-paid : tie.Need-sub-paid Inv-loop2 μ-loop2 Inv-loop μ-loop
+sub-paid c = search needs
 
-part-decode-start : tie.Need-part-decode-start Inv-loop2 μ-loop2 Inv-loop μ-loop
-part-decode-start c = search needs
+part-paid-start : tie.Need-part-paid-start Inv-loop2 μ-loop2 Inv-loop μ-loop
+part-paid-start c = search needs
 
-part-decode-end : tie.Need-part-decode-end Inv-loop2 μ-loop2 Inv-loop μ-loop
-part-decode-end c = search needs
+part-paid-end : tie.Need-part-paid-end Inv-loop2 μ-loop2 Inv-loop μ-loop
+part-paid-end c = search needs
 
-decode-requires : tie.Need-decode-requires Inv-loop2 μ-loop2 Inv-loop μ-loop
-decode-requires c κs = search needs
+paid-requires : tie.Need-paid-requires Inv-loop2 μ-loop2 Inv-loop μ-loop
+paid-requires c κs = search needs
 
-enum-known-p : tie.Need-enum-known-p Inv-loop2 μ-loop2 Inv-loop μ-loop
-enum-known-p c = search needs
+enum-known-payee : tie.Need-enum-known-payee Inv-loop2 μ-loop2 Inv-loop μ-loop
+enum-known-payee c = search needs
 
 take-requires : tie.Need-take-requires Inv-loop2 μ-loop2 Inv-loop μ-loop
 take-requires c κs = search needs
@@ -61,8 +61,8 @@ enum-told c = search needs
 enum-told-2 : tie.Need-enum-told-2 Inv-loop2 μ-loop2 Inv-loop μ-loop
 enum-told-2 c = search needs
 
-paid-by-requires : tie.Need-paid-by-requires Inv-loop2 μ-loop2 Inv-loop μ-loop
-paid-by-requires c κs = search needs
+paid-to-requires : tie.Need-paid-to-requires Inv-loop2 μ-loop2 Inv-loop μ-loop
+paid-to-requires c κs = search needs
 
 lanes-in-use-requires : tie.Need-lanes-in-use-requires Inv-loop2 μ-loop2 Inv-loop μ-loop
 lanes-in-use-requires c κs = search needs
@@ -90,7 +90,7 @@ loop2-again c =
     let l = c .before .before .before .before .loop2 in
     let o = c .before .before .before .before .before .before .before .before .before .before .before .before .before .before .before .before .before .before .before .before .loop in
     let n = c .before .before .before .before .before .lanes-in-use .ensures in
-    (omega arith, l .inv .1 ∙ index-on (c .before .before .before .before .before .before .before .paid-by .result .issuer) (o .work) (o .inv .0) (l .place) (omega (arith, n)) (omega (arith, n)) (sym (c .before .is-of .ensures) ∙ c .if2 .left))
+    (omega arith, l .inv .1 ∙ index-on (c .before .before .before .before .before .before .before .paid-to .result .issuer) (o .work) (o .inv .0) (l .place) (omega (arith, n)) (omega (arith, n)) (sym (c .before .is-of .ensures) ∙ c .if2 .left))
 
 mul-lane-2 : tie.Need-mul-lane-2 Inv-loop2 μ-loop2 Inv-loop μ-loop
 mul-lane-2 c = search needs
@@ -106,6 +106,9 @@ enum-told-3 c = search needs
 
 enum-told-4 : tie.Need-enum-told-4 Inv-loop2 μ-loop2 Inv-loop μ-loop
 enum-told-4 c = search needs
+
+enum-told-5 : tie.Need-enum-told-5 Inv-loop2 μ-loop2 Inv-loop μ-loop
+enum-told-5 c = search needs
 
 mul-lane-3 : tie.Need-mul-lane-3 Inv-loop2 μ-loop2 Inv-loop μ-loop
 mul-lane-3 c = search needs
@@ -136,7 +139,7 @@ loop-again c =
     let e = cut .piece-end .ensures in
     let o = cut .before .before .before .before .loop in
     let a = cut .before .before .before .before .before .before .before .before .args in
-    let i = paid .paid-by .result .issuer in
+    let i = paid .paid-to .result .issuer in
     let found : l .place ≡ indexOf i (lanesOf (o .work)) =
     sym (l .inv .1 ∙
     ⊎-elim (λ v. index-end i (o .work) (o .inv .0) (l .place) (omega (arith, n, v .left)))
@@ -144,8 +147,8 @@ loop-again c =
     (left .loop2-test .came)) in (
       length-set (o .work .lanes) (l .place) (post .post .result .slot .lane) ∙ o .inv .0,
       paid-more (a .self) (a .bytes .now) (record { work = o .work; file = o .file; records = o .records; at = o .at }) (o .inv .1)
-          (cut .before .before .before .loop-test .taken) (e .0) (e .1) (e .2) (not-false _ (cut .before .if1 .left)) (read .decode .ensures) (took .before .before .p .given .1)
-          (took .take .ensures) (paid .before .enum-told .given .1) (paid .paid-by .ensures) found (post .post .ensures) (c .before .before .before .before .enum-told3 .given .1),
+          (cut .before .before .before .loop-test .taken) (e .0) (e .1) (e .2) (not-false _ (cut .before .if1 .left)) (read .paid .ensures) (took .before .before .payee .given .1)
+          (took .take .ensures) (paid .before .enum-told2 .given .1) (paid .paid-to .ensures) found (post .post .ensures) (c .before .before .before .before .enum-told4 .given .1),
     )
 
 returns : tie.Need-returns Inv-loop2 μ-loop2 Inv-loop μ-loop
@@ -178,15 +181,16 @@ pay-on-spec =
     μ-loop
     loop-holds
     piece-end-requires
-    sub-decode
-    part-decode-start
-    part-decode-end
-    decode-requires
-    enum-known-p
-    take-requires
+    sub-paid
+    part-paid-start
+    part-paid-end
+    paid-requires
+    enum-known-payee
     enum-told
+    take-requires
     enum-told-2
-    paid-by-requires
+    enum-told-3
+    paid-to-requires
     lanes-in-use-requires
     loop2-holds
     mul-lane
@@ -198,8 +202,8 @@ pay-on-spec =
     mul-lane-2
     element-copy-out-lane-2
     post-requires
-    enum-told-3
     enum-told-4
+    enum-told-5
     mul-lane-3
     element-set-from-lane
     add-records
