@@ -1,2 +1,5 @@
+mod Clauses
+pub mod Demands
 pub mod OneOutcome
+pub mod Refusals
 pub mod Samples

@@ -1,48 +1,10 @@
 -- One outcome for each input: where a contract gives the result and every byte left by equations, it allows one. Assumes nothing.
 use mathlib.Core.Path.{_≡_, refl, sym, _∙_, ap}
-use base.Logic.{ent, sep, via, id⊢, fst∗, snd∗}
-use contract.Monad.{fact, factI, fact-use}
-use borrow.Fn.World.{World, Pr}
+use base.Logic.{ent, sep}
+use contract.Monad.{fact}
+use borrow.Fn.World.{World}
 use Rattle.promises.specs.OneOutcome.{OneOutcome}
-
-module _ (w : World) where
-  -- what follows from what each of two assertions says
-  follows :
-      (P Q : Pr w) (φ χ ψ : Type 0) → ent (w .𝓤) P (fact (w .𝓤) φ) → ent (w .𝓤) Q (fact (w .𝓤) χ) → (φ → χ → ψ)
-      → ent (w .𝓤) (sep (w .𝓤) P Q) (fact (w .𝓤) ψ)
-  follows P Q φ χ ψ p q f =
-      fact-use (w .𝓤) φ (via (w .𝓤) P (fst∗ (w .𝓤) P Q) p) (λ x.
-      fact-use (w .𝓤) χ (via (w .𝓤) Q (snd∗ (w .𝓤) P Q) q) (λ y. factI (w .𝓤) ψ (sep (w .𝓤) P Q) (f x y)))
-
-  -- a clause, and a clause before others
-  says : (φ : Type 0) → ent (w .𝓤) (fact (w .𝓤) φ) (fact (w .𝓤) φ)
-  says φ = id⊢ (w .𝓤) (fact (w .𝓤) φ)
-
-  before : (φ χ : Type 0) (P : Pr w) → ent (w .𝓤) P (fact (w .𝓤) χ) → ent (w .𝓤) (sep (w .𝓤) (fact (w .𝓤) φ) P) (fact (w .𝓤) (φ × χ))
-  before φ χ P p = follows (fact (w .𝓤) φ) P φ χ (φ × χ) (says φ) p (λ x y. (x, y))
-
-  -- contracts of one clause, of two, and of two with a bound behind them
-  one : (φ φ′ ψ : Type 0) → (φ → φ′ → ψ) → ent (w .𝓤) (sep (w .𝓤) (fact (w .𝓤) φ) (fact (w .𝓤) φ′)) (fact (w .𝓤) ψ)
-  one φ φ′ ψ f = follows (fact (w .𝓤) φ) (fact (w .𝓤) φ′) φ φ′ ψ (says φ) (says φ′) f
-
-  two :
-      (φ χ φ′ χ′ ψ : Type 0) → (φ × χ → φ′ × χ′ → ψ)
-      → ent (w .𝓤) (sep (w .𝓤) (sep (w .𝓤) (fact (w .𝓤) φ) (fact (w .𝓤) χ)) (sep (w .𝓤) (fact (w .𝓤) φ′) (fact (w .𝓤) χ′))) (fact (w .𝓤) ψ)
-  two φ χ φ′ χ′ ψ f =
-      follows (sep (w .𝓤) (fact (w .𝓤) φ) (fact (w .𝓤) χ)) (sep (w .𝓤) (fact (w .𝓤) φ′) (fact (w .𝓤) χ′)) (φ × χ) (φ′ × χ′) ψ
-      (before φ χ (fact (w .𝓤) χ) (says χ)) (before φ′ χ′ (fact (w .𝓤) χ′) (says χ′)) f
-
-  bounded :
-      (φ χ β φ′ χ′ β′ ψ : Type 0) → (φ × χ → φ′ × χ′ → ψ)
-      → ent (w .𝓤)
-      (sep (w .𝓤) (sep (w .𝓤) (fact (w .𝓤) φ) (sep (w .𝓤) (fact (w .𝓤) χ) (fact (w .𝓤) β)))
-      (sep (w .𝓤) (fact (w .𝓤) φ′) (sep (w .𝓤) (fact (w .𝓤) χ′) (fact (w .𝓤) β′))))
-      (fact (w .𝓤) ψ)
-  bounded φ χ β φ′ χ′ β′ ψ f =
-      follows (sep (w .𝓤) (fact (w .𝓤) φ) (sep (w .𝓤) (fact (w .𝓤) χ) (fact (w .𝓤) β)))
-      (sep (w .𝓤) (fact (w .𝓤) φ′) (sep (w .𝓤) (fact (w .𝓤) χ′) (fact (w .𝓤) β′))) (φ × χ) (φ′ × χ′) ψ
-      (before φ χ (sep (w .𝓤) (fact (w .𝓤) χ) (fact (w .𝓤) β)) (fst∗ (w .𝓤) (fact (w .𝓤) χ) (fact (w .𝓤) β)))
-      (before φ′ χ′ (sep (w .𝓤) (fact (w .𝓤) χ′) (fact (w .𝓤) β′)) (fst∗ (w .𝓤) (fact (w .𝓤) χ′) (fact (w .𝓤) β′))) f
+use Rattle.promises.proofs.Clauses.{one, two, bounded}
 
 -- two that are given by one equation
 same : {A : Type 0} {x r r′ : A} → r ≡ x → r′ ≡ x → r ≡ r′

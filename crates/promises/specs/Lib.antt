@@ -1,2 +1,5 @@
+pub mod Allowed
+pub mod Demands
 pub mod OneOutcome
+pub mod Refusals
 pub mod Samples
