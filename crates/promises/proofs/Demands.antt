@@ -26,6 +26,7 @@ use Rattle.book.proofs.Runs.{run-is-the-books}
 use Rattle.book.proofs.WholeFiles.{file-accepted, file-posted, fresh-session-accepts, fresh-session-shows}
 use Rattle.book.proofs.WrittenFiles.{closed-file-is-whole, closed-file-is-accepted}
 use Rattle.promises.specs.Demands.{Demand1, Demand2, Demand3}
+use Rattle.promises.proofs.Calls.{calls-make-one-file}
 use Rattle.promises.proofs.OneOutcome.{one-outcome}
 use Rattle.promises.proofs.Refusals.{refusals-change-nothing}
 use Rattle.promises.proofs.Samples.{p5-is-an-exchange, p9-is-a-change}
@@ -55,7 +56,7 @@ demand-2 =
       recordsBack = (fields-make-the-record, fields-write-the-header, fields-write-the-payment);
       trailers = (one-right-trailer, true-trailers-only);
       files = (file-accepted, file-posted, fresh-session-accepts, fresh-session-shows);
-      written = (closed-file-is-whole, closed-file-is-accepted, written-is-accepted, trailer-shows-the-figures);
+      written = (closed-file-is-whole, closed-file-is-accepted, calls-make-one-file, written-is-accepted, trailer-shows-the-figures);
       answers = (session-agrees, answers-are-the-books, next-answer-is-the-books, run-is-the-books);
       lanes = (lanes-are-the-payments, lanes-in-order, each-lane-is-exact, no-issuer-has-two-lanes);
       sums = (sums-are-the-records, totals-are-the-records);

@@ -1,3 +1,4 @@
+pub mod Calls
 mod Clauses
 pub mod Demands
 pub mod OneOutcome

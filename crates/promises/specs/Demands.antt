@@ -18,6 +18,7 @@ use Rattle.book.specs.Promises.{FinishKeepsSession, TrueTrailersOnly, SessionAg
 use Rattle.book.specs.Runs.{RunIsTheBooks}
 use Rattle.book.specs.WholeFiles.{FileAccepted, FilePosted, FreshSessionAccepts, FreshSessionShows}
 use Rattle.book.specs.WrittenFiles.{ClosedFileIsWhole, ClosedFileIsAccepted}
+use Rattle.promises.specs.Calls.{CallsMakeOneFile}
 use Rattle.promises.specs.OneOutcome.{OneOutcome}
 use Rattle.promises.specs.Refusals.{RefusalsChangeNothing}
 use Rattle.promises.specs.Samples.{P5IsAnExchange, P9IsAChange}
@@ -52,7 +53,7 @@ pub record Demand2 : Type 0 where
   -- A file is accepted only if its trailer's count and total are the true ones,
   pub trailers : OneRightTrailer × TrueTrailersOnly
   pub files : FileAccepted × FilePosted × FreshSessionAccepts × FreshSessionShows
-  pub written : ClosedFileIsWhole × ClosedFileIsAccepted × WrittenIsAccepted × TrailerShowsTheFigures
+  pub written : ClosedFileIsWhole × ClosedFileIsAccepted × CallsMakeOneFile × WrittenIsAccepted × TrailerShowsTheFigures
   -- and each lane shows exactly the payments of accepted files,
   pub answers : SessionAgrees × AnswersAreTheBooks × NextAnswerIsTheBooks × RunIsTheBooks
   pub lanes : LanesAreThePayments × LanesInOrder × EachLaneIsExact × NoIssuerHasTwoLanes

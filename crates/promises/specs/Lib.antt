@@ -1,4 +1,5 @@
 pub mod Allowed
+pub mod Calls
 pub mod Demands
 pub mod OneOutcome
 pub mod Refusals
