@@ -30,6 +30,7 @@ use Rattle.promises.proofs.Calls.{calls-make-one-file}
 use Rattle.promises.proofs.OneOutcome.{one-outcome}
 use Rattle.promises.proofs.Refusals.{refusals-change-nothing}
 use Rattle.promises.proofs.Samples.{p5-is-an-exchange, p9-is-a-change}
+use Rattle.promises.proofs.Shown.{records-show-their-places}
 
 pub demand-1 : Demand1
 demand-1 =
@@ -49,7 +50,7 @@ demand-2 =
       table = (fields-cover, record-is-its-fields, mark-names, given-lengths);
       codes = (decoded-answers, fields-are-its-places, built-is-read);
       lines = (line-is-boxes-and-code, fields-give-a-line);
-      records = (decode-answers, made-is-accepted, written-amounts-are-read);
+      records = (decode-answers, records-show-their-places, made-is-accepted, written-amounts-are-read);
       allowed = fields-within-ranges-build;
       codesBack = code-is-its-fields;
       linesBack = (code-to-line-and-back, line-to-code-and-back, line-is-its-fields);

@@ -16,7 +16,7 @@ use Rattle.record.specs.Records.{fieldAnswer, recordAnswer}
 use Rattle.file.specs.Files.{fileAnswer, trailerAnswer}
 use Rattle.board.specs.Lanes.{fits}
 use Rattle.board.specs.Boards.{ownOf, usedAfter, slotAnswer}
-use Rattle.promises.specs.Samples.{Row, outcomeOf, samples, Hold, P5IsAnExchange, P9IsAChange}
+use Rattle.promises.specs.Samples.{Row, outcomeOf, samples, Hold, P4IsPaid, P5IsAnExchange, P9IsAChange}
 
 -- one test over a table says each row
 each-row : {A B : Type 0} (f g : A → B) (xs : List A) → map f xs ≡ map g xs → Each (λ x. f x ≡ g x) xs
@@ -37,6 +37,10 @@ all-rows = refl
 
 pub samples-hold : Hold samples
 samples-hold = each-row (λ (row : Row). outcomeOf (row .asked)) (λ (row : Row). row .out) samples all-rows
+
+pub p4-is-paid : P4IsPaid
+unfolding digitsOf
+p4-is-paid = refl
 
 pub p5-is-an-exchange : P5IsAnExchange
 unfolding leadAnswer generalRight boxRight ruleOf termOf digitsOf valueOf isOf

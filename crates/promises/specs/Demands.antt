@@ -22,6 +22,7 @@ use Rattle.promises.specs.Calls.{CallsMakeOneFile}
 use Rattle.promises.specs.OneOutcome.{OneOutcome}
 use Rattle.promises.specs.Refusals.{RefusalsChangeNothing}
 use Rattle.promises.specs.Samples.{P5IsAnExchange, P9IsAChange}
+use Rattle.promises.specs.Shown.{RecordsShowTheirPlaces}
 
 -- It takes every input without a fault and ends: that is no statement here, since the toolchain proves it of every function it admits, and no
 -- public function asks anything of its caller. What is left of demand 1:
@@ -43,7 +44,7 @@ pub record Demand2 : Type 0 where
   -- Lines, barcodes and records decode to their fields,
   pub codes : DecodedAnswers × FieldsAreItsPlaces × BuiltIsRead
   pub lines : LineIsBoxesAndCode × FieldsGiveALine
-  pub records : DecodeAnswers × MadeIsAccepted × WrittenAmountsAreRead
+  pub records : DecodeAnswers × RecordsShowTheirPlaces × MadeIsAccepted × WrittenAmountsAreRead
   -- nothing is refused that the layout allows,
   pub allowed : FieldsWithinRangesBuild
   -- and the fields write back the same bytes

@@ -157,6 +157,10 @@ samples =
 abbrev pub Hold : List Row → Type 0
 Hold rows = Each (λ (row : Row). outcomeOf (row .asked) ≡ row .out) rows
 
+-- Promise: the payments of P12 have P4's barcode.
+abbrev pub P4IsPaid : Type 0
+P4IsPaid = lines.codeOf p4 ≡ book.code
+
 -- Promises: what passes by demand 3 is real.
 
 -- P5 is P4 with 0 and 9 exchanged at places 15 and 16, in its second box
