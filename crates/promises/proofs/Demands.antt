@@ -25,11 +25,11 @@ use Rattle.book.proofs.Shown.{lanes-are-the-payments, lanes-in-order, each-lane
 use Rattle.book.proofs.Runs.{run-is-the-books}
 use Rattle.book.proofs.WholeFiles.{file-accepted, file-posted, fresh-session-accepts, fresh-session-shows}
 use Rattle.book.proofs.WrittenFiles.{closed-file-is-whole, closed-file-is-accepted}
-use Rattle.promises.specs.Demands.{Demand1, Demand2, Demand3}
+use Rattle.promises.specs.Demands.{Demand1, Demand2, Demand3, Promised}
 use Rattle.promises.proofs.Calls.{calls-make-one-file}
 use Rattle.promises.proofs.OneOutcome.{one-outcome}
 use Rattle.promises.proofs.Refusals.{refusals-change-nothing}
-use Rattle.promises.proofs.Samples.{p5-is-an-exchange, p9-is-a-change}
+use Rattle.promises.proofs.Samples.{samples-hold, p5-is-an-exchange, p9-is-a-change}
 use Rattle.promises.proofs.Shown.{records-show-their-places}
 
 pub demand-1 : Demand1
@@ -77,3 +77,6 @@ demand-3 =
       real = (p5-is-an-exchange, p9-is-a-change, directions-may-differ, borders-hold);
       beyond = (segment-may-slip, kind-may-slip);
     }
+
+pub promised : Promised
+promised = record { first = demand-1; second = demand-2; third = demand-3; p1ToP12 = samples-hold }

@@ -21,7 +21,7 @@ use Rattle.book.specs.WrittenFiles.{ClosedFileIsWhole, ClosedFileIsAccepted}
 use Rattle.promises.specs.Calls.{CallsMakeOneFile}
 use Rattle.promises.specs.OneOutcome.{OneOutcome}
 use Rattle.promises.specs.Refusals.{RefusalsChangeNothing}
-use Rattle.promises.specs.Samples.{P5IsAnExchange, P9IsAChange}
+use Rattle.promises.specs.Samples.{samples, Hold, P5IsAnExchange, P9IsAChange}
 use Rattle.promises.specs.Shown.{RecordsShowTheirPlaces}
 
 -- It takes every input without a fault and ends: that is no statement here, since the toolchain proves it of every function it admits, and no
@@ -77,3 +77,10 @@ pub record Demand3 : Type 0 where
   -- each case is real, and what the demand leaves out may pass
   pub real : P5IsAnExchange × P9IsAChange × DirectionsMayDiffer × BordersHold
   pub beyond : SegmentMaySlip × KindMaySlip
+
+-- All of it, with the proved samples of document 01.
+pub record Promised : Type 2 where
+  pub first : Demand1
+  pub second : Demand2
+  pub third : Demand3
+  pub p1ToP12 : Hold samples
