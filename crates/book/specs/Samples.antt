@@ -1,4 +1,4 @@
--- P11, P12 and the worked file of document 01, a day past 32 bits, and the turns of a session, each from a fresh one. Assumes nothing.
+-- The worked file of document 01, a day past 32 bits, and the turns of a session, each from a fresh one. Assumes nothing.
 use Prim.Native.Nat.{ℕ, zero, suc, _+_}
 use mathlib.Core.List.{List, [], _∷_, _++_, map}
 use mathlib.Core.Path.{_≡_}
@@ -90,33 +90,6 @@ pub record Sample : Type 0 where
   pub steps : List Step
   pub outcome : Outcome
 
--- P11: A, then Z with count 000002 and total zero
-abbrev pub p11 : Sample
-p11 =
-    record {
-      steps = taking header ∷ taking (trailer 2 0) ∷ [];
-      outcome = nothing (accepted ∷ accepted ∷ []) accepted;
-    }
-
--- P12: payments of 2147483648 and 2147483649 centavos; the total 4294967297 is accepted, the total 1 is refused 14
-abbrev pub p12 : ℕ → List Step
-p12 total = taking header ∷ taking (payment 2147483648) ∷ taking (payment 2147483649) ∷ taking (trailer 4 total) ∷ []
-
-abbrev pub p12Right : Sample
-p12Right =
-    record {
-      steps = p12 4_294_967_297;
-      outcome = oneLane (accepted ∷ accepted ∷ accepted ∷ accepted ∷ []) (tally 2 4_294_967_297);
-    }
-
-abbrev pub p12Wrong : Sample
-p12Wrong =
-    record {
-      steps = p12 1;
-      outcome =
-          nothing (accepted ∷ accepted ∷ accepted ∷ record { number = 14; place = 8 } ∷ []) (record { number = 19; place = 0 });
-    }
-
 -- "The board on paper": one G with the barcode of P4 and 109 centavos received
 abbrev pub worked : Sample
 worked =
@@ -202,7 +175,7 @@ crowded =
     }
 
 abbrev pub samples : List Sample
-samples = p11 ∷ p12Right ∷ p12Wrong ∷ worked ∷ past ∷ again ∷ left ∷ astray ∷ empty ∷ ordered ∷ crowded ∷ []
+samples = worked ∷ past ∷ again ∷ left ∷ astray ∷ empty ∷ ordered ∷ crowded ∷ []
 
 -- Promise: each sample comes out as it is said to.
 abbrev pub Hold : List Sample → Type 0

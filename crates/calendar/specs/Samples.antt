@@ -1,4 +1,4 @@
--- P10 of document 01, with the edges of the calendar: eight digits, written as a number, and whether they are a date. Assumes nothing.
+-- The edges of the calendar: eight digits, written as a number, and whether they are a date. Assumes nothing.
 use Prim.Native.Nat.{ℕ}
 use mathlib.Core.Bool.{Bool, true, false}
 use mathlib.Core.List.{List, [], _∷_, map}
@@ -11,13 +11,6 @@ use Rattle.calendar.specs.Dates.{dateOf}
 pub record Sample : Type 0 where
   pub digits : ℕ
   pub date : Bool
-
-abbrev pub p10 : List Sample
-p10 =
-    record { digits = 20000229; date = true }
-    ∷ record { digits = 19000229; date = false }
-    ∷ record { digits = 21000229; date = false }
-    ∷ []
 
 abbrev pub edges : List Sample
 edges =

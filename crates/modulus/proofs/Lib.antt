@@ -1,4 +1,3 @@
-pub mod Samples
 pub mod Slips
 pub mod Sums
 pub mod Terms

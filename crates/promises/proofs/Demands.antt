@@ -1,0 +1,84 @@
+-- The three demands, from the rooms' proofs. Assumes nothing.
+use Rattle.answer.proofs.Refusals.{numbers-differ, zero-is-accepted}
+use Rattle.answer.proofs.Orders.{then-refuses, first-refuses}
+use Rattle.barcode.proofs.RoundTrips.{decoded-answers, fields-are-its-places, built-is-read, fields-within-ranges-build, code-is-its-fields}
+use Rattle.line.proofs.RoundTrips.{line-is-boxes-and-code, fields-give-a-line, code-to-line-and-back, line-to-code-and-back, line-is-its-fields}
+use Rattle.layout.proofs.Layouts.{fields-cover, record-is-its-fields, mark-names, given-lengths}
+use Rattle.record.proofs.Shown.{decode-answers}
+use Rattle.fields.proofs.Trips.{fields-make-the-record, made-is-accepted}
+use Rattle.file.proofs.Files.{one-right-trailer}
+use Rattle.board.proofs.Lanes.{past-thirty-two-bits}
+use Rattle.writer.proofs.Written.{fields-write-the-header, fields-write-the-payment, written-is-accepted}
+use Rattle.writer.proofs.Trailers.{fields-write-the-trailer}
+use Rattle.writer.proofs.Amounts.{written-amounts-are-read, trailer-shows-the-figures}
+use Rattle.paper.proofs.Fits.{page-fits}
+use Rattle.paper.proofs.Pages.{printed-holds}
+use Rattle.paper.proofs.Plain.{shown-reads-back}
+use Rattle.slips.proofs.Accepted.{passes-by-checks}
+use Rattle.slips.proofs.Pieces.{boxes-are-numbered}
+use Rattle.slips.proofs.OneTen.{one-changed-digit-is-refused}
+use Rattle.slips.proofs.Exchange.{exchange-of-neighbours}
+use Rattle.slips.proofs.OneEleven.{one-changed-digit-under-eleven}
+use Rattle.slips.proofs.Samples.{directions-may-differ, borders-hold, segment-may-slip, kind-may-slip}
+use Rattle.book.proofs.Agreement.{session-agrees, answers-are-the-books, next-answer-is-the-books}
+use Rattle.book.proofs.Sessions.{finish-keeps-session, true-trailers-only, only-trailers-show, nothing-shows-before, trailers-show-all, abandon-keeps-board, abandon-drops-file, abandon-nothing, finish-answers}
+use Rattle.book.proofs.Shown.{lanes-are-the-payments, lanes-in-order, each-lane-is-exact, no-issuer-has-two-lanes, sums-are-the-records, totals-are-the-records, within-limits}
+use Rattle.book.proofs.Runs.{run-is-the-books}
+use Rattle.book.proofs.WholeFiles.{file-accepted, file-posted, fresh-session-accepts, fresh-session-shows}
+use Rattle.book.proofs.WrittenFiles.{closed-file-is-whole, closed-file-is-accepted, fields-write-the-file}
+use Rattle.promises.specs.Demands.{Demand1, Demand2, Demand3, Promised}
+use Rattle.promises.proofs.Calls.{calls-make-one-file}
+use Rattle.promises.proofs.OneOutcome.{one-outcome}
+use Rattle.promises.proofs.Refusals.{refusals-change-nothing}
+use Rattle.promises.proofs.Samples.{samples-hold, p5-is-an-exchange, p9-is-a-change}
+use Rattle.promises.proofs.Shown.{records-show-their-places}
+
+pub demand-1 : Demand1
+demand-1 =
+    record {
+      one = one-outcome;
+      numbered = numbers-differ;
+      accepted = zero-is-accepted;
+      order = then-refuses;
+      row = first-refuses;
+      keeps = refusals-change-nothing;
+      finishing = finish-keeps-session;
+    }
+
+pub demand-2 : Demand2
+demand-2 =
+    record {
+      table = (fields-cover, record-is-its-fields, mark-names, given-lengths);
+      codes = (decoded-answers, fields-are-its-places, built-is-read);
+      lines = (line-is-boxes-and-code, fields-give-a-line);
+      records = (decode-answers, records-show-their-places, made-is-accepted, written-amounts-are-read);
+      allowed = fields-within-ranges-build;
+      codesBack = code-is-its-fields;
+      linesBack = (code-to-line-and-back, line-to-code-and-back, line-is-its-fields);
+      recordsBack = (fields-make-the-record, fields-write-the-header, fields-write-the-payment, fields-write-the-trailer);
+      filesBack = fields-write-the-file;
+      trailers = (one-right-trailer, true-trailers-only);
+      files = (file-accepted, file-posted, fresh-session-accepts, fresh-session-shows);
+      written = (closed-file-is-whole, closed-file-is-accepted, calls-make-one-file, written-is-accepted, trailer-shows-the-figures);
+      answers = (session-agrees, answers-are-the-books, next-answer-is-the-books, run-is-the-books);
+      lanes = (lanes-are-the-payments, lanes-in-order, each-lane-is-exact, no-issuer-has-two-lanes);
+      sums = (sums-are-the-records, totals-are-the-records);
+      together = (only-trailers-show, nothing-shows-before, trailers-show-all);
+      abandoned = (abandon-keeps-board, abandon-drops-file, abandon-nothing, finish-answers);
+      full = (past-thirty-two-bits, within-limits);
+      printed = (page-fits, printed-holds, shown-reads-back);
+    }
+
+pub demand-3 : Demand3
+demand-3 =
+    record {
+      accepted = (passes-by-checks, boxes-are-numbered);
+      changed = one-changed-digit-is-refused;
+      exchanged = exchange-of-neighbours;
+      changedEleven = one-changed-digit-under-eleven;
+      real = (p5-is-an-exchange, p9-is-a-change, directions-may-differ, borders-hold);
+      beyond = (segment-may-slip, kind-may-slip);
+    }
+
+pub promised : Promised
+promised = record { first = demand-1; second = demand-2; third = demand-3; p1ToP12 = samples-hold }

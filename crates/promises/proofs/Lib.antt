@@ -1,0 +1,7 @@
+pub mod Calls
+mod Clauses
+pub mod Demands
+pub mod OneOutcome
+pub mod Refusals
+pub mod Samples
+pub mod Shown

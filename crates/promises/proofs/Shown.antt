@@ -1,0 +1,8 @@
+-- What a decoded record shows, by computation of the table. Assumes nothing.
+use mathlib.Core.Path.{refl}
+use Rattle.layout.specs.Layouts.{layoutOf, table, rowAt}
+use Rattle.promises.specs.Shown.{RecordsShowTheirPlaces}
+
+pub records-show-their-places : RecordsShowTheirPlaces
+unfolding rowAt table layoutOf
+records-show-their-places rec = (refl, refl, refl)

@@ -1,0 +1,184 @@
+-- P1 to P12 of document 01 ("Proved samples"): each row an input, what is asked of it, and what comes out. Assumes nothing.
+use Prim.Native.Nat.{ℕ}
+use mathlib.Core.Bool.{Bool, true, false}
+use mathlib.Core.List.{List, [], _∷_, _++_}
+use mathlib.Core.Path.{_≡_}
+use lib.ListN.{getD, set}
+use Rattle.answer.specs.Refusals.{numberOf, answerNumber, answerPlace}
+use Rattle.answer.specs.Orders.{Each}
+use Rattle.decimal.specs.Numbers.{digitsOf}
+use Rattle.decimal.specs.Places.{gather}
+use Rattle.calendar.specs.declared.Dated.{Dated}
+use Rattle.calendar.specs.declared.Dated.the-variants.{On, NoDate}
+use Rattle.calendar.specs.Dates.{dateOf}
+use Rattle.modulus.specs.declared.Modulus.{Modulus}
+use Rattle.modulus.specs.declared.Modulus.the-variants.{Ten, Eleven}
+use Rattle.modulus.specs.Checks.{checkOf, exchanged, ZeroAndNine}
+use Rattle.barcode.specs.declared.Decoded.{Decoded}
+use Rattle.barcode.specs.declared.Decoded.the-variants.{Read, Refused}
+use Rattle.barcode.specs.declared.Fields.{Fields}
+use Rattle.barcode.specs.Codes as barcodes
+use Rattle.barcode.specs.Codes.{checked}
+use Rattle.line.specs.Lines as lines
+use Rattle.board.specs.declared.Lane.{Lane}
+use Rattle.board.specs.Boards.{lanesOf}
+use Rattle.session.specs.declared.Ran.{Ran}
+use Rattle.session.specs.Sessions.{freshSession}
+use Rattle.session.specs.Runs.{runOf}
+use Rattle.slips.specs.Slips.{Passes, Names, InOneBox, BothMove, NoCheck}
+use Rattle.book.specs.Samples as book
+
+-- What may be asked.
+
+pub data Question : Type 0 where
+  check : Modulus → List ℕ → Question  -- the check of these digits under this modulus
+  barcode : List ℕ → Question  -- these bytes, decoded as a barcode
+  line : List ℕ → Question  -- these bytes, decoded as a typed line
+  date : List ℕ → Question  -- whether these bytes are a date
+  files : List ℕ → Question  -- these bytes, taken by a fresh session, record by record
+
+-- What may come out. Refusals with the paper's number and place; 0 at place 0 is accepted.
+
+-- what a run over files shows: its answer, the records and files accepted, the lanes
+pub record Shown : Type 0 where
+  pub number : ℕ
+  pub place : ℕ
+  pub records : ℕ
+  pub files : ℕ
+  pub lanes : List Lane
+
+pub data Outcome : Type 0 where
+  digit : ℕ → Outcome
+  accepted : Fields → Outcome
+  refused : ℕ → ℕ → Outcome
+  isDate : Bool → Outcome
+  shows : Shown → Outcome
+
+abbrev pub decodedTo : Decoded → Outcome
+decodedTo (Read fields) = accepted fields
+decodedTo (Refused why place) = refused (numberOf why) place
+
+abbrev pub dated : Dated → Outcome
+dated (On d) = isDate true
+dated NoDate = isDate false
+
+abbrev pub ranTo : Ran → Outcome
+ranTo r =
+    shows (record {
+      number = answerNumber (r .answer);
+      place = answerPlace (r .answer);
+      records = r .records;
+      files = r .files;
+      lanes = lanesOf (r .session .shown);
+    })
+
+-- what comes out, by the definitions that the contracts of the operations cite
+abbrev pub outcomeOf : Question → Outcome
+outcomeOf (check m digits) = digit (checkOf m digits)
+outcomeOf (barcode code) = decodedTo (barcodes.decodeOf code)
+outcomeOf (line bytes) = decodedTo (lines.decodeOf bytes)
+outcomeOf (date bytes) = dated (dateOf bytes)
+outcomeOf (files bytes) = ranTo (runOf freshSession bytes)
+
+-- The inputs.
+
+abbrev pub p1 : List ℕ
+p1 = digitsOf 11 01230067896
+
+abbrev pub p3 : List ℕ
+p3 = digitsOf 44 8221_0000_2150_4820_0974_1232_2015_4098_2901_0860_5940
+
+abbrev pub p4 : List ℕ
+p4 = digitsOf 48 817700000000_010936599702_411310797039_001433708318
+
+abbrev pub p5 : List ℕ
+p5 = digitsOf 48 817700000000_019036599702_411310797039_001433708318
+
+abbrev pub p6 : List ℕ
+p6 = digitsOf 48 817700000000_010936599702_411310797039_001433708319
+
+abbrev pub p7 : List ℕ
+p7 = digitsOf 48 817800000009_010936599702_411310797039_001433708318
+
+abbrev pub p8 : List ℕ
+p8 = digitsOf 48 818000000004_000000100005_000000000000_000000000000
+
+abbrev pub p9 : List ℕ
+p9 = digitsOf 48 818000000004_000000100005_000000000000_000000000060
+
+abbrev pub p11 : List ℕ
+p11 = book.header ++ book.trailer 000002 0
+
+abbrev pub p12 : ℕ → List ℕ
+p12 total = book.header ++ (book.payment 2147483648 ++ (book.payment 2147483649 ++ book.trailer 000004 total))
+
+-- What is said of them.
+
+-- the fields; the free field starts with no date
+abbrev pub fields : ℕ → ℕ → ℕ → ℕ → Fields
+fields segment kind value number =
+    record { kind = kind; value = value; issuer = record { segment = segment; number = number }; due = NoDate }
+
+-- the lane of the issuer that the payments name, which is that of P4
+abbrev pub lane : ℕ → ℕ → List Lane
+lane payments centavos = record { issuer = book.issuer; tally = book.tally payments centavos } ∷ []
+
+-- The table.
+
+pub record Row : Type 0 where
+  pub asked : Question
+  pub out : Outcome
+
+infix 70 _gives_
+abbrev pub _gives_ : Question → Outcome → Row
+asked gives out = record { asked = asked; out = out }
+
+abbrev pub samples : List Row
+samples =
+    check Ten p1 gives digit 3  -- P1
+    ∷ check Eleven p1 gives digit 0  -- P2
+    ∷ check Ten (gather checked p3) gives digit 1  -- P3: the general check, over the 43 digits without place 4
+    ∷ barcode p3 gives refused 5 3  -- P3, as a barcode
+    ∷ line p4 gives accepted (fields 1 7 109 3659)  -- P4
+    ∷ line p5 gives accepted (fields 1 7 190 3659)  -- P5
+    ∷ line p6 gives refused 6 48  -- P6
+    ∷ line p7 gives refused 7 4  -- P7
+    ∷ line p8 gives accepted (fields 1 8 0 10)  -- P8
+    ∷ line p9 gives accepted (fields 1 8 0 10)  -- P9
+    ∷ date (digitsOf 8 20000229) gives isDate true  -- P10
+    ∷ date (digitsOf 8 19000229) gives isDate false
+    ∷ date (digitsOf 8 21000229) gives isDate false
+    ∷ files p11 gives shows (record { number = 0; place = 0; records = 2; files = 1; lanes = [] })  -- P11
+    ∷ files (p12 4294967297) gives shows (record { number = 0; place = 0; records = 4; files = 1; lanes = lane 2 4294967297 })  -- P12
+    ∷ files (p12 1) gives shows (record { number = 14; place = 8; records = 3; files = 0; lanes = [] })
+    ∷ []
+
+-- Promise: each row comes out as the table says.
+abbrev pub Hold : List Row → Type 0
+Hold rows = Each (λ (row : Row). outcomeOf (row .asked) ≡ row .out) rows
+
+-- Promise: the payments of P12 have P4's barcode.
+abbrev pub P4IsPaid : Type 0
+P4IsPaid = lines.codeOf p4 ≡ book.code
+
+-- Promises: what passes by demand 3 is real.
+
+-- P5 is P4 with 0 and 9 exchanged at places 15 and 16, in its second box
+abbrev pub P5IsAnExchange : Type 0
+P5IsAnExchange =
+    (p5 ≡ exchanged p4 14)
+    × ZeroAndNine (getD p4 14 0) (getD p4 15 0)
+    × InOneBox 14
+    × Names Ten p4
+    × Passes p4
+    × Passes p5
+
+-- P9 is P8 with place 47 changed from 0 to 6
+abbrev pub P9IsAChange : Type 0
+P9IsAChange =
+    (p9 ≡ set p8 46 54)
+    × NoCheck 46
+    × BothMove 46 p8 p9
+    × Names Eleven p8
+    × Passes p8
+    × Passes p9

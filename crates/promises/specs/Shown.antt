@@ -1,0 +1,32 @@
+-- What a decoded record shows, by the places of document 01 ("The three records"), with no row of the table named. Assumes nothing.
+use Prim.Native.Nat.{ℕ}
+use mathlib.Core.List.{List}
+use mathlib.Core.Path.{_≡_}
+use Rattle.decimal.specs.Numbers.{numberOf}
+use Rattle.decimal.specs.Places.{places}
+use Rattle.calendar.specs.declared.Date.{Date}
+use Rattle.calendar.specs.Dates.{dateOf}
+use Rattle.barcode.specs.Codes.{fieldsOf}
+use Rattle.record.specs.Values.{dayOf, headerOf, paymentOf, trailerOf}
+
+abbrev pub numberAt : ℕ → ℕ → List ℕ → ℕ
+numberAt first last rec = numberOf (places first last rec)
+
+abbrev pub dateAt : ℕ → ℕ → List ℕ → Date
+dateAt first last rec = dayOf (dateOf (places first last rec))
+
+-- Promise: bank, date and sequence number of an A; dates, barcode, amounts and number of a G; count and total of a Z.
+abbrev pub RecordsShowTheirPlaces : Type 0
+RecordsShowTheirPlaces =
+    (rec : List ℕ)
+    → (headerOf rec ≡ record { bank = numberAt 43 45 rec; date = dateAt 66 73 rec; sequence = numberAt 74 79 rec })
+    × (paymentOf rec
+    ≡ record {
+      paid = dateAt 22 29 rec;
+      credited = dateAt 30 37 rec;
+      barcode = fieldsOf (places 38 81 rec);
+      received = numberAt 82 93 rec;
+      tariff = numberAt 94 100 rec;
+      number = numberAt 101 108 rec;
+    })
+    × (trailerOf rec ≡ record { count = numberAt 2 7 rec; total = numberAt 8 24 rec })

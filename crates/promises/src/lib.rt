@@ -1,0 +1,1 @@
+// Theorems only: everything that is promised, in the order of the demands.
