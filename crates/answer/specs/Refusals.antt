@@ -40,6 +40,14 @@ abbrev pub answerPlace : Answer → ℕ
 answerPlace Accepted = 0
 answerPlace (Refused why place) = place
 
+-- The places of a G that refusals 16 to 18 point at: its received centavos, and the issuer in its barcode.
+
+abbrev pub receivedPlace : ℕ
+receivedPlace = 82
+
+abbrev pub issuerPlace : ℕ
+issuerPlace = 53
+
 -- Promises.
 
 -- a number names one reason

@@ -28,6 +28,11 @@ pub enum Reason {
     TooWide,
 }
 
+// The places of a G that refusals 16 to 18 point at.
+pub const RECEIVED_PLACE: usize = 82;
+
+pub const ISSUER_PLACE: usize = 53;
+
 // A place counts from 1 in what was read; 0 where a refusal has none.
 pub enum Answer {
     Accepted,

@@ -34,7 +34,7 @@ product = 8
 abbrev pub isSegment : ℕ → Bool
 isSegment s = within 1 7 s || eqb s 9
 
--- 3: value kind, 6 to 9; 6 and 7 name modulo 10, 8 and 9 modulo 11
+-- 3: value kind, 6 to 9; 6 and 7 name modulo 10, 8 and 9 modulo 11. The value is centavos under 6 and 8, a reference quantity under 7 and 9
 abbrev pub isKind : ℕ → Bool
 isKind k = within 6 9 k
 

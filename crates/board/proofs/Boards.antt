@@ -10,6 +10,7 @@ use borrow.Author.Tests.{lt-ltb, le-leb, ltb-true, ltb-false}
 use lib.Dec.{ltb, leb}
 use lib.ListN.{length, getD, length-set, length-append}
 use lib.Seq.{getD-take}
+use Rattle.answer.specs.Refusals.{receivedPlace, issuerPlace}
 use Rattle.answer.specs.declared.Reason.the-variants.{BoardFull, BoardTotalPassed}
 use Rattle.answer.specs.declared.Answer.the-variants.{Accepted}
 use Rattle.answer.specs.Orders.{asked, _then_}
@@ -120,7 +121,7 @@ answers-as-payments b ps p s e =
     let after : place p (lanesOf b) ≡ lanesFrom (ps ++ (p ∷ [])) = ap (place p) e ∙ sym (one-payment-more ps p) in
     let sum : plus (b .total) (p .tally) ≡ sumOf (ps ++ (p ∷ [])) =
     plus-swap (b .total) (p .tally) ∙ ap (plus (p .tally)) (s .total) ∙ sym (place-kept p (lanesOf b)) ∙ ap sumOf after ∙ sum-is-kept (ps ++ (p ∷ [])) in
-    ap₂ (λ (t u : Bool). asked t BoardFull 53 then asked u BoardTotalPassed 82)
+    ap₂ (λ (t u : Bool). asked t BoardFull issuerPlace then asked u BoardTotalPassed receivedPlace)
     (free-lane p (lanesOf b) (omega (arith, length-lanes b s, s .few)) ∙ ap (λ (ls : List Lane). leb (length ls) mostLanes) after)
     (own-follows b p s ∙ ap fits sum)
 

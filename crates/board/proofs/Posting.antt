@@ -10,6 +10,7 @@ use borrow.Author.Tests.{lt-ltb, ltb-true, ltb-false}
 use lib.Dec.{ltb}
 use lib.ListN.{length, getD, set, take, length-set, length-replicate}
 use lib.Seq.{getD-take, take-set-lt, take-suc-set, length-take-le}
+use Rattle.answer.specs.Refusals.{receivedPlace, issuerPlace}
 use Rattle.answer.specs.declared.Reason.the-variants.{BoardFull, BoardTotalPassed}
 use Rattle.answer.specs.declared.Answer.{Answer}
 use Rattle.answer.specs.declared.Answer.the-variants.{Accepted, Refused}
@@ -71,11 +72,11 @@ pub fit : (b : Board) (p : Lane) → (postAnswer b p ≡ Accepted) ↔ Fit b p
 unfolding slotAnswer
 fit b p =
     let s = slotOf b (p .issuer) in
-    let one = asked (ltb (s .at) mostLanes) BoardFull 53 in
+    let one = asked (ltb (s .at) mostLanes) BoardFull issuerPlace in
     let sums = fits (grownSlot s p .lane .tally) && fits (grownSlot s p .total) in
-    let two = then-accepts one (asked sums BoardTotalPassed 82) in
-    let first = asked-accepts (ltb (s .at) mostLanes) BoardFull 53 in
-    let second = asked-accepts sums BoardTotalPassed 82 in
+    let two = then-accepts one (asked sums BoardTotalPassed receivedPlace) in
+    let first = asked-accepts (ltb (s .at) mostLanes) BoardFull issuerPlace in
+    let second = asked-accepts sums BoardTotalPassed receivedPlace in
     let both = and-eq-true-iff (fits (grownSlot s p .lane .tally)) (fits (grownSlot s p .total)) in (
       λ e.
           let h = both .0 (second .0 (two .0 e .1)) in

@@ -6,6 +6,7 @@ use mathlib.Core.Path.{_≡_, refl, sym, ap, _∙_}
 use borrow.Author.Tests.{lt-ltb}
 use lib.ListN.{set}
 use lib.Seq.{set-getD}
+use Rattle.answer.specs.Refusals.{receivedPlace}
 use Rattle.answer.specs.declared.Reason.the-variants.{BoardTotalPassed}
 use Rattle.answer.specs.declared.Answer.{Answer}
 use Rattle.answer.specs.declared.Answer.the-variants.{Accepted, Refused}
@@ -21,22 +22,22 @@ use Rattle.board.specs.Boards.{blank, lanesOf, indexOf, slotAt, stored, 
 
 -- within the board, only the sums are left to ask: of the lane with the payment, then of the total
 module _ (s : Slot) (p : Lane) (own : Tally) (free : s .at < mostLanes) (is : own ≡ ownOf s) where
-  asked-sums : slotAnswer s p ≡ asked (fits (plus own (p .tally)) && fits (plus (s .total) (p .tally))) BoardTotalPassed 82
+  asked-sums : slotAnswer s p ≡ asked (fits (plus own (p .tally)) && fits (plus (s .total) (p .tally))) BoardTotalPassed receivedPlace
   unfolding slotAnswer
   asked-sums = rw (lt-ltb (s .at) mostLanes free, is)
 
   entered : (t u : Bool) → fits (plus own (p .tally)) ≡ t → fits (plus (s .total) (p .tally)) ≡ u
-      → (a : Answer) → a ≡ asked (t && u) BoardTotalPassed 82 → record { answer = a; slot = kept a (grownSlot s p) s } ≡ entryOf s p
+      → (a : Answer) → a ≡ asked (t && u) BoardTotalPassed receivedPlace → record { answer = a; slot = kept a (grownSlot s p) s } ≡ entryOf s p
   entered t u e f a g =
       let h : a ≡ slotAnswer s p = g ∙ sym (asked-sums ∙ rw (e, f)) in
       rw h
 
-  pub own-passed : fits (plus own (p .tally)) ≡ false → record { answer = Refused BoardTotalPassed 82; slot = s } ≡ entryOf s p
-  own-passed e = entered false (fits (plus (s .total) (p .tally))) e refl (Refused BoardTotalPassed 82) refl
+  pub own-passed : fits (plus own (p .tally)) ≡ false → record { answer = Refused BoardTotalPassed receivedPlace; slot = s } ≡ entryOf s p
+  own-passed e = entered false (fits (plus (s .total) (p .tally))) e refl (Refused BoardTotalPassed receivedPlace) refl
 
   pub total-passed : fits (plus own (p .tally)) ≡ true → fits (plus (s .total) (p .tally)) ≡ false
-      → record { answer = Refused BoardTotalPassed 82; slot = s } ≡ entryOf s p
-  total-passed e f = entered true false e f (Refused BoardTotalPassed 82) refl
+      → record { answer = Refused BoardTotalPassed receivedPlace; slot = s } ≡ entryOf s p
+  total-passed e f = entered true false e f (Refused BoardTotalPassed receivedPlace) refl
 
   pub within : {u : ℕ} {t v : Tally} → fits (plus own (p .tally)) ≡ true → fits (plus (s .total) (p .tally)) ≡ true
       → t ≡ plus own (p .tally) → u ≡ usedAfter s → v ≡ plus (s .total) (p .tally)

@@ -6,6 +6,7 @@ use mathlib.Core.Logic.{_↔_, _⊎_}
 use mathlib.Core.Path.{_≡_}
 use lib.Dec.{ltb, leb}
 use lib.ListN.{length, getD, set, take, replicate}
+use Rattle.answer.specs.Refusals.{receivedPlace, issuerPlace}
 use Rattle.answer.specs.declared.Reason.the-variants.{BoardFull, BoardTotalPassed}
 use Rattle.answer.specs.declared.Answer.{Answer}
 use Rattle.answer.specs.declared.Answer.the-variants.{Accepted}
@@ -61,8 +62,8 @@ grownSlot s p =
 -- 17, a new issuer when all lanes are taken; 18, a number of the lane or of the total that would pass the limit
 unfoldable pub slotAnswer : Slot → Lane → Answer
 slotAnswer s p =
-    asked (ltb (s .at) mostLanes) BoardFull 53
-    then asked (fits (grownSlot s p .lane .tally) && fits (grownSlot s p .total)) BoardTotalPassed 82
+    asked (ltb (s .at) mostLanes) BoardFull issuerPlace
+    then asked (fits (grownSlot s p .lane .tally) && fits (grownSlot s p .total)) BoardTotalPassed receivedPlace
 
 abbrev pub entryOf : Slot → Lane → Entry
 entryOf s p = record { answer = slotAnswer s p; slot = kept (slotAnswer s p) (grownSlot s p) s }
@@ -89,8 +90,8 @@ boardWithAll b (p ∷ ps) = boardWithAll (boardWith b p) ps
 -- the answer to a payment after others, with no board: 17, more issuers than there are lanes; 18, a sum that does not fit
 abbrev pub answerAfter : List Lane → Lane → Answer
 answerAfter ps p =
-    asked (leb (length (lanesFrom (ps ++ (p ∷ [])))) mostLanes) BoardFull 53
-    then asked (fits (sumOf (ps ++ (p ∷ [])))) BoardTotalPassed 82
+    asked (leb (length (lanesFrom (ps ++ (p ∷ [])))) mostLanes) BoardFull issuerPlace
+    then asked (fits (sumOf (ps ++ (p ∷ [])))) BoardTotalPassed receivedPlace
 
 -- what holds of every board that the methods make
 pub record Sound (b : Board) : Type 0 where

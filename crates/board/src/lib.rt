@@ -121,7 +121,7 @@ impl Slot {
     {
         if Board::LANES <= self.at {
             return Entry {
-                answer: Answer::Refused(Reason::BoardFull, 53),
+                answer: Answer::Refused(Reason::BoardFull, answer::ISSUER_PLACE),
                 slot: self,
             };
         }
@@ -129,13 +129,13 @@ impl Slot {
         let total = self.total;
         if !own.fits_with(payment.tally) {
             return Entry {
-                answer: Answer::Refused(Reason::BoardTotalPassed, 82),
+                answer: Answer::Refused(Reason::BoardTotalPassed, answer::RECEIVED_PLACE),
                 slot: self,
             };
         }
         if !total.fits_with(payment.tally) {
             return Entry {
-                answer: Answer::Refused(Reason::BoardTotalPassed, 82),
+                answer: Answer::Refused(Reason::BoardTotalPassed, answer::RECEIVED_PLACE),
                 slot: self,
             };
         }
@@ -206,7 +206,7 @@ impl Board {
         let at = self.find(issuer);
         if Self::LANES <= at {
             return Posted {
-                answer: Answer::Refused(Reason::BoardFull, 53),
+                answer: Answer::Refused(Reason::BoardFull, answer::ISSUER_PLACE),
                 board: self,
             };
         }

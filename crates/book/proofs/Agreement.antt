@@ -7,6 +7,7 @@ use mathlib.Core.Path.{_≡_, refl, sym, ap, ap₂, _∙_}
 use native.Mathlib.Omega.{arith}
 use lib.Dec.{eqb, ltb, leb}
 use lib.ListN.{length, getD, length-append}
+use Rattle.answer.specs.Refusals.{receivedPlace}
 use Rattle.answer.specs.declared.Reason.the-variants.{WrongLength, NotExpected, FileFull, FileTotalPassed}
 use Rattle.answer.specs.declared.Answer.{Answer}
 use Rattle.answer.specs.declared.Answer.the-variants.{Accepted, Refused}
@@ -41,7 +42,7 @@ module _ (s : Session) (files : List Filed) (rec : List ℕ) where
   payment-asked f h =
       rw (answers-as-payments (s .work) (paidIn (recordsOf files ++ f .payments)) (paid rec) (h .soundWork) (h .work), h .taken, h .total)
       (then-groups (asked (ltb (length (f .payments)) mostPayments) FileFull 1)
-      (asked (leb (receivedIn (f .payments) + paymentOf rec .received) mostCentavos) FileTotalPassed 82)
+      (asked (leb (receivedIn (f .payments) + paymentOf rec .received) mostCentavos) FileTotalPassed receivedPlace)
       (answerAfter (paidIn (recordsOf files ++ f .payments)) (paid rec)))
 
   trailer-asked : (f : Filed) → Agrees s (record { accepted = files; opened = some f })

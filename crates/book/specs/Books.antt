@@ -5,6 +5,7 @@ use mathlib.Core.List.{List, [], _∷_, _++_, map}
 use mathlib.Core.Option.{Option, none, some}
 use lib.Dec.{eqb, ltb, leb}
 use lib.ListN.{length, getD}
+use Rattle.answer.specs.Refusals.{receivedPlace}
 use Rattle.answer.specs.declared.Reason.the-variants.{WrongLength, NotExpected, CountDiffers, TotalDiffers, FileFull, FileTotalPassed}
 use Rattle.answer.specs.declared.Answer.{Answer}
 use Rattle.answer.specs.declared.Answer.the-variants.{Accepted}
@@ -80,7 +81,7 @@ awaits (some f) Other = false
 abbrev pub asksPayment : List Filed → Filed → List ℕ → Answer
 asksPayment files f rec =
     asked (ltb (length (f .payments)) mostPayments) FileFull 1
-    then asked (leb (receivedIn (f .payments) + paymentOf rec .received) mostCentavos) FileTotalPassed 82
+    then asked (leb (receivedIn (f .payments) + paymentOf rec .received) mostCentavos) FileTotalPassed receivedPlace
     then answerAfter (paidIn (recordsOf files ++ f .payments)) (paid rec)
 
 -- a Z: 13, the number of the file's records, A and Z included; 14, what its payments received

@@ -1,6 +1,6 @@
 -- Dates: YYYYMMDD, Gregorian, years 1900 to 2199. Assumes nothing.
 use Prim.Native.Nat.{ℕ, _%_}
-use mathlib.Core.Bool.{Bool, true, cond, not, _&&_, _||_}
+use mathlib.Core.Bool.{Bool, true, false, cond, not, _&&_, _||_}
 use mathlib.Core.List.{List, [], _∷_, _++_}
 use mathlib.Core.Path.{_≡_}
 use lib.Dec.{eqb}
@@ -35,6 +35,10 @@ spelled bs = record { year = numberOf (places 1 4 bs); month = numberOf (places 
 -- the date of eight digits that are one
 unfoldable pub dateOf : List ℕ → Dated
 dateOf bs = cond (eqb (length bs) 8 && (all (isOf Digit) bs && isDate (spelled bs))) (On (spelled bs)) NoDate
+
+abbrev pub isOne : Dated → Bool
+isOne (On d) = true
+isOne NoDate = false
 
 -- a date's eight digits
 abbrev pub spelling : Date → List ℕ

@@ -4,9 +4,7 @@ use mathlib.Core.Bool.{Bool, true, false}
 use mathlib.Core.List.{List, [], _∷_, map}
 use mathlib.Core.Path.{_≡_}
 use Rattle.decimal.specs.Numbers.{digitsOf}
-use Rattle.calendar.specs.declared.Dated.{Dated}
-use Rattle.calendar.specs.declared.Dated.the-variants.{On, NoDate}
-use Rattle.calendar.specs.Dates.{dateOf}
+use Rattle.calendar.specs.Dates.{dateOf, isOne}
 
 pub record Sample : Type 0 where
   pub digits : ℕ
@@ -28,10 +26,6 @@ edges =
     ∷ record { digits = 20230100; date = false }
     ∷ record { digits = 00000000; date = false }
     ∷ []
-
-abbrev pub isOne : Dated → Bool
-isOne (On d) = true
-isOne NoDate = false
 
 -- Promise: each sample is what it is said to be.
 abbrev pub Hold : List Sample → Type 0

@@ -8,6 +8,7 @@ use native.Mathlib.Omega.{arith}
 use borrow.Author.Tests.{eq-eqb, le-leb, lt-ltb, eqb-true, leb-true, ltb-true}
 use lib.Dec.{eqb, leb, ltb}
 use lib.ListN.{length}
+use Rattle.answer.specs.Refusals.{receivedPlace}
 use Rattle.answer.specs.declared.Reason.{Reason}
 use Rattle.answer.specs.declared.Reason.the-variants.{CountDiffers, TotalDiffers, FileFull, FileTotalPassed}
 use Rattle.answer.specs.declared.Answer.{Answer}
@@ -29,7 +30,7 @@ both s t v w p q =
 pub file-accepts : FileAccepts
 unfolding fileAnswer
 file-accepts f received =
-    let h = both (ltb (f .taken) mostPayments) (leb (f .total + received) mostCentavos) FileFull FileTotalPassed 1 82 in (
+    let h = both (ltb (f .taken) mostPayments) (leb (f .total + received) mostCentavos) FileFull FileTotalPassed 1 receivedPlace in (
       λ e. (ltb-true _ _ (h .0 e .0), leb-true _ _ (h .0 e .1)),
       λ k. h .1 (lt-ltb _ _ (k .0), le-leb _ _ (k .1)),
     )
@@ -93,7 +94,7 @@ one-right-trailer f shown =
 pub closing-accepts : ClosingAccepts
 unfolding closingAnswer
 closing-accepts f =
-    let h = both (leb (f .taken) mostPayments) (leb (f .total) mostCentavos) FileFull FileTotalPassed 1 82 in (
+    let h = both (leb (f .taken) mostPayments) (leb (f .total) mostCentavos) FileFull FileTotalPassed 1 receivedPlace in (
       λ e. record { taken = leb-true _ _ (h .0 e .0); total = leb-true _ _ (h .0 e .1) },
       λ w. h .1 (le-leb _ _ (w .taken), le-leb _ _ (w .total)),
     )

@@ -5,6 +5,7 @@ use mathlib.Core.Logic.{_↔_}
 use mathlib.Core.Path.{_≡_}
 use lib.Dec.{eqb, ltb, leb}
 use lib.ListN.{length}
+use Rattle.answer.specs.Refusals.{receivedPlace}
 use Rattle.answer.specs.declared.Reason.the-variants.{CountDiffers, TotalDiffers, FileFull, FileTotalPassed}
 use Rattle.answer.specs.declared.Answer.{Answer}
 use Rattle.answer.specs.declared.Answer.the-variants.{Accepted}
@@ -27,7 +28,7 @@ freshFile = record { taken = 0; total = 0 }
 -- 15, a payment when the most were taken; 16, a payment that takes the total past the most
 unfoldable pub fileAnswer : File → ℕ → Answer
 fileAnswer f received =
-    asked (ltb (f .taken) mostPayments) FileFull 1 then asked (leb (f .total + received) mostCentavos) FileTotalPassed 82
+    asked (ltb (f .taken) mostPayments) FileFull 1 then asked (leb (f .total + received) mostCentavos) FileTotalPassed receivedPlace
 
 -- the file with one payment more
 abbrev pub fileWith : File → ℕ → File
@@ -48,7 +49,7 @@ trailerAnswer f shown =
 
 -- 15, then 16: a file put together by hand whose figures have no room in a trailer
 unfoldable pub closingAnswer : File → Answer
-closingAnswer f = asked (leb (f .taken) mostPayments) FileFull 1 then asked (leb (f .total) mostCentavos) FileTotalPassed 82
+closingAnswer f = asked (leb (f .taken) mostPayments) FileFull 1 then asked (leb (f .total) mostCentavos) FileTotalPassed receivedPlace
 
 abbrev pub closedOf : File → Closed
 closedOf f =

@@ -52,13 +52,13 @@ impl File {
         // No sum is made before it is known to fit.
         if Self::TOTAL < self.total {
             return Taken {
-                answer: Answer::Refused(Reason::FileTotalPassed, 82),
+                answer: Answer::Refused(Reason::FileTotalPassed, answer::RECEIVED_PLACE),
                 file: self,
             };
         }
         if Self::TOTAL - self.total < received {
             return Taken {
-                answer: Answer::Refused(Reason::FileTotalPassed, 82),
+                answer: Answer::Refused(Reason::FileTotalPassed, answer::RECEIVED_PLACE),
                 file: self,
             };
         }
@@ -100,7 +100,7 @@ impl File {
         }
         if Self::TOTAL < self.total {
             return Closed {
-                answer: Answer::Refused(Reason::FileTotalPassed, 82),
+                answer: Answer::Refused(Reason::FileTotalPassed, answer::RECEIVED_PLACE),
                 figures: none,
             };
         }

@@ -31,7 +31,7 @@ use Rattle.promises.proofs.Calls.{calls-make-one-file}
 use Rattle.promises.proofs.OneOutcome.{one-outcome}
 use Rattle.promises.proofs.Refusals.{refusals-change-nothing}
 use Rattle.promises.proofs.Samples.{samples-hold, p5-is-an-exchange, p9-is-a-change}
-use Rattle.promises.proofs.Shown.{records-show-their-places}
+use Rattle.promises.proofs.Shown.{refusals-point-at-places, records-show-their-places}
 
 pub demand-1 : Demand1
 demand-1 =
@@ -39,6 +39,7 @@ demand-1 =
       one = one-outcome;
       numbered = numbers-differ;
       accepted = zero-is-accepted;
+      places = refusals-point-at-places;
       order = then-refuses;
       row = first-refuses;
       keeps = refusals-change-nothing;

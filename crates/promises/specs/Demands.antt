@@ -22,7 +22,7 @@ use Rattle.promises.specs.Calls.{CallsMakeOneFile}
 use Rattle.promises.specs.OneOutcome.{OneOutcome}
 use Rattle.promises.specs.Refusals.{RefusalsChangeNothing}
 use Rattle.promises.specs.Samples.{samples, Hold, P5IsAnExchange, P9IsAChange}
-use Rattle.promises.specs.Shown.{RecordsShowTheirPlaces}
+use Rattle.promises.specs.Shown.{RefusalsPointAtPlaces, RecordsShowTheirPlaces}
 
 -- It takes every input without a fault and ends: that is no statement here, since the toolchain proves it of every function it admits, and no
 -- public function asks anything of its caller. What is left of demand 1:
@@ -31,6 +31,7 @@ pub record Demand1 : Type 2 where
   pub one : OneOutcome
   pub numbered : NumbersDiffer
   pub accepted : ZeroIsAccepted
+  pub places : RefusalsPointAtPlaces
   -- by a fixed order: the first refusal of two questions, and of a row of fields
   pub order : ThenRefuses
   pub row : FirstRefuses Field

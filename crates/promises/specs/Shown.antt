@@ -1,12 +1,14 @@
 -- What a decoded record shows, by the places of document 01 ("The three records"), with no row of the table named. Assumes nothing.
-use Prim.Native.Nat.{ℕ}
+use Prim.Native.Nat.{ℕ, _+_, _-_}
 use mathlib.Core.List.{List}
 use mathlib.Core.Path.{_≡_}
+use Rattle.answer.specs.Refusals.{receivedPlace, issuerPlace}
 use Rattle.decimal.specs.Numbers.{numberOf}
 use Rattle.decimal.specs.Places.{places}
 use Rattle.calendar.specs.declared.Date.{Date}
 use Rattle.calendar.specs.Dates.{dateOf}
 use Rattle.barcode.specs.Codes.{fieldsOf}
+use Rattle.layout.specs.Layouts.{rowAt, receivedRow, barcodeRow}
 use Rattle.record.specs.Values.{dayOf, headerOf, paymentOf, trailerOf}
 
 abbrev pub numberAt : ℕ → ℕ → List ℕ → ℕ
@@ -14,6 +16,10 @@ numberAt first last rec = numberOf (places first last rec)
 
 abbrev pub dateAt : ℕ → ℕ → List ℕ → Date
 dateAt first last rec = dayOf (dateOf (places first last rec))
+
+-- Promise: refusals 16 to 18 point at the received centavos of a G, and at the issuer, place 16 of its barcode.
+abbrev pub RefusalsPointAtPlaces : Type 0
+RefusalsPointAtPlaces = (receivedPlace ≡ rowAt receivedRow .first) × (issuerPlace ≡ rowAt barcodeRow .first - 1 + 16)
 
 -- Promise: bank, date and sequence number of an A; dates, barcode, amounts and number of a G; count and total of a Z.
 abbrev pub RecordsShowTheirPlaces : Type 0

@@ -9,9 +9,7 @@ use Rattle.answer.specs.declared.Answer.{Answer}
 use Rattle.answer.specs.Orders.{asked, _then_}
 use Rattle.decimal.specs.declared.Class.the-variants as class
 use Rattle.decimal.specs.Bytes.{within, isOf, all, eachIs}
-use Rattle.calendar.specs.declared.Dated.{Dated}
-use Rattle.calendar.specs.declared.Dated.the-variants as dated
-use Rattle.calendar.specs.Dates.{dateOf}
+use Rattle.calendar.specs.Dates.{dateOf, isOne}
 use Rattle.barcode.specs.Codes.{barcodeAnswer}
 use Rattle.layout.specs.declared.Kind.{Kind}
 use Rattle.layout.specs.declared.Kind.the-variants.{Mark, Version, Service, Blank, Text, Digits, Money, Date, Barcode, Capture, Form}
@@ -44,10 +42,6 @@ isCapture b = within 49 54 b || within 97 102 b
 -- payment form, `1` to `3`
 unfoldable pub isForm : ℕ → Bool
 isForm b = within 49 51 b
-
-abbrev pub isOne : Dated → Bool
-isOne (dated.On d) = true
-isOne dated.NoDate = false
 
 -- A field's bytes, answered with places in the field. Only this definition knows what a kind asks.
 unfoldable pub kindAnswer : Kind → List ℕ → Answer
