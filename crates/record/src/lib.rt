@@ -18,6 +18,7 @@ pub use values::decode;
 pub use values::field;
 pub use walk::check;
 
+#[repr(C)]
 pub struct Header {
     pub bank: u64,
     pub date: Date,
@@ -35,6 +36,7 @@ pub struct Payment {
 }
 
 // The count of all records, header and trailer included, and the centavos received.
+#[repr(C)]
 pub struct Trailer {
     pub count: u64,
     pub total: u64,

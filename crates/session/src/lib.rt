@@ -23,6 +23,7 @@ use record::Decoded;
 use record::Payment;
 
 // The board shown, of accepted files only; the working board and the file with what the open file adds.
+#[repr(C)]
 pub struct Session {
     pub shown: Board,
     pub work: Board,
