@@ -1,6 +1,8 @@
 //! Each call goes to the engine as a request, and to the second program for the reply that is expected.
 
-use second::{barcode, line, page, records, Date, Modulus, Reason, Refusal, Session, Stage, Writer};
+use second::{
+    barcode, line, page, records, Date, Modulus, Reason, Refusal, Session, Stage, Writer,
+};
 
 use crate::engine::{Batch, Engine};
 use crate::wire;
@@ -77,7 +79,9 @@ impl Calls {
         }
         self.inputs += 1;
         let batch = &mut self.batch;
-        batch.marks.push((batch.requests.len(), batch.expected.len()));
+        batch
+            .marks
+            .push((batch.requests.len(), batch.expected.len()));
         batch.requests.push(letter);
         (&mut batch.requests, &mut batch.expected)
     }
@@ -107,7 +111,11 @@ impl Calls {
         let said = records::decode(record);
         wire::answered(reply, &said);
         wire::record(reply, &said);
-        let room = if record.first() == Some(&b'A') { 78 } else { 121 };
+        let room = if record.first() == Some(&b'A') {
+            78
+        } else {
+            121
+        };
         lent(reply, room, |out| records::joined(record, out));
     }
 
@@ -136,7 +144,9 @@ impl Calls {
         wire::numbers(request, &[segment, issuer, kind, value]);
         request.push(room);
         put(request, free);
-        lent(reply, room.into(), |out| barcode::build(segment, kind, value, issuer, free, out));
+        lent(reply, room.into(), |out| {
+            barcode::build(segment, kind, value, issuer, free, out)
+        });
     }
 
     pub fn date(&mut self, bytes: &[u8]) {
@@ -149,7 +159,13 @@ impl Calls {
     pub fn is_date(&mut self, year: u64, month: u64, day: u64) {
         let (request, reply) = self.call(b'D');
         wire::numbers(request, &[year, month, day]);
-        let date = (|| Date::new(year.try_into().ok()?, month.try_into().ok()?, day.try_into().ok()?))();
+        let date = (|| {
+            Date::new(
+                year.try_into().ok()?,
+                month.try_into().ok()?,
+                day.try_into().ok()?,
+            )
+        })();
         wire::number(reply, u64::from(date.is_some()));
     }
 
@@ -322,7 +338,9 @@ fn printed(number: u64, place: usize, room: usize) -> Result<Result<(), Refusal>
     let reason = match number {
         0 => None,
         n => {
-            let known = Reason::ALL.iter().find(|reason| u64::from(reason.number()) == n);
+            let known = Reason::ALL
+                .iter()
+                .find(|reason| u64::from(reason.number()) == n);
             Some(*known.ok_or(Reason::WideNumber.at(0))?)
         }
     };

@@ -39,7 +39,10 @@ pub fn root() -> PathBuf {
 /// A program for x86-64, run on this machine.
 pub fn program(path: &str) -> Command {
     let file = root().join(path);
-    assert!(file.exists(), "there is no {path}: ./test says what makes it");
+    assert!(
+        file.exists(),
+        "there is no {path}: ./test says what makes it"
+    );
     let mut command = Command::new(root().join("tools/x86"));
     command.arg(file);
     command
@@ -132,7 +135,11 @@ fn frame(stdout: &mut impl Read) -> io::Result<Vec<u8>> {
 /// The first request whose reply differs, with both.
 fn difference(batch: &Batch, replies: &[u8]) -> String {
     if replies.len() != batch.expected.len() {
-        return format!("{} bytes of replies, and not {}", replies.len(), batch.expected.len());
+        return format!(
+            "{} bytes of replies, and not {}",
+            replies.len(),
+            batch.expected.len()
+        );
     }
     let differs = |&i: &usize| batch.part(i, replies).1 != batch.part(i, &batch.expected).1;
     let i = (0..batch.marks.len()).find(differs).unwrap_or(0);

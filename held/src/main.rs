@@ -18,7 +18,9 @@ const LEAST: u64 = 5_000_000;
 /// A number of the environment; this one where it has none.
 fn asked(name: &str, else_: u64) -> u64 {
     match env::var(name) {
-        Ok(text) => text.parse().unwrap_or_else(|_| panic!("{name} is no number: {text}")),
+        Ok(text) => text
+            .parse()
+            .unwrap_or_else(|_| panic!("{name} is no number: {text}")),
         Err(_) => else_,
     }
 }
@@ -28,8 +30,14 @@ fn pass(family: &Family, seed: u64, times: u64) -> Result<u64, String> {
     let began = Instant::now();
     let mut calls = Calls::new();
     (family.pass)(&mut calls, &mut Random::new(seed), times);
-    let inputs = calls.finish().map_err(|found| format!("{}: {found}", family.name))?;
-    println!("{inputs:>9} {} ({:.1} s)", family.name, began.elapsed().as_secs_f64());
+    let inputs = calls
+        .finish()
+        .map_err(|found| format!("{}: {found}", family.name))?;
+    println!(
+        "{inputs:>9} {} ({:.1} s)",
+        family.name,
+        began.elapsed().as_secs_f64()
+    );
     Ok(inputs)
 }
 
@@ -49,7 +57,10 @@ fn main() -> ExitCode {
     // The second program's share is small: two engines keep two processors busy.
     let total: Result<u64, String> = thread::scope(|scope| {
         let workers = [scope.spawn(work), scope.spawn(work)];
-        workers.into_iter().map(|worker| worker.join().expect("a worker ends")).sum()
+        workers
+            .into_iter()
+            .map(|worker| worker.join().expect("a worker ends"))
+            .sum()
     });
     match total {
         Ok(inputs) if inputs >= LEAST => {

@@ -30,7 +30,14 @@ pub fn part(reply: &mut Vec<u8>, whole: &[u8], part: &[u8]) {
 
 pub fn date(reply: &mut Vec<u8>, date: Option<Date>) {
     match date {
-        Some(d) => numbers(reply, &[u64::from(d.year()), u64::from(d.month()), u64::from(d.day())]),
+        Some(d) => numbers(
+            reply,
+            &[
+                u64::from(d.year()),
+                u64::from(d.month()),
+                u64::from(d.day()),
+            ],
+        ),
         None => numbers(reply, &[0; 3]),
     }
 }
@@ -95,7 +102,10 @@ pub fn record(reply: &mut Vec<u8>, outcome: &Result<Record, Refusal>) {
 pub fn board(reply: &mut Vec<u8>, board: &Board) {
     for lane in &board.lanes {
         let issuer = lane.issuer;
-        numbers(reply, &[issuer.segment, issuer.number, lane.payments, lane.centavos]);
+        numbers(
+            reply,
+            &[issuer.segment, issuer.number, lane.payments, lane.centavos],
+        );
     }
     numbers(reply, &[board.used as u64, board.payments, board.centavos]);
 }
@@ -103,5 +113,8 @@ pub fn board(reply: &mut Vec<u8>, board: &Board) {
 pub fn session(reply: &mut Vec<u8>, session: &Session) {
     board(reply, &session.shown);
     board(reply, &session.working);
-    numbers(reply, &[u64::from(session.open), session.taken, session.total]);
+    numbers(
+        reply,
+        &[u64::from(session.open), session.taken, session.total],
+    );
 }

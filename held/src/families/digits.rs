@@ -81,8 +81,14 @@ pub fn dates(calls: &mut Calls, random: &mut Random, times: u64) {
         }
     }
     for _ in 0..50_000 * times {
-        let edges = [0, 1, 2, 12, 28, 29, 30, 31, 1899, 1900, 2000, 2100, 2199, 2200];
-        calls.is_date(near(random, &edges), near(random, &edges), near(random, &edges));
+        let edges = [
+            0, 1, 2, 12, 28, 29, 30, 31, 1899, 1900, 2000, 2100, 2199, 2200,
+        ];
+        calls.is_date(
+            near(random, &edges),
+            near(random, &edges),
+            near(random, &edges),
+        );
         let mut bytes = days::date(random).digits().to_vec();
         days::damage(random, &mut bytes);
         calls.date(&bytes);
@@ -127,13 +133,33 @@ pub fn damaged(calls: &mut Calls, random: &mut Random, times: u64) {
 /// Barcodes built from numbers at the edges of their widths, and check digits of up to 255 digits.
 pub fn built(calls: &mut Calls, random: &mut Random, times: u64) {
     for _ in 0..150_000 * times {
-        let segment = if random.once_in(16) { random.bits() } else { random.below(11) };
-        let kind = if random.once_in(16) { near(random, &[6, 9, 54, 57]) } else { random.between(5, 10) };
+        let segment = if random.once_in(16) {
+            random.bits()
+        } else {
+            random.below(11)
+        };
+        let kind = if random.once_in(16) {
+            near(random, &[6, 9, 54, 57])
+        } else {
+            random.between(5, 10)
+        };
         let width = if segment == 6 { 8 } else { 4 };
-        let issuer = if random.once_in(4) { near(random, &[10_000, 100_000_000]) } else { random.number(width) };
-        let value = if random.once_in(4) { near(random, &[100_000_000_000]) } else { random.number(11) };
+        let issuer = if random.once_in(4) {
+            near(random, &[10_000, 100_000_000])
+        } else {
+            random.number(width)
+        };
+        let value = if random.once_in(4) {
+            near(random, &[100_000_000_000])
+        } else {
+            random.number(11)
+        };
         let asked = if segment == 6 { 21 } else { 25 };
-        let length = if random.once_in(16) { random.index(50) } else { asked };
+        let length = if random.once_in(16) {
+            random.index(50)
+        } else {
+            asked
+        };
         let mut free: Vec<u8> = (0..length).map(|_| random.digit()).collect();
         if random.once_in(4) {
             days::damage(random, &mut free);

@@ -16,25 +16,70 @@ pub struct Family {
 }
 
 pub const ALL: [Family; 13] = [
-    Family { name: "typed lines, every change and exchange", pass: digits::changed_lines },
-    Family { name: "barcodes, every change", pass: digits::changed_barcodes },
-    Family { name: "typed lines, every pair of digits in a box", pass: digits::pairs_in_boxes },
-    Family { name: "dates of 1899 to 2200", pass: digits::dates },
-    Family { name: "lines and barcodes, damaged and noise", pass: digits::damaged },
-    Family { name: "barcodes built, check digits", pass: digits::built },
-    Family { name: "records, every byte at every place", pass: records::changed },
-    Family { name: "records, damaged and noise", pass: records::damaged },
-    Family { name: "days, record by record", pass: sessions::by_record },
-    Family { name: "days, many records at once", pass: sessions::by_run },
-    Family { name: "sessions put together by hand", pass: sessions::by_hand },
-    Family { name: "pages", pass: sessions::pages },
-    Family { name: "files written", pass: writers::written },
+    Family {
+        name: "typed lines, every change and exchange",
+        pass: digits::changed_lines,
+    },
+    Family {
+        name: "barcodes, every change",
+        pass: digits::changed_barcodes,
+    },
+    Family {
+        name: "typed lines, every pair of digits in a box",
+        pass: digits::pairs_in_boxes,
+    },
+    Family {
+        name: "dates of 1899 to 2200",
+        pass: digits::dates,
+    },
+    Family {
+        name: "lines and barcodes, damaged and noise",
+        pass: digits::damaged,
+    },
+    Family {
+        name: "barcodes built, check digits",
+        pass: digits::built,
+    },
+    Family {
+        name: "records, every byte at every place",
+        pass: records::changed,
+    },
+    Family {
+        name: "records, damaged and noise",
+        pass: records::damaged,
+    },
+    Family {
+        name: "days, record by record",
+        pass: sessions::by_record,
+    },
+    Family {
+        name: "days, many records at once",
+        pass: sessions::by_run,
+    },
+    Family {
+        name: "sessions put together by hand",
+        pass: sessions::by_hand,
+    },
+    Family {
+        name: "pages",
+        pass: sessions::pages,
+    },
+    Family {
+        name: "files written",
+        pass: writers::written,
+    },
 ];
 
 /// Noise of a length: any bytes, or digits alone.
 fn noise(random: &mut Random, length: usize) -> Vec<u8> {
     let digits = random.once_in(2);
-    let one = |_| if digits { random.digit() } else { random.byte() };
+    let one = |_| {
+        if digits {
+            random.digit()
+        } else {
+            random.byte()
+        }
+    };
     (0..length).map(one).collect()
 }
 

@@ -12,7 +12,9 @@ const FULL: [u64; 4] = [0, 999_997, 1_000_000_000_000_000_000, u64::MAX];
 fn day(random: &mut Random) -> Vec<u8> {
     let issuers = random.index(71);
     let (files, most) = (random.index(5), random.index(30));
-    let mut bytes = days::day(random, issuers, files, most).expect("a good day").bytes;
+    let mut bytes = days::day(random, issuers, files, most)
+        .expect("a good day")
+        .bytes;
     let how = random.below(4);
     if how & 1 != 0 {
         days::damage(random, &mut bytes);
@@ -129,7 +131,13 @@ pub fn by_hand(calls: &mut Calls, random: &mut Random, times: u64) {
             0 => calls.abandon(),
             1 => calls.finish_session(),
             2 => calls.board(),
-            _ => calls.page(random.below(24), random.number(19), random.bits(), random.bits(), PAGE),
+            _ => calls.page(
+                random.below(24),
+                random.number(19),
+                random.bits(),
+                random.bits(),
+                PAGE,
+            ),
         }
     }
 }
@@ -140,8 +148,24 @@ pub fn pages(calls: &mut Calls, random: &mut Random, times: u64) {
         let mut session = Session::new();
         session.shown = board(random);
         calls.set_session(&session);
-        let room = if random.once_in(4) { random.index(9000) } else { PAGE };
-        calls.page(near(random, &[0, 21]), random.bits(), random.bits(), random.bits(), room);
-        calls.page(random.below(23), random.number(4), random.number(19), random.number(19), PAGE);
+        let room = if random.once_in(4) {
+            random.index(9000)
+        } else {
+            PAGE
+        };
+        calls.page(
+            near(random, &[0, 21]),
+            random.bits(),
+            random.bits(),
+            random.bits(),
+            room,
+        );
+        calls.page(
+            random.below(23),
+            random.number(4),
+            random.number(19),
+            random.number(19),
+            PAGE,
+        );
     }
 }

@@ -42,7 +42,11 @@ pub fn written(calls: &mut Calls, random: &mut Random, times: u64) {
         if random.once_in(3) {
             let stage = near(random, &[0, 1, 2]);
             let taken = near(random, &[0, 999_996, 999_997, u64::MAX]);
-            calls.set_writer(stage, taken, near(random, &[0, 99_999_999_999_999_999, u64::MAX]));
+            calls.set_writer(
+                stage,
+                taken,
+                near(random, &[0, 99_999_999_999_999_999, u64::MAX]),
+            );
         } else {
             calls.new_writer();
         }
