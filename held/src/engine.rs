@@ -57,7 +57,7 @@ pub struct Engine {
 
 impl Engine {
     pub fn start() -> Engine {
-        let mut child = program("target/c/serve")
+        let mut child = program("build/c/serve")
             .stdin(Stdio::piped())
             .stdout(Stdio::piped())
             .spawn()

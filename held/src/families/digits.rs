@@ -33,7 +33,7 @@ fn each_change(bytes: &mut [u8], mut pass: impl FnMut(&[u8])) {
 
 /// Accepted lines with each byte at each place, and with each two neighbours exchanged.
 pub fn changed_lines(calls: &mut Calls, random: &mut Random, times: u64) {
-    for mut line in lines(random, 50 * times) {
+    for mut line in lines(random, 200 * times) {
         each_change(&mut line, |changed| calls.line(changed));
         for i in 1..line.len() {
             line.swap(i - 1, i);
@@ -44,7 +44,7 @@ pub fn changed_lines(calls: &mut Calls, random: &mut Random, times: u64) {
 }
 
 pub fn changed_barcodes(calls: &mut Calls, random: &mut Random, times: u64) {
-    for _ in 0..30 * times {
+    for _ in 0..100 * times {
         let mut code = days::barcode(random).expect("a good barcode");
         each_change(&mut code, |changed| calls.barcode(changed));
     }
@@ -52,7 +52,7 @@ pub fn changed_barcodes(calls: &mut Calls, random: &mut Random, times: u64) {
 
 /// Each two digits at each two places of each box.
 pub fn pairs_in_boxes(calls: &mut Calls, random: &mut Random, times: u64) {
-    for line in lines(random, 8 * times) {
+    for line in lines(random, 20 * times) {
         for first in [0, 12, 24, 36] {
             for i in first..first + 11 {
                 for j in i + 1..first + 11 {
@@ -108,7 +108,7 @@ fn format(mut date: u64) -> [u8; 8] {
 
 /// Lines and barcodes damaged in one to three places, and noise of every length up to 200.
 pub fn damaged(calls: &mut Calls, random: &mut Random, times: u64) {
-    for _ in 0..100_000 * times {
+    for _ in 0..300_000 * times {
         let mut line = days::line(random).expect("a good line");
         days::damage(random, &mut line);
         calls.line(&line);
@@ -132,7 +132,7 @@ pub fn damaged(calls: &mut Calls, random: &mut Random, times: u64) {
 
 /// Barcodes built from numbers at the edges of their widths, and check digits of up to 255 digits.
 pub fn built(calls: &mut Calls, random: &mut Random, times: u64) {
-    for _ in 0..150_000 * times {
+    for _ in 0..300_000 * times {
         let segment = if random.once_in(16) {
             random.bits()
         } else {

@@ -16,7 +16,7 @@ fn records(random: &mut Random) -> [[u8; 150]; 3] {
 
 /// Accepted records with each byte at each place.
 pub fn changed(calls: &mut Calls, random: &mut Random, times: u64) {
-    for _ in 0..5 * times {
+    for _ in 0..15 * times {
         for mut record in records(random) {
             calls.fields(&record);
             for i in 0..record.len() {
@@ -33,7 +33,7 @@ pub fn changed(calls: &mut Calls, random: &mut Random, times: u64) {
 
 /// Records damaged in one to three places, and noise of every length up to 200, now and then behind a letter.
 pub fn damaged(calls: &mut Calls, random: &mut Random, times: u64) {
-    for _ in 0..40_000 * times {
+    for _ in 0..100_000 * times {
         for mut record in records(random) {
             if random.once_in(8) {
                 let which = Conversion::Joined;

@@ -27,7 +27,7 @@ fn day(random: &mut Random) -> Vec<u8> {
 
 /// Each record with the session behind it; now and then a refused one is sent again, or the file is abandoned.
 pub fn by_record(calls: &mut Calls, random: &mut Random, times: u64) {
-    for _ in 0..700 * times {
+    for _ in 0..1_500 * times {
         calls.new_session();
         for record in day(random).chunks(150) {
             if calls.take(record).is_err() {
@@ -49,7 +49,7 @@ pub fn by_record(calls: &mut Calls, random: &mut Random, times: u64) {
 
 /// Pieces of whole records, then the page.
 pub fn by_run(calls: &mut Calls, random: &mut Random, times: u64) {
-    for _ in 0..4_000 * times {
+    for _ in 0..8_000 * times {
         calls.new_session();
         let bytes = day(random);
         let piece = 150 * (1 + random.index(40));
@@ -109,7 +109,7 @@ fn trailer(session: &Session) -> [u8; 150] {
 }
 
 pub fn by_hand(calls: &mut Calls, random: &mut Random, times: u64) {
-    for _ in 0..6_000 * times {
+    for _ in 0..12_000 * times {
         let session = Session {
             open: !random.once_in(8),
             taken: near(random, &[0, 999_996, 999_997, u64::MAX - 2]),

@@ -38,7 +38,7 @@ fn spoil(random: &mut Random, fields: &mut Vec<u8>) {
 }
 
 pub fn written(calls: &mut Calls, random: &mut Random, times: u64) {
-    for _ in 0..20_000 * times {
+    for _ in 0..50_000 * times {
         if random.once_in(3) {
             let stage = near(random, &[0, 1, 2]);
             let taken = near(random, &[0, 999_996, 999_997, u64::MAX]);
