@@ -27,9 +27,9 @@ use Rattle.engine.specs.declared.Page.{Page}
 use Rattle.engine.specs.Forms.{saidOf, answerFrom, partOf, freePart, fieldPart, writerOf, penOf, wroteOf}
 use Rattle.engine.specs.Exports.{pageAnswer, paperOf, pageWith, pageBytes}
 
--- what is kept by an answer is kept by an equal one
-pub keeps : {S : Type 0} {a b : Answer} {x : S} (new old : S) → a ≡ b → x ≡ kept a new old → x ≡ kept b new old
-keeps {S} {a} {b} {x} new old h k = k ∙ ap (λ z. kept z new old) h
+-- an answer handed over, and what it kept
+pub handed : {s : Said} {a b : Answer} {x : List ℕ} (new old : List ℕ) → s ≡ saidOf a → a ≡ b → x ≡ kept a new old → (s ≡ saidOf b) × (x ≡ kept b new old)
+handed {s} {a} {b} {x} new old f e k = (f ∙ ap saidOf e, k ∙ ap (λ z. kept z new old) e)
 
 -- a part of the caller's bytes, from what the room showed
 pub at-free : (code : List ℕ) {free : List ℕ} {from : ℕ} {p : Part}

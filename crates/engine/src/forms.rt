@@ -48,7 +48,7 @@ const REASONS: [Reason; 21] = [
     Reason::TooWide,
 ];
 
-pub fn said(a: Answer) -> Said
+pub(crate) fn said(a: Answer) -> Said
     ensures { λ r. ⌜ r ≡ saidOf a ⌝ }
 {
     Said {
@@ -68,7 +68,7 @@ fn reason(i: usize) -> Reason
     }
 }
 
-pub fn answer_from(s: Said) -> Answer
+pub(crate) fn answer_from(s: Said) -> Answer
     ensures { λ r. ⌜ r ≡ answerFrom s ⌝ }
 {
     if s.number == 0 {
@@ -77,7 +77,7 @@ pub fn answer_from(s: Said) -> Answer
     Answer::Refused(reason((s.number - 1) as usize), s.place)
 }
 
-pub fn part(from: usize, length: usize) -> Part
+pub(crate) fn part(from: usize, length: usize) -> Part
     ensures { λ r. ⌜ r ≡ partOf from length ⌝ }
 {
     if length == 0 {
@@ -87,7 +87,7 @@ pub fn part(from: usize, length: usize) -> Part
 }
 
 // Down to 0.
-pub fn less(a: usize, b: usize) -> usize
+pub(crate) fn less(a: usize, b: usize) -> usize
     ensures { λ r. ⌜ r ≡ a - b ⌝ }
 {
     if b < a { a - b } else { 0 }
@@ -103,7 +103,7 @@ fn no_date() -> Date
     }
 }
 
-pub fn day(d: Dated) -> Date
+pub(crate) fn day(d: Dated) -> Date
     ensures { λ r. ⌜ r ≡ dayOf d ⌝ }
 {
     match d {
@@ -140,7 +140,7 @@ fn no_slip() -> Slip
 }
 
 // A barcode's and a line's fields, or zeros with the refusal.
-pub fn read(d: barcode::Decoded) -> Read
+pub(crate) fn read(d: barcode::Decoded) -> Read
     ensures { λ r. ⌜ r ≡ readOf d ⌝ }
 {
     match d {
@@ -200,7 +200,7 @@ fn no_trailer() -> Trailer
     Trailer { count: 0, total: 0 }
 }
 
-pub fn shown(d: record::Decoded) -> Shown
+pub(crate) fn shown(d: record::Decoded) -> Shown
     ensures { λ r. ⌜ r ≡ shownOf d ⌝ }
 {
     match d {
@@ -257,7 +257,7 @@ fn stage_number(s: Stage) -> u64
     }
 }
 
-pub fn writer_of(p: Pen) -> Writer
+pub(crate) fn writer_of(p: Pen) -> Writer
     ensures { λ r. ⌜ r ≡ writerOf p ⌝ }
 {
     let file = p.file;
@@ -267,7 +267,7 @@ pub fn writer_of(p: Pen) -> Writer
     }
 }
 
-pub fn pen(w: Writer) -> Pen
+pub(crate) fn pen(w: Writer) -> Pen
     ensures { λ r. ⌜ r ≡ penOf w ⌝ }
 {
     let stage = w.stage;

@@ -9,11 +9,38 @@ mod sessions;
 mod writers;
 
 use barcode::Issuer;
+pub use barcodes::hollytrot_barcode_build;
+pub use barcodes::hollytrot_barcode_check;
+pub use barcodes::hollytrot_barcode_decode;
+pub use barcodes::hollytrot_barcode_free_field;
+pub use barcodes::hollytrot_check_eleven;
+pub use barcodes::hollytrot_check_ten;
+pub use barcodes::hollytrot_date_check;
+pub use barcodes::hollytrot_date_read;
+pub use barcodes::hollytrot_line_check;
+pub use barcodes::hollytrot_line_decode;
+pub use barcodes::hollytrot_line_from_barcode;
+pub use barcodes::hollytrot_line_to_barcode;
 use calendar::Date;
 use file::File;
+pub use pages::hollytrot_page;
 use record::Header;
 use record::Trailer;
+pub use records::hollytrot_record_check;
+pub use records::hollytrot_record_decode;
+pub use records::hollytrot_record_field;
+pub use records::hollytrot_record_join;
 use session::Session;
+pub use sessions::hollytrot_session_abandon;
+pub use sessions::hollytrot_session_board;
+pub use sessions::hollytrot_session_finish;
+pub use sessions::hollytrot_session_new;
+pub use sessions::hollytrot_session_run;
+pub use sessions::hollytrot_session_take;
+pub use writers::hollytrot_writer_header;
+pub use writers::hollytrot_writer_new;
+pub use writers::hollytrot_writer_payment;
+pub use writers::hollytrot_writer_trailer;
 
 // 0 and 0 where it is accepted.
 #[repr(C)]

@@ -1,9 +1,7 @@
 -- `engine::barcodes::hollytrot_line_from_barcode` meets its contract. Assumes nothing.
-use mathlib.Core.Path.{ap, _∙_}
 use borrow.Author.Needs.{needs}
 use lib.ListN.{length}
-use Rattle.engine.specs.Forms.{saidOf}
-use Rattle.engine.proofs.Steps.{keeps}
+use Rattle.engine.proofs.Steps.{handed}
 use Rattle.engine.proofs.barcodes.hollytrot_line_from_barcode.Statement.{statement}
 use Rattle.engine.proofs.barcodes.hollytrot_line_from_barcode.Tie as tie
 
@@ -17,7 +15,7 @@ same-length : tie.Need-same-length
 same-length c = search needs
 
 returns : tie.Need-returns
-returns c = let e = c .before .before .before .from-barcode .ensures in (c .said .ensures ∙ ap saidOf (e .0), keeps _ _ (e .0) (e .1))
+returns c = let e = c .before .before .before .from-barcode .ensures in handed _ _ (c .said .ensures) (e .0) (e .1)
 
 pub hollytrot-line-from-barcode-spec : {M : Type 1} → statement M
 hollytrot-line-from-barcode-spec =

@@ -1,9 +1,7 @@
 -- `engine::records::hollytrot_record_join` meets its contract. Assumes nothing.
-use mathlib.Core.Path.{ap, _∙_}
 use borrow.Author.Needs.{needs}
 use lib.ListN.{length}
-use Rattle.engine.specs.Forms.{saidOf}
-use Rattle.engine.proofs.Steps.{keeps}
+use Rattle.engine.proofs.Steps.{handed}
 use Rattle.engine.proofs.records.hollytrot_record_join.Statement.{statement}
 use Rattle.engine.proofs.records.hollytrot_record_join.Tie as tie
 
@@ -17,7 +15,7 @@ same-length : tie.Need-same-length
 same-length c = search needs
 
 returns : tie.Need-returns
-returns c = let e = c .before .before .before .join .ensures in (c .said .ensures ∙ ap saidOf (e .0), keeps _ _ (e .0) (e .1))
+returns c = let e = c .before .before .before .join .ensures in handed _ _ (c .said .ensures) (e .0) (e .1)
 
 pub hollytrot-record-join-spec : {M : Type 1} → statement M
 hollytrot-record-join-spec = tie.close (tie.spec join-requires said-requires same-length returns)
