@@ -27,6 +27,34 @@ const ROWS: [usize; 30] = {
     rows
 };
 
+/// Requests whose reply starts with an answer.
+const ANSWERED: &[u8] = b"blrcutRehgzp";
+
+/// How many inputs were passed, and how often each number was answered.
+#[derive(Clone, Copy, Default)]
+pub struct Passed {
+    pub inputs: u64,
+    pub answers: [u64; 22],
+}
+
+impl Passed {
+    fn count(&mut self, batch: &Batch) {
+        for &(request, reply) in &batch.marks {
+            if ANSWERED.contains(&batch.requests[request]) {
+                // A number is below 22: its first byte is all of it.
+                self.answers[usize::from(batch.expected[reply])] += 1;
+            }
+        }
+    }
+
+    pub fn add(&mut self, more: &Passed) {
+        self.inputs += more.inputs;
+        for (all, more) in self.answers.iter_mut().zip(more.answers) {
+            *all += more;
+        }
+    }
+}
+
 /// A conversion of bytes into a lent buffer.
 #[derive(Clone, Copy)]
 pub enum Conversion {
@@ -43,7 +71,7 @@ pub struct Calls {
     writer: Writer,
     /// The engine's number of the writer's stage.
     stage: u64,
-    inputs: u64,
+    passed: Passed,
 }
 
 impl Default for Calls {
@@ -60,24 +88,29 @@ impl Calls {
             session: Session::new(),
             writer: Writer::new(),
             stage: 0,
-            inputs: 0,
+            passed: Passed::default(),
         }
     }
 
-    /// How many inputs were passed, or the first difference.
-    pub fn finish(mut self) -> Result<u64, String> {
-        self.engine.send(self.batch);
+    /// What was passed, or the first difference.
+    pub fn finish(mut self) -> Result<Passed, String> {
+        self.send();
         self.engine.finish()?;
-        Ok(self.inputs)
+        Ok(self.passed)
+    }
+
+    fn send(&mut self) {
+        let batch = std::mem::take(&mut self.batch);
+        self.passed.count(&batch);
+        self.engine.send(batch);
     }
 
     /// A request of this letter: its bytes go to the first, the reply that is expected to the second.
     fn call(&mut self, letter: u8) -> (&mut Vec<u8>, &mut Vec<u8>) {
         if self.batch.requests.len() + self.batch.expected.len() > FRAME {
-            let full = std::mem::take(&mut self.batch);
-            self.engine.send(full);
+            self.send();
         }
-        self.inputs += 1;
+        self.passed.inputs += 1;
         let batch = &mut self.batch;
         batch
             .marks
@@ -212,7 +245,7 @@ impl Calls {
     pub fn run(&mut self, bytes: &[u8]) -> Result<(), Refusal> {
         let run = self.session.take_many(bytes);
         let after = self.session.clone();
-        self.inputs += run.records;
+        self.passed.inputs += run.records;
         let (request, reply) = self.call(b'R');
         wire::number(request, bytes.len() as u64);
         request.extend_from_slice(bytes);

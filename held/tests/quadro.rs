@@ -72,7 +72,7 @@ fn around(redirection: &str) -> Command {
 /// A day of 0 to 70 issuers, as it is, damaged or in disorder; every tenth is longer than one buffer of quadro's.
 fn day(i: u64) -> Vec<u8> {
     let random = &mut Random::new(i);
-    let (files, most) = if i % 10 == 0 {
+    let (files, most) = if i.is_multiple_of(10) {
         (6, 400)
     } else {
         (random.index(5), random.index(30))

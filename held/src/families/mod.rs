@@ -15,7 +15,7 @@ pub struct Family {
     pub pass: fn(&mut Calls, &mut Random, u64),
 }
 
-pub const ALL: [Family; 13] = [
+pub const ALL: [Family; 14] = [
     Family {
         name: "typed lines, every change and exchange",
         pass: digits::changed_lines,
@@ -55,6 +55,10 @@ pub const ALL: [Family; 13] = [
     Family {
         name: "days, many records at once",
         pass: sessions::by_run,
+    },
+    Family {
+        name: "noise given to sessions",
+        pass: sessions::noise,
     },
     Family {
         name: "sessions put together by hand",

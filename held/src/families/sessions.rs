@@ -63,6 +63,25 @@ pub fn by_run(calls: &mut Calls, random: &mut Random, times: u64) {
     }
 }
 
+/// Noise of every length up to 200, some behind a letter, given to a fresh session and to one with a file open.
+pub fn noise(calls: &mut Calls, random: &mut Random, times: u64) {
+    for i in 0..20 * times {
+        calls.new_session();
+        if i % 2 == 1 {
+            let header = days::header(random).expect("a good header");
+            calls.take(&header).expect("a file to open");
+        }
+        for length in 0..=200 {
+            let mut bytes = super::noise(random, length);
+            if let (Some(first), true) = (bytes.first_mut(), random.once_in(2)) {
+                *first = random.one_of(b"AGZ");
+            }
+            let _ = calls.take(&bytes);
+            let _ = calls.run(&bytes);
+        }
+    }
+}
+
 fn issuer(random: &mut Random) -> Issuer {
     let number = random.below(4);
     Issuer {
