@@ -3,8 +3,8 @@
 
 use std::fs::File;
 use std::io::{self, Read, Seek, SeekFrom, Write};
-use std::net::{Ipv4Addr, Shutdown, TcpListener, TcpStream};
 use std::os::fd::OwnedFd;
+use std::os::unix::net::UnixStream;
 use std::os::unix::process::ExitStatusExt;
 use std::process::{Command, Output, Stdio};
 use std::thread;
@@ -160,17 +160,14 @@ fn a_read_error_behind_some_bytes() {
 /// A connection that breaks off behind records that were taken: closed with bytes unread, it is reset.
 #[test]
 fn a_read_error_behind_records() -> io::Result<()> {
-    let bytes = days::day(&mut Random::new(1), 40, 6, 400)
+    let bytes = days::day(&mut Random::new(1), 40, 12, 400)
         .expect("a good day")
         .bytes;
-    assert!(bytes.len() > 2 * 65_400);
-    let listener = TcpListener::bind((Ipv4Addr::LOCALHOST, 0))?;
-    let mut sender = TcpStream::connect(listener.local_addr()?)?;
-    let (mut receiver, _) = listener.accept()?;
+    assert!(bytes.len() > 3 * 65_400);
+    let (mut sender, mut receiver) = UnixStream::pair()?;
     receiver.write_all(b"unread")?;
     let child = quadro(OwnedFd::from(receiver)).spawn()?;
-    sender.write_all(&bytes[..bytes.len() / 2])?;
-    thread::sleep(Duration::from_millis(300));
+    sender.write_all(&bytes[..2 * 65_400])?;
     drop(sender);
     complains(&child.wait_with_output()?);
     Ok(())
@@ -180,11 +177,10 @@ fn a_read_error_behind_records() -> io::Result<()> {
 #[test]
 fn a_connection_in_place_of_a_file() -> io::Result<()> {
     let bytes = day(4);
-    let listener = TcpListener::bind((Ipv4Addr::LOCALHOST, 0))?;
-    let mut sender = TcpStream::connect(listener.local_addr()?)?;
-    let child = quadro(OwnedFd::from(listener.accept()?.0)).spawn()?;
+    let (mut sender, receiver) = UnixStream::pair()?;
+    let child = quadro(OwnedFd::from(receiver)).spawn()?;
     sender.write_all(&bytes)?;
-    sender.shutdown(Shutdown::Both)?;
+    drop(sender);
     prints(&child.wait_with_output()?, &page_of(&bytes));
     Ok(())
 }
