@@ -14,6 +14,7 @@ use Rattle.answer.specs.declared.Answer.{Answer}
 use Rattle.answer.specs.declared.Answer.the-variants.{Accepted, Refused}
 use Rattle.answer.specs.Refusals.{numberOf}
 use Rattle.answer.specs.Orders.{kept}
+use Rattle.answer.proofs.Orders.{refusal-keeps}
 use Rattle.barcode.specs.Codes.{digitAt, issuerEnd, barcodeAnswer, freeOf, shownFree}
 use Rattle.barcode.proofs.Codes.{accepted-length}
 use Rattle.layout.specs.declared.Named.{Named}
@@ -24,8 +25,8 @@ use Rattle.record.specs.Values.{fieldIn, shownField}
 use Rattle.writer.specs.declared.Stage.{Stage}
 use Rattle.writer.specs.declared.Stage.the-variants as stage
 use Rattle.engine.specs.Forms as forms
-use Rattle.engine.specs.Forms.{bytesIn, reasons, answerFrom, stageOf, stageNumber, freePart, fieldPart}
-use Rattle.engine.specs.Exports.{AnswerComesBack, WriterComesBack, FreePartIsShown, FieldPartIsShown}
+use Rattle.engine.specs.Forms.{bytesIn, reasons, answerFrom, stageOf, stageNumber, penOf, freePart, fieldPart}
+use Rattle.engine.specs.Exports.{AnswerComesBack, WriterComesBack, RefusalKeepsPen, FreePartIsShown, FieldPartIsShown}
 
 -- Answers and writers.
 
@@ -65,6 +66,9 @@ stage-back stage.Closed = refl
 
 pub writer-comes-back : WriterComesBack
 writer-comes-back w = rw (stage-back (w .stage))
+
+pub refusal-keeps-pen : RefusalKeepsPen
+refusal-keeps-pen p w h = refusal-keeps (w .answer) (penOf (w .writer)) p h
 
 -- Parts. What stands from an index on, as far as it is long, is there; the empty part is at every index.
 

@@ -6,15 +6,18 @@ use lib.Dec.{leb}
 use lib.ListN.{length}
 use Rattle.answer.specs.declared.Reason.the-variants.{TooWide}
 use Rattle.answer.specs.declared.Answer.{Answer}
+use Rattle.answer.specs.declared.Answer.the-variants.{Accepted}
 use Rattle.answer.specs.Orders.{asked, _then_, kept}
 use Rattle.barcode.specs.Codes.{shownFree}
 use Rattle.board.specs.declared.Board.{Board}
 use Rattle.paper.specs.Pages.{bufferAnswer, bytesWith, pageOf}
 use Rattle.record.specs.Values.{shownField}
 use Rattle.writer.specs.declared.Writer.{Writer}
+use Rattle.writer.specs.declared.Wrote as writer
 use Rattle.engine.specs.declared.Said.{Said}
+use Rattle.engine.specs.declared.Pen.{Pen}
 use Rattle.engine.specs.declared.Page.{Page}
-use Rattle.engine.specs.Forms.{saidOf, answerFrom, bytesIn, freePart, fieldPart, writerOf, penOf}
+use Rattle.engine.specs.Forms.{saidOf, answerFrom, bytesIn, freePart, fieldPart, writerOf, penOf, wroteOf}
 
 -- a page: 21 for a number that no answer has, then 1 for the buffer
 abbrev pub pageAnswer : Said → List ℕ → Answer
@@ -38,6 +41,10 @@ AnswerComesBack = (a : Answer) → answerFrom (saidOf a) ≡ a
 -- a writer comes back from its form
 abbrev pub WriterComesBack : Type 0
 WriterComesBack = (w : Writer) → writerOf (penOf w) ≡ w
+
+-- a refusal hands back the very writer that was given, whatever the number of its stage
+abbrev pub RefusalKeepsPen : Type 0
+RefusalKeepsPen = (p : Pen) (w : writer.Wrote) → (w .answer ≡ Accepted → ⊥) → wroteOf p w .writer ≡ p
 
 -- the parts are the very bytes that the rooms show
 abbrev pub FreePartIsShown : Type 0
