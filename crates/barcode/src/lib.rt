@@ -14,6 +14,7 @@ use decimal::Class;
 use modulus::Modulus;
 
 // An issuer is the segment together with its number.
+#[repr(C)]
 pub struct Issuer {
     pub segment: u64,
     pub number: u64,

@@ -10,18 +10,21 @@ use answer::Reason;
 use barcode::Issuer;
 
 // What a lane adds up; each number is one of a lane, of a payment and of the totals.
+#[repr(C)]
 pub struct Tally {
     pub payments: u64,
     pub centavos: u64,
 }
 
 // A payment is a lane of one.
+#[repr(C)]
 pub struct Lane {
     pub issuer: Issuer,
     pub tally: Tally,
 }
 
 // The lanes in use stand first; the total is their sum.
+#[repr(C)]
 pub struct Board {
     pub lanes: [Lane; Board::LANES],
     pub used: usize,

@@ -3,6 +3,7 @@ ghost use mathlib.Core.Path.{_≡_};
 ghost use Rattle.calendar.specs.Dates.{isLeap, daysIn, isDate, dateOf};
 use decimal::Class;
 
+#[repr(C)]
 pub struct Date {
     pub year: u64,
     pub month: u64,

@@ -5,6 +5,7 @@ use answer::Answer;
 use answer::Reason;
 
 // The payments taken, and the centavos they received.
+#[repr(C)]
 pub struct File {
     pub taken: u64,
     pub total: u64,

@@ -97,4 +97,39 @@ one-outcome =
           two w _ _ _ _ _ (λ p p′. (same (p .0) (p′ .0), ap (λ bytes. (tt, (bytes, tt))) (cc (p .0, p .1, p′ .0, p′ .1))));
       paper·print = λ w κs given g r r′ left left′.
           bounded w _ _ _ _ _ _ _ (λ p p′. (same (p .0) (p′ .0), ap (λ bytes. (tt, (tt, (tt, (tt, (bytes, tt)))))) (same (p .1) (p′ .1))));
+      engine·hollytrot_barcode_check = λ w κs given g r r′ left left′. value w _ _ _ _ _ left;
+      engine·hollytrot_barcode_decode = λ w κs given g r r′ left left′. value w _ _ _ _ _ left;
+      engine·hollytrot_barcode_free_field = λ w κs given g r r′ left left′. value w _ _ _ _ _ left;
+      engine·hollytrot_barcode_build = λ w κs given g r r′ left left′.
+          two w _ _ _ _ _ (λ p p′. (same (p .0) (p′ .0), ap (λ bytes. (tt, (tt, (tt, (tt, (bytes, tt)))))) (same (p .1) (p′ .1))));
+      engine·hollytrot_line_check = λ w κs given g r r′ left left′. value w _ _ _ _ _ left;
+      engine·hollytrot_line_decode = λ w κs given g r r′ left left′. value w _ _ _ _ _ left;
+      engine·hollytrot_line_to_barcode = λ w κs given g r r′ left left′.
+          two w _ _ _ _ _ (λ p p′. (same (p .0) (p′ .0), ap (λ bytes. (tt, (bytes, tt))) (same (p .1) (p′ .1))));
+      engine·hollytrot_line_from_barcode = λ w κs given g r r′ left left′.
+          two w _ _ _ _ _ (λ p p′. (same (p .0) (p′ .0), ap (λ bytes. (tt, (bytes, tt))) (same (p .1) (p′ .1))));
+      engine·hollytrot_date_read = λ w κs given g r r′ left left′. value w _ _ _ _ _ left;
+      engine·hollytrot_date_check = λ w κs given g r r′ left left′. value w _ _ _ _ _ left;
+      engine·hollytrot_check_ten = λ w κs given g r r′ left left′. value w _ _ _ _ _ left;
+      engine·hollytrot_check_eleven = λ w κs given g r r′ left left′. value w _ _ _ _ _ left;
+      engine·hollytrot_page = λ w κs given g r r′ left left′.
+          two w _ _ _ _ _ (λ p p′. (same (p .0) (p′ .0), ap (λ bytes. (tt, (tt, (tt, (tt, (bytes, tt)))))) (same (p .1) (p′ .1))));
+      «engine·hollytrot_record_check» = λ w κs given g r r′ left left′. value w _ _ _ _ _ left;
+      «engine·hollytrot_record_decode» = λ w κs given g r r′ left left′. value w _ _ _ _ _ left;
+      «engine·hollytrot_record_field» = λ w κs given g r r′ left left′. value w _ _ _ _ _ left;
+      «engine·hollytrot_record_join» = λ w κs given g r r′ left left′.
+          two w _ _ _ _ _ (λ p p′. (same (p .0) (p′ .0), ap (λ bytes. (tt, (bytes, tt))) (same (p .1) (p′ .1))));
+      engine·hollytrot_session_new = λ w κs given g r r′ left left′. value w _ _ _ _ _ left;
+      engine·hollytrot_session_take = λ w κs given g r r′ left left′. value w _ _ _ _ _ left;
+      engine·hollytrot_session_run = λ w κs given g r r′ left left′. value w _ _ _ _ _ left;
+      engine·hollytrot_session_abandon = λ w κs given g r r′ left left′. value w _ _ _ _ _ left;
+      engine·hollytrot_session_finish = λ w κs given g r r′ left left′. value w _ _ _ _ _ left;
+      engine·hollytrot_session_board = λ w κs given g r r′ left left′. value w _ _ _ _ _ left;
+      engine·hollytrot_writer_new = λ w κs given g r r′ left left′. value w _ _ _ _ _ left;
+      engine·hollytrot_writer_header = λ w κs given g r r′ left left′.
+          two w _ _ _ _ _ (λ p p′. (same (p .0) (p′ .0), ap (λ bytes. (tt, (tt, (bytes, tt)))) (same (p .1) (p′ .1))));
+      engine·hollytrot_writer_payment = λ w κs given g r r′ left left′.
+          two w _ _ _ _ _ (λ p p′. (same (p .0) (p′ .0), ap (λ bytes. (tt, (tt, (tt, (tt, (bytes, tt)))))) (same (p .1) (p′ .1))));
+      engine·hollytrot_writer_trailer = λ w κs given g r r′ left left′.
+          two w _ _ _ _ _ (λ p p′. (same (p .0) (p′ .0), ap (λ bytes. (tt, (bytes, tt))) (same (p .1) (p′ .1))));
     }

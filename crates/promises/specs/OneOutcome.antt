@@ -74,6 +74,33 @@ use Rattle.writer.proofs.Writer.header as writer·Writer·header
 use Rattle.writer.proofs.Writer.payment as writer·Writer·payment
 use Rattle.writer.proofs.Writer.trailer as writer·Writer·trailer
 use Rattle.paper.proofs.print as paper·print
+use Rattle.engine.proofs.hollytrot_barcode_check as engine·hollytrot_barcode_check
+use Rattle.engine.proofs.hollytrot_barcode_decode as engine·hollytrot_barcode_decode
+use Rattle.engine.proofs.hollytrot_barcode_free_field as engine·hollytrot_barcode_free_field
+use Rattle.engine.proofs.hollytrot_barcode_build as engine·hollytrot_barcode_build
+use Rattle.engine.proofs.hollytrot_line_check as engine·hollytrot_line_check
+use Rattle.engine.proofs.hollytrot_line_decode as engine·hollytrot_line_decode
+use Rattle.engine.proofs.hollytrot_line_to_barcode as engine·hollytrot_line_to_barcode
+use Rattle.engine.proofs.hollytrot_line_from_barcode as engine·hollytrot_line_from_barcode
+use Rattle.engine.proofs.hollytrot_date_read as engine·hollytrot_date_read
+use Rattle.engine.proofs.hollytrot_date_check as engine·hollytrot_date_check
+use Rattle.engine.proofs.hollytrot_check_ten as engine·hollytrot_check_ten
+use Rattle.engine.proofs.hollytrot_check_eleven as engine·hollytrot_check_eleven
+use Rattle.engine.proofs.hollytrot_page as engine·hollytrot_page
+use Rattle.engine.proofs.hollytrot_record_check as «engine·hollytrot_record_check»
+use Rattle.engine.proofs.hollytrot_record_decode as «engine·hollytrot_record_decode»
+use Rattle.engine.proofs.hollytrot_record_field as «engine·hollytrot_record_field»
+use Rattle.engine.proofs.hollytrot_record_join as «engine·hollytrot_record_join»
+use Rattle.engine.proofs.hollytrot_session_new as engine·hollytrot_session_new
+use Rattle.engine.proofs.hollytrot_session_take as engine·hollytrot_session_take
+use Rattle.engine.proofs.hollytrot_session_run as engine·hollytrot_session_run
+use Rattle.engine.proofs.hollytrot_session_abandon as engine·hollytrot_session_abandon
+use Rattle.engine.proofs.hollytrot_session_finish as engine·hollytrot_session_finish
+use Rattle.engine.proofs.hollytrot_session_board as engine·hollytrot_session_board
+use Rattle.engine.proofs.hollytrot_writer_new as engine·hollytrot_writer_new
+use Rattle.engine.proofs.hollytrot_writer_header as engine·hollytrot_writer_header
+use Rattle.engine.proofs.hollytrot_writer_payment as engine·hollytrot_writer_payment
+use Rattle.engine.proofs.hollytrot_writer_trailer as engine·hollytrot_writer_trailer
 use Rattle.promises.specs.Allowed.{Contract, Lent, Given, Result, Ghost, allowed}
 
 module _ (T : Ended) (contract : Contract T) where
@@ -157,3 +184,30 @@ pub record OneOutcome : Type 2 where
   pub writer·Writer·payment : One writer·Writer·payment.ended (λ M. writer·Writer·payment.clauses)
   pub writer·Writer·trailer : One writer·Writer·trailer.ended (λ M. writer·Writer·trailer.clauses)
   pub paper·print : One paper·print.ended (λ M. paper·print.clauses)
+  pub engine·hollytrot_barcode_check : One engine·hollytrot_barcode_check.ended (λ M. engine·hollytrot_barcode_check.clauses)
+  pub engine·hollytrot_barcode_decode : One engine·hollytrot_barcode_decode.ended (λ M. engine·hollytrot_barcode_decode.clauses)
+  pub engine·hollytrot_barcode_free_field : One engine·hollytrot_barcode_free_field.ended (λ M. engine·hollytrot_barcode_free_field.clauses)
+  pub engine·hollytrot_barcode_build : One engine·hollytrot_barcode_build.ended (λ M. engine·hollytrot_barcode_build.clauses)
+  pub engine·hollytrot_line_check : One engine·hollytrot_line_check.ended (λ M. engine·hollytrot_line_check.clauses)
+  pub engine·hollytrot_line_decode : One engine·hollytrot_line_decode.ended (λ M. engine·hollytrot_line_decode.clauses)
+  pub engine·hollytrot_line_to_barcode : One engine·hollytrot_line_to_barcode.ended (λ M. engine·hollytrot_line_to_barcode.clauses)
+  pub engine·hollytrot_line_from_barcode : One engine·hollytrot_line_from_barcode.ended (λ M. engine·hollytrot_line_from_barcode.clauses)
+  pub engine·hollytrot_date_read : One engine·hollytrot_date_read.ended (λ M. engine·hollytrot_date_read.clauses)
+  pub engine·hollytrot_date_check : One engine·hollytrot_date_check.ended (λ M. engine·hollytrot_date_check.clauses)
+  pub engine·hollytrot_check_ten : One engine·hollytrot_check_ten.ended (λ M. engine·hollytrot_check_ten.clauses)
+  pub engine·hollytrot_check_eleven : One engine·hollytrot_check_eleven.ended (λ M. engine·hollytrot_check_eleven.clauses)
+  pub engine·hollytrot_page : One engine·hollytrot_page.ended (λ M. engine·hollytrot_page.clauses)
+  pub «engine·hollytrot_record_check» : One «engine·hollytrot_record_check».ended (λ M. «engine·hollytrot_record_check».clauses)
+  pub «engine·hollytrot_record_decode» : One «engine·hollytrot_record_decode».ended (λ M. «engine·hollytrot_record_decode».clauses)
+  pub «engine·hollytrot_record_field» : One «engine·hollytrot_record_field».ended (λ M. «engine·hollytrot_record_field».clauses)
+  pub «engine·hollytrot_record_join» : One «engine·hollytrot_record_join».ended (λ M. «engine·hollytrot_record_join».clauses)
+  pub engine·hollytrot_session_new : One engine·hollytrot_session_new.ended (λ M. engine·hollytrot_session_new.clauses)
+  pub engine·hollytrot_session_take : One engine·hollytrot_session_take.ended (λ M. engine·hollytrot_session_take.clauses)
+  pub engine·hollytrot_session_run : One engine·hollytrot_session_run.ended (λ M. engine·hollytrot_session_run.clauses)
+  pub engine·hollytrot_session_abandon : One engine·hollytrot_session_abandon.ended (λ M. engine·hollytrot_session_abandon.clauses)
+  pub engine·hollytrot_session_finish : One engine·hollytrot_session_finish.ended (λ M. engine·hollytrot_session_finish.clauses)
+  pub engine·hollytrot_session_board : One engine·hollytrot_session_board.ended (λ M. engine·hollytrot_session_board.clauses)
+  pub engine·hollytrot_writer_new : One engine·hollytrot_writer_new.ended (λ M. engine·hollytrot_writer_new.clauses)
+  pub engine·hollytrot_writer_header : One engine·hollytrot_writer_header.ended (λ M. engine·hollytrot_writer_header.clauses)
+  pub engine·hollytrot_writer_payment : One engine·hollytrot_writer_payment.ended (λ M. engine·hollytrot_writer_payment.clauses)
+  pub engine·hollytrot_writer_trailer : One engine·hollytrot_writer_trailer.ended (λ M. engine·hollytrot_writer_trailer.clauses)

@@ -17,6 +17,7 @@ pub use values::field;
 pub use values::paid;
 pub use walk::check;
 
+#[repr(C)]
 pub struct Header {
     pub bank: u64,
     pub date: Date,
@@ -34,6 +35,7 @@ pub struct Payment {
 }
 
 // The count of all records, header and trailer included, and the centavos received.
+#[repr(C)]
 pub struct Trailer {
     pub count: u64,
     pub total: u64,

@@ -19,6 +19,7 @@ use layout::Record;
 use record::Decoded;
 
 // The board shown, of accepted files only; the working board and the file with what the open file adds.
+#[repr(C)]
 pub struct Session {
     pub shown: Board,
     pub work: Board,

@@ -1,0 +1,22 @@
+-- `engine::barcodes::hollytrot_line_from_barcode` meets its contract. Assumes nothing.
+use borrow.Author.Needs.{needs}
+use lib.ListN.{length}
+use Rattle.engine.proofs.Steps.{handed}
+use Rattle.engine.proofs.barcodes.hollytrot_line_from_barcode.Statement.{statement}
+use Rattle.engine.proofs.barcodes.hollytrot_line_from_barcode.Tie as tie
+
+from-barcode-requires : tie.Need-from-barcode-requires
+from-barcode-requires c κs = search needs
+
+said-requires : tie.Need-said-requires
+said-requires c κs = search needs
+
+same-length : tie.Need-same-length
+same-length c = search needs
+
+returns : tie.Need-returns
+returns c = let e = c .before .before .before .from-barcode .ensures in handed _ _ (c .said .ensures) (e .0) (e .1)
+
+pub hollytrot-line-from-barcode-spec : {M : Type 1} → statement M
+hollytrot-line-from-barcode-spec =
+    tie.close (tie.spec from-barcode-requires said-requires same-length returns)

@@ -1,0 +1,22 @@
+-- `engine::barcodes::hollytrot_line_to_barcode` meets its contract. Assumes nothing.
+use borrow.Author.Needs.{needs}
+use lib.ListN.{length}
+use Rattle.engine.proofs.Steps.{handed}
+use Rattle.engine.proofs.barcodes.hollytrot_line_to_barcode.Statement.{statement}
+use Rattle.engine.proofs.barcodes.hollytrot_line_to_barcode.Tie as tie
+
+to-barcode-requires : tie.Need-to-barcode-requires
+to-barcode-requires c κs = search needs
+
+said-requires : tie.Need-said-requires
+said-requires c κs = search needs
+
+same-length : tie.Need-same-length
+same-length c = search needs
+
+returns : tie.Need-returns
+returns c = let e = c .before .before .before .to-barcode .ensures in handed _ _ (c .said .ensures) (e .0) (e .1)
+
+pub hollytrot-line-to-barcode-spec : {M : Type 1} → statement M
+hollytrot-line-to-barcode-spec =
+    tie.close (tie.spec to-barcode-requires said-requires same-length returns)

@@ -1,0 +1,13 @@
+-- `engine::forms::no_slip` meets its contract. Assumes nothing.
+use borrow.Author.Needs.{needs}
+use Rattle.engine.proofs.forms.no_slip.Statement.{statement}
+use Rattle.engine.proofs.forms.no_slip.Tie as tie
+
+no-date-requires : tie.Need-no-date-requires
+no-date-requires c κs = search needs
+
+returns : tie.Need-returns
+returns c = rw (c .no-date .ensures)
+
+pub no-slip-spec : {M : Type 1} → statement M
+no-slip-spec = tie.close (tie.spec no-date-requires returns)

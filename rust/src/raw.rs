@@ -1,0 +1,245 @@
+//! The declarations of include/hollytrot.h. Sizes and offsets are asserted here, and held/abi.c holds the same ones to
+//! the library.
+
+use std::mem::{offset_of, size_of};
+
+#[repr(C)]
+#[derive(Clone, Copy)]
+pub struct Answer {
+    pub number: u64,
+    pub place: usize,
+}
+
+#[repr(C)]
+#[derive(Clone, Copy)]
+pub struct Part {
+    pub from: usize,
+    pub length: usize,
+}
+
+#[repr(C)]
+#[derive(Clone, Copy)]
+pub struct Date {
+    pub year: u64,
+    pub month: u64,
+    pub day: u64,
+}
+
+#[repr(C)]
+#[derive(Clone, Copy)]
+pub struct Fields {
+    pub kind: u64,
+    pub value: u64,
+    pub issuer: crate::Issuer,
+    pub due: Date,
+}
+
+#[repr(C)]
+#[derive(Clone, Copy)]
+pub struct Read {
+    pub answer: Answer,
+    pub fields: Fields,
+}
+
+#[repr(C)]
+#[derive(Clone, Copy)]
+pub struct Header {
+    pub bank: u64,
+    pub date: Date,
+    pub sequence: u64,
+}
+
+#[repr(C)]
+#[derive(Clone, Copy)]
+pub struct Payment {
+    pub paid: Date,
+    pub credited: Date,
+    pub barcode: Fields,
+    pub received: u64,
+    pub tariff: u64,
+    pub number: u64,
+}
+
+#[repr(C)]
+#[derive(Clone, Copy)]
+pub struct Trailer {
+    pub count: u64,
+    pub total: u64,
+}
+
+#[repr(C)]
+#[derive(Clone, Copy)]
+pub struct Record {
+    pub answer: Answer,
+    pub letter: u64,
+    pub header: Header,
+    pub payment: Payment,
+    pub trailer: Trailer,
+}
+
+#[repr(C)]
+#[derive(Clone, Copy, Debug, PartialEq, Eq)]
+pub struct File {
+    pub taken: u64,
+    pub total: u64,
+}
+
+#[repr(C)]
+#[derive(Clone, Copy, Debug, PartialEq, Eq)]
+pub struct Writer {
+    pub stage: u64,
+    pub file: File,
+}
+
+#[repr(C)]
+#[derive(Clone, Copy)]
+pub struct Wrote {
+    pub answer: Answer,
+    pub writer: Writer,
+}
+
+#[repr(C)]
+#[derive(Clone, Copy, Debug, PartialEq, Eq)]
+pub struct Session {
+    pub shown: crate::Board,
+    pub work: crate::Board,
+    pub opened: bool,
+    pub file: File,
+}
+
+#[repr(C)]
+#[derive(Clone, Copy)]
+pub struct Took {
+    pub answer: Answer,
+    pub session: Session,
+}
+
+#[repr(C)]
+#[derive(Clone, Copy)]
+pub struct Ran {
+    pub answer: Answer,
+    pub session: Session,
+    pub records: u64,
+    pub files: u64,
+}
+
+#[repr(C)]
+#[derive(Clone, Copy)]
+pub struct Printed {
+    pub answer: Answer,
+    pub length: usize,
+}
+
+const _: () = {
+    use crate::{Board, Issuer, Lane, Tally};
+    assert!(size_of::<Answer>() == 16 && offset_of!(Answer, place) == 8);
+    assert!(size_of::<Part>() == 16 && offset_of!(Part, length) == 8);
+    assert!(size_of::<Date>() == 24 && offset_of!(Date, month) == 8 && offset_of!(Date, day) == 16);
+    assert!(size_of::<Issuer>() == 16 && offset_of!(Issuer, number) == 8);
+    assert!(
+        size_of::<Fields>() == 56
+            && offset_of!(Fields, issuer) == 16
+            && offset_of!(Fields, due) == 32
+    );
+    assert!(size_of::<Read>() == 72 && offset_of!(Read, fields) == 16);
+    assert!(
+        size_of::<Header>() == 40
+            && offset_of!(Header, date) == 8
+            && offset_of!(Header, sequence) == 32
+    );
+    assert!(size_of::<Payment>() == 128 && offset_of!(Payment, barcode) == 48);
+    assert!(offset_of!(Payment, received) == 104 && offset_of!(Payment, number) == 120);
+    assert!(size_of::<Trailer>() == 16 && offset_of!(Trailer, total) == 8);
+    assert!(
+        size_of::<Record>() == 208
+            && offset_of!(Record, letter) == 16
+            && offset_of!(Record, header) == 24
+    );
+    assert!(offset_of!(Record, payment) == 64 && offset_of!(Record, trailer) == 192);
+    assert!(size_of::<Writer>() == 24 && offset_of!(Writer, file) == 8);
+    assert!(size_of::<Wrote>() == 40 && offset_of!(Wrote, writer) == 16);
+    assert!(size_of::<Tally>() == 16 && size_of::<Lane>() == 32);
+    assert!(size_of::<Board>() == 2072);
+    assert!(size_of::<Session>() == 4168 && offset_of!(Session, work) == 2072);
+    assert!(offset_of!(Session, opened) == 4144 && offset_of!(Session, file) == 4152);
+    assert!(size_of::<Took>() == 4184 && offset_of!(Took, session) == 16);
+    assert!(
+        size_of::<Ran>() == 4200
+            && offset_of!(Ran, records) == 4184
+            && offset_of!(Ran, files) == 4192
+    );
+    assert!(size_of::<Printed>() == 24 && offset_of!(Printed, length) == 16);
+};
+
+extern "C" {
+    pub fn hollytrot_barcode_check(bytes: *const u8, length: usize) -> Answer;
+    pub fn hollytrot_barcode_decode(bytes: *const u8, length: usize) -> Read;
+    pub fn hollytrot_barcode_free_field(bytes: *const u8, length: usize) -> Part;
+    pub fn hollytrot_barcode_build(
+        issuer: crate::Issuer,
+        kind: u64,
+        value: u64,
+        free_field: *const u8,
+        free_length: usize,
+        out: *mut u8,
+        out_length: usize,
+    ) -> Answer;
+    pub fn hollytrot_line_check(bytes: *const u8, length: usize) -> Answer;
+    pub fn hollytrot_line_decode(bytes: *const u8, length: usize) -> Read;
+    pub fn hollytrot_line_to_barcode(
+        bytes: *const u8,
+        length: usize,
+        out: *mut u8,
+        out_length: usize,
+    ) -> Answer;
+    pub fn hollytrot_line_from_barcode(
+        bytes: *const u8,
+        length: usize,
+        out: *mut u8,
+        out_length: usize,
+    ) -> Answer;
+    pub fn hollytrot_date_read(bytes: *const u8, length: usize) -> Date;
+    pub fn hollytrot_date_check(date: Date) -> bool;
+    pub fn hollytrot_check_ten(bytes: *const u8, length: usize) -> u64;
+    pub fn hollytrot_check_eleven(bytes: *const u8, length: usize) -> u64;
+    pub fn hollytrot_record_check(bytes: *const u8, length: usize) -> Answer;
+    pub fn hollytrot_record_decode(bytes: *const u8, length: usize) -> Record;
+    pub fn hollytrot_record_field(bytes: *const u8, length: usize, row: usize) -> Part;
+    pub fn hollytrot_record_join(
+        bytes: *const u8,
+        length: usize,
+        out: *mut u8,
+        out_length: usize,
+    ) -> Answer;
+    pub fn hollytrot_writer_new() -> Writer;
+    pub fn hollytrot_writer_header(
+        writer: Writer,
+        fields: *const u8,
+        fields_length: usize,
+        out: *mut u8,
+        out_length: usize,
+    ) -> Wrote;
+    pub fn hollytrot_writer_payment(
+        writer: Writer,
+        fields: *const u8,
+        fields_length: usize,
+        received: u64,
+        tariff: u64,
+        out: *mut u8,
+        out_length: usize,
+    ) -> Wrote;
+    pub fn hollytrot_writer_trailer(writer: Writer, out: *mut u8, out_length: usize) -> Wrote;
+    pub fn hollytrot_session_new() -> Session;
+    pub fn hollytrot_session_take(session: Session, bytes: *const u8, length: usize) -> Took;
+    pub fn hollytrot_session_run(session: Session, bytes: *const u8, length: usize) -> Ran;
+    pub fn hollytrot_session_abandon(session: Session) -> Session;
+    pub fn hollytrot_session_finish(session: Session) -> Took;
+    pub fn hollytrot_page(
+        answer: Answer,
+        records: u64,
+        files: u64,
+        board: crate::Board,
+        out: *mut u8,
+        out_length: usize,
+    ) -> Printed;
+}
