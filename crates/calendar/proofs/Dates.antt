@@ -1,20 +1,21 @@
 -- Laws of dates and of the bytes that spell them. Assumes nothing.
-use Prim.Native.Nat.{ℕ, _+_, _^_, _≤_, _<_}
+use Prim.Native.Nat.{ℕ, suc, _+_, _-_, _*_, _^_, _≤_, _<_}
 use mathlib.Core.Bool.{Bool, true, false, cond, _&&_, and-eq-true-iff}
-use mathlib.Core.List.{List, _++_}
+use mathlib.Core.List.{List, [], _∷_, _++_}
 use mathlib.Core.Path.{_≡_, refl, sym, _∙_}
+use native.Mathlib.Numerals.{add-one}
 use native.Mathlib.Omega.{arith}
 use borrow.Author.Tests.{eq-eqb, ne-eqb, le-leb, eqb-true, leb-true, leb-false}
 use lib.Dec.{eqb, leb}
 use lib.ListN.{length, getD, take, drop, length-append, length-drop, take-append-drop}
-use lib.Seq.{length-take-le, take-all, take-at, drop-at, drop-drop}
+use lib.Seq.{length-take-le, take-all, take-at, drop-at, drop-drop, drop-cons}
 use Rattle.decimal.specs.declared.Class.the-variants.{Digit}
 use Rattle.decimal.specs.Bytes.{within, isOf, all}
 use Rattle.decimal.specs.Places.{places}
-use Rattle.decimal.specs.Numbers.{numberOf, heldOf, digitsOf}
-use Rattle.decimal.proofs.Bytes.{all-joins, all-of-part}
+use Rattle.decimal.specs.Numbers.{valueOf, numberOf, digitsOf}
+use Rattle.decimal.proofs.Bytes.{all-joins, all-of-part, all-at}
 use Rattle.decimal.proofs.Finite.{below, at}
-use Rattle.decimal.proofs.Numbers.{nineteen-are-held, number-of-digits, digits-of-number, digits-fill}
+use Rattle.decimal.proofs.Numbers.{digit-range, value-digit, number-of-digits, digits-of-number, digits-fill}
 use Rattle.calendar.specs.declared.Date.{Date}
 use Rattle.calendar.specs.declared.Dated.the-variants.{On, NoDate}
 use Rattle.calendar.specs.Dates.{isLeap, months, daysIn, isDate, spelled, dateOf, spelling, DateIsItsSpelling, SpellingIsItsDate}
@@ -24,6 +25,24 @@ use Rattle.calendar.proofs.Months.{no-month}
 pub by-days : (d : Date) {n : ℕ} → 1900 ≤ d .year → d .year ≤ 2199 → 1 ≤ d .day → n ≡ daysIn (d .year) (d .month) → leb (d .day) n ≡ isDate d
 unfolding isDate
 by-days d lo hi one e = rw (e, le-leb 1900 (d .year) lo, le-leb (d .year) 2199 hi, le-leb 1 (d .day) one)
+
+-- digits of a list, and the numbers that they stand for
+pub digit-at : (bs : List ℕ) (i : ℕ) → all (isOf Digit) bs ≡ true → i < length bs
+    → (48 ≤ getD bs i 0) × (getD bs i 0 ≤ 57) × (valueOf (getD bs i 0) ≡ getD bs i 0 - 48)
+digit-at bs i a h =
+    let t = all-at (isOf Digit) bs i a h in
+    let range = digit-range (getD bs i 0) t in
+    (range .0, range .1, value-digit (getD bs i 0) t)
+
+pub two : (bs : List ℕ) (at : ℕ) → at + 2 ≤ length bs → numberOf (take 2 (drop at bs)) ≡ valueOf (getD bs at 0) * 10 + valueOf (getD bs (at + 1) 0)
+two bs at h = rw (drop-cons bs at 0 (omega arith), drop-cons bs (suc at) 0 (omega arith), add-one) (omega arith)
+
+four : (bs : List ℕ) → 4 ≤ length bs → 100 * numberOf (take 2 bs) + numberOf (take 2 (drop 2 bs)) ≡ numberOf (take 4 bs)
+four (a ∷ b ∷ c ∷ d ∷ bs) h = omega arith
+four (a ∷ b ∷ c ∷ []) h = absurd (omega arith)
+four (a ∷ b ∷ []) h = absurd (omega arith)
+four (a ∷ []) h = absurd (omega arith)
+four [] h = absurd (omega arith)
 
 -- The answers of a reader of dates, in its order.
 module _ (bs : List ℕ) where
@@ -35,15 +54,9 @@ module _ (bs : List ℕ) where
   unfolding dateOf
   no-digits n a = rw (eq-eqb (length bs) 8 n, a)
 
-  part-read : {r : ℕ} (from count : ℕ) → count ≤ 19 → from + count ≤ length bs → r ≡ heldOf (numberOf (take count (drop from bs)))
-      → r ≡ numberOf (take count (drop from bs))
-  part-read from count small fits e =
-      e ∙ nineteen-are-held (take count (drop from bs)) (omega (arith, length-take-le count (drop from bs) (omega (arith, length-drop from bs))))
-
-  pub as-spelled : {y m d : ℕ} → length bs ≡ 8 → y ≡ heldOf (numberOf (places 1 4 bs)) → m ≡ heldOf (numberOf (places 5 6 bs))
-      → d ≡ heldOf (numberOf (places 7 8 bs)) → _≡_ {A = Date} (record { year = y; month = m; day = d }) (spelled bs)
-  as-spelled n ey em ed =
-      rw (part-read 0 4 (omega arith) (omega arith) ey, part-read 4 2 (omega arith) (omega arith) em, part-read 6 2 (omega arith) (omega arith) ed)
+  pub as-spelled : {c y m d : ℕ} → length bs ≡ 8 → c ≡ numberOf (take 2 bs) → y ≡ numberOf (places 3 4 bs) → m ≡ numberOf (places 5 6 bs)
+      → d ≡ numberOf (places 7 8 bs) → _≡_ {A = Date} (record { year = 100 * c + y; month = m; day = d }) (spelled bs)
+  as-spelled n ec ey em ed = rw (ec, ey, em, ed, four bs (omega arith))
 
   pub judged : {d : Date} {t : Bool} → length bs ≡ 8 → all (isOf Digit) bs ≡ true → d ≡ spelled bs → t ≡ isDate d → cond t (On d) NoDate ≡ dateOf bs
   unfolding dateOf

@@ -1,5 +1,10 @@
 // Gregorian dates as eight digit bytes, YYYYMMDD.
+ghost use mathlib.Core.Bool.{true};
 ghost use mathlib.Core.Path.{_≡_};
+ghost use Prim.Native.Nat.{_+_, _≤_};
+ghost use lib.ListN.{length, take, drop};
+ghost use Rattle.decimal.specs.Bytes.{isOf, all};
+ghost use Rattle.decimal.specs.Numbers.{numberOf};
 ghost use Rattle.calendar.specs.Dates.{isLeap, daysIn, isDate, dateOf};
 use decimal::Class;
 
@@ -61,6 +66,15 @@ pub fn is_date(date: Date) -> bool
     date.day <= days_in(date.year, date.month)
 }
 
+// The number of the two digits at an index.
+fn pair(bytes: &[u8], at: usize) -> u64
+    requires { ⌜ (at + 2 ≤ length (now bytes)) × (all (isOf Class.Digit) (now bytes) ≡ true) ⌝ }
+    ensures { λ r. ⌜ r ≡ numberOf (take 2 (drop at (now (bytes .entry)))) ⌝ }
+    ensures small { λ r. ⌜ r ≤ 99 ⌝ }
+{
+    (bytes[at] as u64 - 48) * 10 + (bytes[at + 1] as u64 - 48)
+}
+
 pub fn read_date(bytes: &[u8]) -> Dated
     ensures { λ r. ⌜ r ≡ dateOf (now (bytes .entry)) ⌝ }
 {
@@ -71,9 +85,9 @@ pub fn read_date(bytes: &[u8]) -> Dated
         return Dated::NoDate;
     }
     let date = Date {
-        year: decimal::number(&bytes[0..4]),
-        month: decimal::number(&bytes[4..6]),
-        day: decimal::number(&bytes[6..8]),
+        year: 100 * pair(bytes, 0) + pair(bytes, 2),
+        month: pair(bytes, 4),
+        day: pair(bytes, 6),
     };
     if is_date(date) {
         Dated::On(date)

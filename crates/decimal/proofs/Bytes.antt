@@ -1,5 +1,5 @@
 -- Laws of a part whose bytes are asked a test. They hold for every test. Assumes nothing.
-use Prim.Native.Nat.{ℕ, zero, suc, _+_, _<_, _≤_}
+use Prim.Native.Nat.{ℕ, zero, suc, _+_, _-_, _<_, _≤_}
 use mathlib.Core.Bool.{Bool, true, false, cond, _&&_, and-eq-true-iff, and-assoc, and-true, and-false}
 use mathlib.Core.List.{List, [], _∷_}
 use mathlib.Core.Path.{_≡_, refl, sym, ap, _∙_}
@@ -9,8 +9,8 @@ use native.Mathlib.Omega.{arith}
 use borrow.Author.Tests.{ne-eqb}
 use lib.Bits.{bitOr, or-zero-r, or-add-and, and-le-l}
 use lib.Dec.{eqb}
-use lib.ListN.{length, getD, set, take, drop, drop-of-length-le, take-append-drop}
-use lib.Seq.{drop-cons}
+use lib.ListN.{length, getD, set, take, drop, length-drop, drop-of-length-le, take-append-drop}
+use lib.Seq.{drop-cons, take-all, take-take, take-add}
 use Rattle.answer.specs.declared.Reason.{Reason}
 use Rattle.answer.specs.declared.Answer.{Answer}
 use Rattle.answer.specs.declared.Answer.the-variants.{Accepted, Refused}
@@ -101,3 +101,23 @@ module _ (ok : ℕ → Bool) (bs : List ℕ) (i n : ℕ) where
 
   pub flag-end : {r : Bool} → length bs ≤ i → (eqb n 0 && all ok (drop i bs)) ≡ r → eqb n 0 ≡ r
   flag-end h q = rw (drop-of-length-le bs h, and-true) at q
+
+-- A part asked in rows: the bytes before i were asked, and the last row may start before it.
+module _ (ok : ℕ → Bool) (bs : List ℕ) (i : ℕ) where
+  pub row-fails : (n : ℕ) {t : Bool} → t ≡ all ok (take n (drop i bs)) → t ≡ false → false ≡ all ok bs
+  row-fails n e f = go (all ok bs) refl
+    where
+      go : (u : Bool) → all ok bs ≡ u → false ≡ all ok bs
+      go true h = sym f ∙ e ∙ all-of-part ok i n bs h ∙ sym h
+      go false h = sym h
+
+  pub row-passes : (n : ℕ) {t : Bool} → t ≡ all ok (take n (drop i bs)) → t ≡ true → all ok (take i bs) ≡ true → all ok (take (i + n) bs) ≡ true
+  row-passes n e f p = rw (take-add i n bs, all-joins ok (take i bs) (take n (drop i bs)), p) (sym e ∙ f)
+
+  pub last-row : (w : ℕ) {t : Bool} → w ≤ length bs → length bs - w ≤ i → all ok (take i bs) ≡ true
+      → t ≡ all ok (take (length bs - (length bs - w)) (drop (length bs - w) bs)) → t ≡ all ok bs
+  last-row w h k p e =
+      let s = length bs - w in
+      let front : all ok (take s bs) ≡ true = ap (all ok) (sym (take-take s i bs k)) ∙ all-of-part ok 0 s (take i bs) p in
+      let whole : take (length bs - s) (drop s bs) ≡ drop s bs = take-all (length bs - s) (drop s bs) (omega (arith, length-drop s bs)) in
+      e ∙ ap (all ok) whole ∙ sym (rw front at (sym (ap (all ok) (take-append-drop s bs)) ∙ all-joins ok (take s bs) (drop s bs)))

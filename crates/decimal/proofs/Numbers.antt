@@ -95,6 +95,19 @@ module _ (bs : List ℕ) (i n : ℕ) where
   pub read-end : {r : ℕ} → length bs ≤ i → n ≤ most → heldOf (numberFrom n (drop i bs)) ≡ r → n ≡ r
   read-end h l q = sym (held-small n l) ∙ (rw (drop-of-length-le bs h) at q)
 
+-- the same for digits so few that none is cut
+module _ (bs : List ℕ) (i n : ℕ) where
+  pub few-step : i < length bs → numberFrom n (drop i bs) ≡ numberOf bs → numberFrom (n * 10 + valueOf (getD bs i 0)) (drop (i + 1) bs) ≡ numberOf bs
+  few-step h q = rw add-one (rw (drop-cons bs i 0 h) at q)
+
+  pub few-fit : length bs ≤ 19 → i < length bs → numberFrom n (drop i bs) ≡ numberOf bs → n * 10 + valueOf (getD bs i 0) ≤ most
+  few-fit l h q =
+      let p : 10 ^ length bs ≤ 10 ^ 19 = pow-le-pow-right (lit< tt) l in
+      omega (arith, number-fits bs, few-step h q, from-grows (n * 10 + valueOf (getD bs i 0)) (drop (i + 1) bs))
+
+  pub few-end : length bs ≤ i → numberFrom n (drop i bs) ≡ numberOf bs → n ≡ numberOf bs
+  few-end h q = rw (drop-of-length-le bs h) at q
+
 -- The loop that counts a number's digits: it has none left, it has more, its places are at an end.
 module _ (n k : ℕ) where
   pub width-zero : {r : Bool} → n ≡ 0 → ltb n (10 ^ k) ≡ r → true ≡ r

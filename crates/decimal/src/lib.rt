@@ -1,7 +1,7 @@
 // Bytes of a class, and numbers as decimal digits.
 ghost use mathlib.Core.Path.{_≡_};
-ghost use mathlib.Core.Bool.{cond};
-ghost use Prim.Native.Nat.{_+_, _*_, _^_};
+ghost use mathlib.Core.Bool.{true, cond};
+ghost use Prim.Native.Nat.{_+_, _*_, _^_, _≤_};
 ghost use lib.Dec.{ltb};
 ghost use lib.ListN.{length};
 ghost use Rattle.answer.specs.Orders.{kept};
@@ -52,6 +52,64 @@ pub fn all_of(class: Class, part: &[u8]) -> bool
     flags == 0
 }
 
+// In rows of a known length, the last over bytes that were asked before, so that no byte is asked alone.
+fn digit_rows(part: &[u8]) -> bool
+    ensures { λ r. ⌜ r ≡ all (isOf Class.Digit) (now (part .entry)) ⌝ }
+{
+    let n = part.len();
+    if n < 8 {
+        return all_of(Class::Digit, part);
+    }
+    if n < 16 {
+        if !all_of(Class::Digit, &part[0..8]) {
+            return false;
+        }
+        return all_of(Class::Digit, &part[n - 8..n]);
+    }
+    let mut i = 0;
+    while i < n - 16 {
+        if !all_of(Class::Digit, &part[i..i + 16]) {
+            return false;
+        }
+        i += 16;
+    }
+    all_of(Class::Digit, &part[n - 16..n])
+}
+
+// A function of its own: the compiler widens a row only where its class is known.
+fn text_rows(part: &[u8]) -> bool
+    ensures { λ r. ⌜ r ≡ all (isOf Class.Text) (now (part .entry)) ⌝ }
+{
+    let n = part.len();
+    if n < 8 {
+        return all_of(Class::Text, part);
+    }
+    if n < 16 {
+        if !all_of(Class::Text, &part[0..8]) {
+            return false;
+        }
+        return all_of(Class::Text, &part[n - 8..n]);
+    }
+    let mut i = 0;
+    while i < n - 16 {
+        if !all_of(Class::Text, &part[i..i + 16]) {
+            return false;
+        }
+        i += 16;
+    }
+    all_of(Class::Text, &part[n - 16..n])
+}
+
+fn rows_of(class: Class, part: &[u8]) -> bool
+    ensures { λ r. ⌜ r ≡ all (isOf class) (now (part .entry)) ⌝ }
+{
+    match class {
+        Class::Digit => digit_rows(part),
+        Class::Blank => all_of(Class::Blank, part),
+        Class::Text => text_rows(part),
+    }
+}
+
 fn search(class: Class, why: Reason, part: &[u8]) -> Answer
     ensures { λ r. ⌜ r ≡ eachIs (isOf class) why 1 (now (part .entry)) ⌝ }
 {
@@ -69,7 +127,7 @@ fn search(class: Class, why: Reason, part: &[u8]) -> Answer
 pub fn first_not(class: Class, why: Reason, part: &[u8]) -> Answer
     ensures { λ r. ⌜ r ≡ eachIs (isOf class) why 1 (now (part .entry)) ⌝ }
 {
-    if all_of(class, part) {
+    if rows_of(class, part) {
         return Answer::Accepted;
     }
     search(class, why, part)
@@ -99,7 +157,8 @@ fn with_digit(n: u64, digit: u64) -> u64
     tens + digit
 }
 
-pub fn number(part: &[u8]) -> u64
+// A number of any length.
+fn long_number(part: &[u8]) -> u64
     ensures { λ r. ⌜ r ≡ heldOf (numberOf (now (part .entry))) ⌝ }
 {
     let mut n: u64 = 0;
@@ -109,6 +168,39 @@ pub fn number(part: &[u8]) -> u64
         i += 1;
     }
     n
+}
+
+fn value_of_digit(b: u8) -> u64
+    requires { ⌜ isOf Class.Digit b ≡ true ⌝ }
+    ensures { λ r. ⌜ r ≡ valueOf b ⌝ }
+{
+    b as u64 - 48
+}
+
+// Digits so few that none of them needs a look at what 64 bits hold.
+fn short_number(part: &[u8]) -> u64
+    requires { ⌜ (length (now part) ≤ 19) × (all (isOf Class.Digit) (now part) ≡ true) ⌝ }
+    ensures { λ r. ⌜ r ≡ numberOf (now (part .entry)) ⌝ }
+{
+    let mut n: u64 = 0;
+    let mut i = 0;
+    while i < part.len() {
+        n = n * 10 + value_of_digit(part[i]);
+        i += 1;
+    }
+    n
+}
+
+pub fn number(part: &[u8]) -> u64
+    ensures { λ r. ⌜ r ≡ heldOf (numberOf (now (part .entry))) ⌝ }
+{
+    if 19 < part.len() {
+        return long_number(part);
+    }
+    if all_of(Class::Digit, part) {
+        return short_number(part);
+    }
+    long_number(part)
 }
 
 // Whether a number has at most so many digits.

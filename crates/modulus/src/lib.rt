@@ -36,17 +36,17 @@ pub fn rule(m: Modulus, rest: u64) -> u64
 }
 
 // The weight of a digit with `right` digits to its right.
-fn weight(m: Modulus, right: usize) -> u64
+fn weight(m: Modulus, right: usize) -> u16
     ensures { λ r. ⌜ r ≡ weightOf m right ⌝ }
 {
     match m {
-        Modulus::Ten => (2 - right % 2) as u64,
-        Modulus::Eleven => (2 + right % 8) as u64,
+        Modulus::Ten => (2 - right % 2) as u16,
+        Modulus::Eleven => (2 + right % 8) as u16,
     }
 }
 
 // What a product adds to the sum.
-fn part(m: Modulus, product: u64) -> u64
+fn part(m: Modulus, product: u16) -> u16
     ensures { λ r. ⌜ r ≡ partOf m product ⌝ }
 {
     match m {
@@ -56,30 +56,30 @@ fn part(m: Modulus, product: u64) -> u64
 }
 
 // What a byte adds that has `right` digits to its right.
-fn term(m: Modulus, right: usize, b: u8) -> u64
+fn term(m: Modulus, right: usize, b: u8) -> u16
     ensures { λ r. ⌜ r ≡ termOf m right b ⌝ }
 {
-    part(m, weight(m, right) * decimal::value(b))
+    part(m, weight(m, right) * decimal::value(b) as u16)
 }
 
-// The sum over a part short enough that no step of it needs a remainder.
+// The sum over a part short enough that 16 bits hold it: so narrow a loop is made wide by the compiler.
 fn short_sum(m: Modulus, digits: &[u8], right: usize) -> u64
-    requires { ⌜ (length (now digits) ≤ 4096) × (right < 8) ⌝ }
+    requires { ⌜ (length (now digits) ≤ 512) × (right < 8) ⌝ }
     ensures { λ r. ⌜ r ≡ sumOf m right (now (digits .entry)) ⌝ }
 {
-    let mut sum: u64 = 0;
+    let mut sum: u16 = 0;
     let mut i = 0;
     while i < digits.len() {
         sum += term(m, right + (digits.len() - 1 - i), digits[i]);
         i += 1;
     }
-    sum
+    sum as u64
 }
 
 fn block_start(end: usize) -> usize
-    ensures { λ r. ⌜ r ≡ end - 4096 ⌝ }
+    ensures { λ r. ⌜ r ≡ end - 512 ⌝ }
 {
-    if 4096 < end { end - 4096 } else { 0 }
+    if 512 < end { end - 512 } else { 0 }
 }
 
 // The remainder of the sum over a part that has `right` more digits to its right; in blocks, so that no length wraps it.

@@ -1,7 +1,9 @@
 -- `calendar::read_date` meets its contract. Assumes nothing.
-use mathlib.Core.Path.{sym, _∙_}
+use mathlib.Core.Path.{_≡_, sym, _∙_}
+use native.Mathlib.Omega.{arith}
 use borrow.Author.Needs.{needs}
 use borrow.Author.Tests.{not-true, not-false}
+use lib.ListN.{length}
 use Rattle.calendar.proofs.Dates.{no-eight, no-digits, as-spelled, judged}
 use Rattle.calendar.proofs.read_date.Statement.{statement}
 use Rattle.calendar.proofs.read_date.Tie as tie
@@ -15,60 +17,54 @@ all-of-requires c κs = search needs
 returns-2 : tie.Need-returns-2
 returns-2 c = no-digits _ (c .before .before .if1 .left) (sym (c .before .all-of .ensures) ∙ not-true _ (c .if2 .taken))
 
-sub-number : tie.Need-sub-number
-sub-number c = search needs
+pair-requires : tie.Need-pair-requires
+pair-requires c κs =
+    let n : length (c .before .before .before .before .args .bytes .now) ≡ 8 = c .before .before .if1 .left in
+    let all = sym (c .before .all-of .ensures) ∙ not-false _ (c .if2 .left) in
+    (omega arith, all)
 
-part-number-start : tie.Need-part-number-start
-part-number-start c = search needs
+mul-t8 : tie.Need-mul-t8
+mul-t8 c = search needs
 
-part-number-end : tie.Need-part-number-end
-part-number-end c = search needs
+pair-requires-2 : tie.Need-pair-requires-2
+pair-requires-2 c κs =
+    let n : length (c .before .before .before .before .before .args .bytes .now) ≡ 8 = c .before .before .before .if1 .left in
+    let all = sym (c .before .before .all-of .ensures) ∙ not-false _ (c .before .if2 .left) in
+    (omega arith, all)
 
-number-requires : tie.Need-number-requires
-number-requires c κs = search needs
+add-t10 : tie.Need-add-t10
+add-t10 c = search needs
 
-sub-number-2 : tie.Need-sub-number-2
-sub-number-2 c = search needs
+pair-requires-3 : tie.Need-pair-requires-3
+pair-requires-3 c κs =
+    let n : length (c .before .before .before .before .before .before .args .bytes .now) ≡ 8 = c .before .before .before .before .if1 .left in
+    let all = sym (c .before .before .before .all-of .ensures) ∙ not-false _ (c .before .before .if2 .left) in
+    (omega arith, all)
 
-part-number-start-2 : tie.Need-part-number-start-2
-part-number-start-2 c = search needs
-
-part-number-end-2 : tie.Need-part-number-end-2
-part-number-end-2 c = search needs
-
-number-requires-2 : tie.Need-number-requires-2
-number-requires-2 c κs = search needs
-
-sub-number-3 : tie.Need-sub-number-3
-sub-number-3 c = search needs
-
-part-number-start-3 : tie.Need-part-number-start-3
-part-number-start-3 c = search needs
-
-part-number-end-3 : tie.Need-part-number-end-3
-part-number-end-3 c = search needs
-
-number-requires-3 : tie.Need-number-requires-3
-number-requires-3 c κs = search needs
+pair-requires-4 : tie.Need-pair-requires-4
+pair-requires-4 c κs =
+    let n : length (c .before .before .before .before .before .before .before .args .bytes .now) ≡ 8 = c .before .before .before .before .before .if1 .left in
+    let all = sym (c .before .before .before .before .all-of .ensures) ∙ not-false _ (c .before .before .before .if2 .left) in
+    (omega arith, all)
 
 is-date-requires : tie.Need-is-date-requires
 is-date-requires c κs = search needs
 
 returns-3 : tie.Need-returns-3
 returns-3 c =
-    let bs = c .before .before .before .before .before .before .before .before .before .before .before .before .args .bytes .now in
-    let n = c .before .before .before .before .before .before .before .before .before .before .if1 .left in
-    let all = sym (c .before .before .before .before .before .before .before .before .before .all-of .ensures) ∙ not-false _ (c .before .before .before .before .before .before .before .before .if2 .left) in
-    let d = as-spelled bs n (c .before .before .before .before .before .before .number .ensures) (c .before .before .before .before .number2 .ensures) (c .before .before .number3 .ensures) in
+    let bs = c .before .before .before .before .before .before .before .before .before .before .args .bytes .now in
+    let n = c .before .before .before .before .before .before .before .before .if1 .left in
+    let all = sym (c .before .before .before .before .before .before .before .all-of .ensures) ∙ not-false _ (c .before .before .before .before .before .before .if2 .left) in
+    let d = as-spelled bs n (c .before .before .before .before .before .pair .ensures .0) (c .before .before .before .before .pair2 .ensures .0) (c .before .before .before .pair3 .ensures .0) (c .before .before .pair4 .ensures .0) in
     let t = sym (c .if3 .taken) ∙ c .before .is-date .ensures in
     judged bs n all d t
 
 returns-4 : tie.Need-returns-4
 returns-4 c =
-    let bs = c .before .before .before .before .before .before .before .before .before .before .before .before .args .bytes .now in
-    let n = c .before .before .before .before .before .before .before .before .before .before .if1 .left in
-    let all = sym (c .before .before .before .before .before .before .before .before .before .all-of .ensures) ∙ not-false _ (c .before .before .before .before .before .before .before .before .if2 .left) in
-    let d = as-spelled bs n (c .before .before .before .before .before .before .number .ensures) (c .before .before .before .before .number2 .ensures) (c .before .before .number3 .ensures) in
+    let bs = c .before .before .before .before .before .before .before .before .before .before .args .bytes .now in
+    let n = c .before .before .before .before .before .before .before .before .if1 .left in
+    let all = sym (c .before .before .before .before .before .before .before .all-of .ensures) ∙ not-false _ (c .before .before .before .before .before .before .if2 .left) in
+    let d = as-spelled bs n (c .before .before .before .before .before .pair .ensures .0) (c .before .before .before .before .pair2 .ensures .0) (c .before .before .before .pair3 .ensures .0) (c .before .before .pair4 .ensures .0) in
     let t = sym (c .if3 .left) ∙ c .before .is-date .ensures in
     judged bs n all d t
 
@@ -79,18 +75,12 @@ read-date-spec =
     returns
     all-of-requires
     returns-2
-    sub-number
-    part-number-start
-    part-number-end
-    number-requires
-    sub-number-2
-    part-number-start-2
-    part-number-end-2
-    number-requires-2
-    sub-number-3
-    part-number-start-3
-    part-number-end-3
-    number-requires-3
+    pair-requires
+    mul-t8
+    pair-requires-2
+    add-t10
+    pair-requires-3
+    pair-requires-4
     is-date-requires
     returns-3
     returns-4)

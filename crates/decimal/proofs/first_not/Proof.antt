@@ -6,13 +6,13 @@ use Rattle.decimal.specs.Bytes.{isOf}
 use Rattle.decimal.proofs.first_not.Statement.{statement}
 use Rattle.decimal.proofs.first_not.Tie as tie
 
-all-of-requires : tie.Need-all-of-requires
-all-of-requires c κs = search needs
+rows-of-requires : tie.Need-rows-of-requires
+rows-of-requires c κs = search needs
 
 returns : tie.Need-returns
 returns c =
     let a = c .before .before .before .args in
-    sym (each-accepts (isOf (a .class)) (a .why) 1 (a .part .now) .1 (sym (c .before .all-of .ensures) ∙ c .if1 .taken))
+    sym (each-accepts (isOf (a .class)) (a .why) 1 (a .part .now) .1 (sym (c .before .rows-of .ensures) ∙ c .if1 .taken))
 
 search-requires : tie.Need-search-requires
 search-requires c κs = search needs
@@ -21,4 +21,4 @@ returns-2 : tie.Need-returns-2
 returns-2 c = search needs
 
 pub first-not-spec : {M : Type 1} → statement M
-first-not-spec = tie.close (tie.spec all-of-requires returns search-requires returns-2)
+first-not-spec = tie.close (tie.spec rows-of-requires returns search-requires returns-2)

@@ -1,61 +1,39 @@
 -- `decimal::number` meets its contract. Assumes nothing.
-use Prim.Native.Nat.{_≤_, _-_}
-use mathlib.Core.Path.{_≡_, refl}
+use mathlib.Core.Path.{sym, _∙_}
 use borrow.Author.Needs.{needs}
-use lib.ListN.{length, drop}
-use Rattle.decimal.proofs.Numbers.{read-step, read-end}
-use Rattle.decimal.specs.Numbers.{numberFrom, numberOf, most, heldOf}
+use Rattle.decimal.proofs.Numbers.{nineteen-are-held}
 use Rattle.decimal.proofs.number.Statement.{statement}
 use Rattle.decimal.proofs.number.Tie as tie
 
-abbrev Inv-loop : tie.InvT-loop
-Inv-loop part n₀ i₀ n i = (i ≤ length part) × (n ≤ most) × (heldOf (numberFrom n (drop i part)) ≡ heldOf (numberOf part))
+long-number-requires : tie.Need-long-number-requires
+long-number-requires c κs = search needs
 
-abbrev μ-loop : tie.MeasureT-loop
-μ-loop part n₀ i₀ n i = length part - i
+returns : tie.Need-returns
+returns c = search needs
 
-loop-holds : tie.Need-loop-holds Inv-loop μ-loop
-loop-holds c = (search needs, search needs, refl)
+all-of-requires : tie.Need-all-of-requires
+all-of-requires c κs = search needs
 
-shared-slice-read-value : tie.Need-shared-slice-read-value Inv-loop μ-loop
-shared-slice-read-value c = search needs
+short-number-requires : tie.Need-short-number-requires
+short-number-requires c κs = (c .before .before .if1 .left, sym (c .before .all-of .ensures) ∙ c .if2 .taken)
 
-value-requires : tie.Need-value-requires Inv-loop μ-loop
-value-requires c κs = search needs
+returns-2 : tie.Need-returns-2
+returns-2 c = c .short-number .ensures ∙ sym (nineteen-are-held (c .before .before .before .before .before .args .part .now) (c .before .before .before .if1 .left))
 
-with-digit-requires : tie.Need-with-digit-requires Inv-loop μ-loop
-with-digit-requires c κs = search needs
+long-number-requires-2 : tie.Need-long-number-requires-2
+long-number-requires-2 c κs = search needs
 
-add-i : tie.Need-add-i Inv-loop μ-loop
-add-i c = search needs
-
-loop-less : tie.Need-loop-less Inv-loop μ-loop
-loop-less c = search needs
-
-loop-again : tie.Need-loop-again Inv-loop μ-loop
-loop-again c =
-    let a = c .before .before .before .before .before .before .args in
-    let l = c .before .before .before .before .loop in
-    let step = read-step (a .part .now) (l .i) (l .n) (c .before .before .before .loop-test .taken) (c .before .value .ensures) (c .with-digit .ensures) (l .inv .2) in
-    (search needs, step .0, step .1)
-
-returns : tie.Need-returns Inv-loop μ-loop
-returns c =
-    let a = c .before .before .before .args in
-    let l = c .before .loop in
-    read-end (a .part .now) (l .i) (l .n) (c .loop-test .left) (l .inv .1) (l .inv .2)
+returns-3 : tie.Need-returns-3
+returns-3 c = search needs
 
 pub number-spec : {M : Type 1} → statement M
 number-spec =
     tie.close
     (tie.spec
-    Inv-loop
-    μ-loop
-    loop-holds
-    shared-slice-read-value
-    value-requires
-    with-digit-requires
-    add-i
-    loop-less
-    loop-again
-    returns)
+    long-number-requires
+    returns
+    all-of-requires
+    short-number-requires
+    returns-2
+    long-number-requires-2
+    returns-3)

@@ -53,6 +53,9 @@ loop-again c =
     let step = sum-step (a .m) (a .right) (a .digits .now) (l .i) (l .sum) (search needs) (c .term .ensures) (l .inv .1, l .inv .2) in
     (search needs, step .0, step .1)
 
+cast-result : tie.Need-cast-result Inv-loop μ-loop
+cast-result c = search needs
+
 returns : tie.Need-returns Inv-loop μ-loop
 returns c =
     let a = c .before .before .before .args in
@@ -74,4 +77,5 @@ short-sum-spec =
     add-i
     loop-less
     loop-again
+    cast-result
     returns)

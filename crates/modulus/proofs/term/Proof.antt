@@ -1,6 +1,7 @@
 -- `modulus::term` meets its contract. Assumes nothing.
 use native.Mathlib.Omega.{arith}
 use borrow.Author.Needs.{needs}
+use Rattle.decimal.proofs.Numbers.{value-small}
 use Rattle.modulus.proofs.Sums.{product-small}
 use Rattle.modulus.specs.Checks.{termOf}
 use Rattle.modulus.proofs.term.Statement.{statement}
@@ -11,6 +12,9 @@ weight-requires c κs = search needs
 
 value-requires : tie.Need-value-requires
 value-requires c κs = search needs
+
+cast-part : tie.Need-cast-part
+cast-part c = record { fits = rw (c .value .ensures) (omega (arith, value-small (c .before .before .args .b))) }
 
 mul-part : tie.Need-mul-part
 mul-part c = record { fits = rw (c .before .weight .ensures, c .value .ensures) (omega (arith, product-small (c .before .before .args .m) (c .before .before .args .right) (c .before .before .args .b))) }
@@ -23,4 +27,4 @@ unfolding termOf
 returns c = cc
 
 pub term-spec : {M : Type 1} → statement M
-term-spec = tie.close (tie.spec weight-requires value-requires mul-part part-requires returns)
+term-spec = tie.close (tie.spec weight-requires value-requires cast-part mul-part part-requires returns)
