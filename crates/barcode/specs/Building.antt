@@ -13,7 +13,7 @@ use Rattle.decimal.specs.Numbers.{digitsOf}
 use Rattle.decimal.specs.Places.{widthOf}
 use Rattle.modulus.specs.Checks.{checkOf}
 use Rattle.barcode.specs.declared.Issuer.{Issuer}
-use Rattle.barcode.specs.Codes.{product, isSegment, isKind, modulusOf, value, issuerEnd, issuer, free}
+use Rattle.barcode.specs.Codes.{codeLength, product, isSegment, isKind, modulusOf, value, issuerEnd, issuer, free}
 
 -- the places before the check, and those behind it
 abbrev pub headOf : ℕ → ℕ → List ℕ
@@ -50,7 +50,7 @@ checkAnswer i kind amount rest = asked (leb (checkFor i kind amount rest) 9) Che
 
 -- builder: 1 for the 44 bytes lent, 4, 5, 1 for the free field, 21 value, 21 issuer, 2, 20; every place but 0 is a place in the barcode
 abbrev pub buildAnswer : ℕ → Issuer → ℕ → ℕ → List ℕ → Answer
-buildAnswer lent i kind amount rest = asked (eqb lent 44) WrongLength 0 then fieldsAnswer i kind amount rest then checkAnswer i kind amount rest
+buildAnswer lent i kind amount rest = asked (eqb lent codeLength) WrongLength 0 then fieldsAnswer i kind amount rest then checkAnswer i kind amount rest
 
 -- what accepted fields are
 pub record Fit (i : Issuer) (kind amount : ℕ) (rest : List ℕ) : Type 0 where

@@ -22,6 +22,9 @@ use Rattle.barcode.specs.declared.Fields.{Fields}
 use Rattle.barcode.specs.declared.Decoded.{Decoded}
 use Rattle.barcode.specs.declared.Decoded.the-variants.{Read, Refused}
 
+abbrev pub codeLength : ℕ
+codeLength = 44
+
 -- the digit at a place
 abbrev pub digitAt : ℕ → List ℕ → ℕ
 digitAt place l = valueOf (getD l (place - 1) 0)
@@ -43,7 +46,7 @@ modulusOf k = cond (leb k 7) Ten Eleven
 
 -- 4: general check, over the 43 digits without place 4
 abbrev pub checked : List Stretch
-checked = record { first = 1; last = 3 } ∷ record { first = 5; last = 44 } ∷ []
+checked = record { first = 1; last = 3 } ∷ record { first = 5; last = codeLength } ∷ []
 
 -- 5-15: value
 abbrev pub value : Stretch
@@ -57,7 +60,7 @@ abbrev pub issuer : ℕ → Stretch
 issuer s = record { first = 16; last = issuerEnd s }
 
 abbrev pub free : ℕ → Stretch
-free s = record { first = issuerEnd s + 1; last = 44 }
+free s = record { first = issuerEnd s + 1; last = codeLength }
 
 -- The fields. An issuer is the segment together with its number.
 
@@ -96,7 +99,7 @@ bodyAnswer code = frontAnswer code then asked (generalRight code) WrongGeneralCh
 
 -- barcode: 1, 2 over all digits, 3, 4, 5, 7
 abbrev pub barcodeAnswer : List ℕ → Answer
-barcodeAnswer code = asked (eqb (length code) 44) WrongLength 0 then bodyAnswer code
+barcodeAnswer code = asked (eqb (length code) codeLength) WrongLength 0 then bodyAnswer code
 
 -- What is shown: the fields of an accepted barcode, and its free field; of a refused one the refusal, and the empty stretch.
 
@@ -109,7 +112,7 @@ abbrev pub noFields : Fields
 noFields = record { kind = 0; value = 0; issuer = record { segment = 0; number = 0 }; due = NoDate }
 
 abbrev pub readOf : List ℕ → Fields
-readOf code = cond (eqb (length code) 44) (fieldsOf code) noFields
+readOf code = cond (eqb (length code) codeLength) (fieldsOf code) noFields
 
 abbrev pub decodeOf : List ℕ → Decoded
 decodeOf code = decoded (barcodeAnswer code) (fieldsOf code)

@@ -16,7 +16,7 @@ use Rattle.barcode.specs.declared.Issuer.{Issuer}
 use Rattle.barcode.specs.declared.Fields.{Fields}
 use Rattle.barcode.specs.declared.Decoded.{Decoded}
 use Rattle.barcode.specs.declared.Decoded.the-variants.{Read, Refused}
-use Rattle.barcode.specs.Codes.{isSegment, isKind, value, issuer, free, fieldsOf, freeOf, barcodeAnswer, noFields, decodeOf, shownFree}
+use Rattle.barcode.specs.Codes.{codeLength, isSegment, isKind, value, issuer, free, fieldsOf, freeOf, barcodeAnswer, noFields, decodeOf, shownFree}
 use Rattle.barcode.specs.Building.{builtOf, buildAnswer}
 
 -- the paper's answer to a decoded barcode, by its cases, and the fields that it shows
@@ -36,7 +36,7 @@ abbrev pub builtFrom : Fields → List ℕ → List ℕ
 builtFrom f rest = builtOf (f .issuer) (f .kind) (f .value) rest
 
 abbrev pub fromAnswer : Fields → List ℕ → Answer
-fromAnswer f rest = buildAnswer 44 (f .issuer) (f .kind) (f .value) rest
+fromAnswer f rest = buildAnswer codeLength (f .issuer) (f .kind) (f .value) rest
 
 -- value, issuer and free field of an accepted barcode are exactly its places 5 to 15, 16 to 19 or 23, and the rest
 pub record ShowsItsPlaces (code : List ℕ) (f : Fields) : Type 0 where
@@ -56,7 +56,7 @@ CodeIsItsFields =
 -- what the builder accepted decodes to what it was given
 abbrev pub BuiltIsRead : Type 0
 BuiltIsRead =
-    (i : Issuer) (kind amount : ℕ) (rest : List ℕ) → buildAnswer 44 i kind amount rest ≡ answer.Accepted
+    (i : Issuer) (kind amount : ℕ) (rest : List ℕ) → buildAnswer codeLength i kind amount rest ≡ answer.Accepted
     → (decodeOf (builtOf i kind amount rest) ≡ Read (record { kind = kind; value = amount; issuer = i; due = dateOf (take 8 rest) }))
     × (shownFree (builtOf i kind amount rest) ≡ rest)
 
@@ -65,7 +65,7 @@ abbrev pub FieldsWithinRangesBuild : Type 0
 FieldsWithinRangesBuild =
     (i : Issuer) (kind amount : ℕ) (rest : List ℕ) → isSegment (i .segment) ≡ true → isKind kind ≡ true → amount < 10 ^ widthOf value
     → i .number < 10 ^ widthOf (issuer (i .segment)) → length rest ≡ widthOf (free (i .segment)) → all (isOf Digit) rest ≡ true
-    → buildAnswer 44 i kind amount rest ≡ answer.Accepted
+    → buildAnswer codeLength i kind amount rest ≡ answer.Accepted
 
 -- a refused build leaves every lent byte as it was
 abbrev pub RefusedBuildKeeps : Type 0

@@ -4,6 +4,7 @@ ghost use Prim.Native.Nat.{_≤_};
 ghost use lib.ListN.{length, drop};
 ghost use mathlib.Core.List.{_∷_, _++_};
 ghost use Rattle.answer.specs.Orders.{kept};
+ghost use Rattle.barcode.specs.Codes.{codeLength};
 ghost use Rattle.barcode.specs.Building.{headOf, numbersAnswer, fieldsAnswer, checkAnswer, buildAnswer, codeWith, builtOf, Fit};
 use crate::Issuer;
 use answer::Answer;
@@ -15,7 +16,7 @@ fn ask_numbers(issuer: Issuer, value: u64, free: &[u8]) -> Answer
     ensures { λ r. ⌜ r ≡ numbersAnswer issuer value (now (free .entry)) ⌝ }
 {
     let end = crate::issuer_end(issuer.segment);
-    if free.len() != 44 - end {
+    if free.len() != crate::LENGTH - end {
         return Answer::Refused(Reason::WrongLength, 0);
     }
     if !decimal::fits_width(value, 11) {
@@ -42,7 +43,7 @@ fn ask_fields(issuer: Issuer, kind: u64, value: u64, free: &[u8]) -> Answer
 
 // Places 1 to 4, with 0 for the check.
 fn put_head(segment: u64, kind: u64, code: &mut [u8])
-    requires { ⌜ (length (now code) ≡ 44) × (segment ≤ 9) × (kind ≤ 9) ⌝ }
+    requires { ⌜ (length (now code) ≡ codeLength) × (segment ≤ 9) × (kind ≤ 9) ⌝ }
     ensures { λ _. ⌜ now (code .exit) ≡ headOf segment kind ++ 48 ∷ drop 4 (now (code .entry)) ⌝ }
 {
     code[0] = 56;
@@ -53,7 +54,7 @@ fn put_head(segment: u64, kind: u64, code: &mut [u8])
 
 // The digits of all fields, with 0 for the check.
 fn put_fields(issuer: Issuer, kind: u64, value: u64, free: &[u8], code: &mut [u8])
-    requires { ⌜ length (now code) ≡ 44 ⌝ }
+    requires { ⌜ length (now code) ≡ codeLength ⌝ }
     requires { ⌜ Fit issuer kind value (now free) ⌝ }
     ensures { λ _. ⌜ now (code .exit) ≡ codeWith 0 issuer kind value (now (free .entry)) ⌝ }
 {
@@ -66,12 +67,12 @@ fn put_fields(issuer: Issuer, kind: u64, value: u64, free: &[u8], code: &mut [u8
 
 // The barcode with its check, put into the lent bytes once the check is known.
 fn finish(issuer: Issuer, kind: u64, value: u64, free: &[u8], out: &mut [u8]) -> Answer
-    requires { ⌜ length (now out) ≡ 44 ⌝ }
+    requires { ⌜ length (now out) ≡ codeLength ⌝ }
     requires { ⌜ Fit issuer kind value (now free) ⌝ }
     ensures answer { λ r. ⌜ r ≡ checkAnswer issuer kind value (now (free .entry)) ⌝ }
     ensures bytes { λ r. ⌜ now (out .exit) ≡ kept r (builtOf issuer kind value (now (free .entry))) (now (out .entry)) ⌝ }
 {
-    let mut code = [48u8; 44];
+    let mut code = [48u8; crate::LENGTH];
     put_fields(issuer, kind, value, free, &mut code);
     let check = crate::general_check(&code);
     if 9 < check {
@@ -87,7 +88,7 @@ pub fn build(issuer: Issuer, kind: u64, value: u64, free: &[u8], out: &mut [u8])
     ensures answer { λ r. ⌜ r ≡ buildAnswer (length (now (out .entry))) issuer kind value (now (free .entry)) ⌝ }
     ensures bytes { λ r. ⌜ now (out .exit) ≡ kept r (builtOf issuer kind value (now (free .entry))) (now (out .entry)) ⌝ }
 {
-    if out.len() != 44 {
+    if out.len() != crate::LENGTH {
         return Answer::Refused(Reason::WrongLength, 0);
     }
     let asked = ask_fields(issuer, kind, value, free);

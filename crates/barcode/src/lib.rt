@@ -6,12 +6,15 @@ ghost use Prim.Native.Nat.{_+_, _≤_};
 ghost use lib.ListN.{length, getD};
 ghost use Rattle.answer.specs.Orders.{heldBehind, movedBy};
 ghost use Rattle.decimal.specs.Numbers.{valueOf};
-ghost use Rattle.barcode.specs.Codes.{isSegment, isKind, modulusOf, issuerEnd, leadAnswer, frontAnswer, generalCheck, generalRight, bodyAnswer, barcodeAnswer, issuerOf, fieldsOf, readOf, decodeOf, shownFree};
+ghost use Rattle.barcode.specs.Codes.{codeLength, isSegment, isKind, modulusOf, issuerEnd, leadAnswer, frontAnswer, generalCheck, generalRight, bodyAnswer, barcodeAnswer, issuerOf, fieldsOf, readOf, decodeOf, shownFree};
 use answer::Answer;
 use answer::Reason;
 use calendar::Dated;
 use decimal::Class;
 use modulus::Modulus;
+
+// The bytes of a barcode.
+pub const LENGTH: usize = 44;
 
 // An issuer is the segment together with its number.
 #[repr(C)]
@@ -99,25 +102,25 @@ pub fn front(l: &[u8]) -> Answer
 
 // The check of the 43 digits without place 4.
 fn general_check(code: &[u8]) -> u64
-    requires { ⌜ length (now code) ≡ 44 ⌝ }
+    requires { ⌜ length (now code) ≡ codeLength ⌝ }
     ensures { λ r. ⌜ r ≡ generalCheck (now (code .entry)) ⌝ }
     ensures small { λ r. ⌜ r ≤ 9 ⌝ }
 {
     let m = named(digit(code, 2));
     let left = modulus::rest(m, &code[0..3], 40);
-    let right = modulus::rest(m, &code[4..44], 0);
+    let right = modulus::rest(m, &code[4..LENGTH], 0);
     modulus::rule(m, modulus::remainder(m, left + right))
 }
 
 fn general_right(code: &[u8]) -> bool
-    requires { ⌜ length (now code) ≡ 44 ⌝ }
+    requires { ⌜ length (now code) ≡ codeLength ⌝ }
     ensures { λ r. ⌜ r ≡ generalRight (now (code .entry)) ⌝ }
 {
     wide(code[3]) == 48 + general_check(code)
 }
 
 fn body(code: &[u8]) -> Answer
-    requires { ⌜ length (now code) ≡ 44 ⌝ }
+    requires { ⌜ length (now code) ≡ codeLength ⌝ }
     ensures { λ r. ⌜ r ≡ bodyAnswer (now (code .entry)) ⌝ }
 {
     let lead = front(code);
@@ -137,7 +140,7 @@ fn body(code: &[u8]) -> Answer
 pub fn check(code: &[u8]) -> Answer
     ensures { λ r. ⌜ r ≡ barcodeAnswer (now (code .entry)) ⌝ }
 {
-    if code.len() != 44 {
+    if code.len() != LENGTH {
         return Answer::Refused(Reason::WrongLength, 0);
     }
     body(code)
@@ -160,7 +163,7 @@ fn issuer_end(segment: u64) -> usize
 }
 
 fn issuer_of(code: &[u8]) -> Issuer
-    requires { ⌜ length (now code) ≡ 44 ⌝ }
+    requires { ⌜ length (now code) ≡ codeLength ⌝ }
     ensures { λ r. ⌜ r ≡ issuerOf (now (code .entry)) ⌝ }
 {
     let segment = digit(code, 1);
@@ -172,7 +175,7 @@ fn issuer_of(code: &[u8]) -> Issuer
 }
 
 fn fields_of(code: &[u8]) -> Fields
-    requires { ⌜ length (now code) ≡ 44 ⌝ }
+    requires { ⌜ length (now code) ≡ codeLength ⌝ }
     ensures { λ r. ⌜ r ≡ fieldsOf (now (code .entry)) ⌝ }
 {
     let issuer = issuer_of(code);
@@ -189,7 +192,7 @@ fn fields_of(code: &[u8]) -> Fields
 pub fn read_fields(code: &[u8]) -> Fields
     ensures { λ r. ⌜ r ≡ readOf (now (code .entry)) ⌝ }
 {
-    if code.len() != 44 {
+    if code.len() != LENGTH {
         return Fields {
             kind: 0,
             value: 0,
@@ -207,7 +210,7 @@ pub fn read_fields(code: &[u8]) -> Fields
 pub fn read_issuer(code: &[u8]) -> Issuer
     ensures { λ r. ⌜ r ≡ readOf (now (code .entry)) .issuer ⌝ }
 {
-    if code.len() != 44 {
+    if code.len() != LENGTH {
         return Issuer {
             segment: 0,
             number: 0,
@@ -232,11 +235,11 @@ pub fn free_field(code: &[u8]) -> &[u8]
     match check(code) {
         Answer::Refused(_, _) => &code[0..0],
         Answer::Accepted => {
-            if code.len() != 44 {
+            if code.len() != LENGTH {
                 return &code[0..0];
             }
             let end = issuer_end(digit(code, 1));
-            &code[end..44]
+            &code[end..LENGTH]
         }
     }
 }

@@ -14,7 +14,7 @@ use Rattle.answer.specs.Orders.{kept}
 use Rattle.barcode.specs.declared.Fields.{Fields}
 use Rattle.barcode.specs.declared.Decoded.{Decoded}
 use Rattle.barcode.specs.declared.Decoded.the-variants as barcode
-use Rattle.barcode.specs.Codes.{noFields, shownFree}
+use Rattle.barcode.specs.Codes.{codeLength, noFields, shownFree}
 use Rattle.layout.specs.Layouts.{rowAt}
 use Rattle.record.specs.declared.Header.{Header}
 use Rattle.record.specs.declared.Payment.{Payment}
@@ -63,7 +63,7 @@ bytesIn p bytes = take (p .length) (drop (p .from) bytes)
 
 -- the free field ends with the barcode; a field starts where its row says
 unfoldable pub freePart : List ℕ → Part
-freePart code = partOf (44 - length (shownFree code)) (length (shownFree code))
+freePart code = partOf (codeLength - length (shownFree code)) (length (shownFree code))
 
 unfoldable pub fieldPart : ℕ → List ℕ → Part
 fieldPart row rec = partOf (rowAt row .first - 1) (length (shownField row rec))

@@ -39,7 +39,7 @@ pub extern "C" fn hollytrot_barcode_free_field(code: &[u8]) -> Part
 {
     let free = barcode::free_field(code);
     let length = free.len();
-    forms::part(forms::less(44, length), length)
+    forms::part(forms::less(barcode::LENGTH, length), length)
 }
 
 #[no_mangle]

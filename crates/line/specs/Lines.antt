@@ -11,7 +11,10 @@ use Rattle.decimal.specs.Places.{Stretch, partAt, gather}
 use Rattle.modulus.specs.declared.Modulus.{Modulus}
 use Rattle.modulus.specs.Checks.{checkOf}
 use Rattle.barcode.specs.declared.Decoded.{Decoded}
-use Rattle.barcode.specs.Codes.{digitAt, modulusOf, fieldsOf, frontAnswer, bodyAnswer, barcodeAnswer, decoded}
+use Rattle.barcode.specs.Codes.{codeLength, digitAt, modulusOf, fieldsOf, frontAnswer, bodyAnswer, barcodeAnswer, decoded}
+
+abbrev pub lineLength : ℕ
+lineLength = 48
 
 -- four boxes of eleven barcode digits, each followed by its check: places 12, 24, 36, 48
 abbrev pub boxes : List Stretch
@@ -40,7 +43,7 @@ abbrev pub lineBody : List ℕ → Answer
 lineBody line = frontAnswer line then checksAnswer line
 
 abbrev pub lineAnswer : List ℕ → Answer
-lineAnswer line = asked (eqb (length line) 48) WrongLength 0 then lineBody line
+lineAnswer line = asked (eqb (length line) lineLength) WrongLength 0 then lineBody line
 
 abbrev pub decodeOf : List ℕ → Decoded
 decodeOf line = decoded (lineAnswer line) (fieldsOf (codeOf line))
@@ -64,7 +67,7 @@ lineOf code = withChecks (modulusOf (digitAt 3 code)) quarters code
 -- Both conversions give 1 first if either lent length is wrong, then the refusals of what is read.
 
 abbrev pub toLineAnswer : ℕ → List ℕ → Answer
-toLineAnswer lent code = asked (eqb lent 48) WrongLength 0 then barcodeAnswer code
+toLineAnswer lent code = asked (eqb lent lineLength) WrongLength 0 then barcodeAnswer code
 
 abbrev pub toCodeAnswer : ℕ → List ℕ → Answer
-toCodeAnswer lent line = asked (eqb lent 44) WrongLength 0 then lineAnswer line
+toCodeAnswer lent line = asked (eqb lent codeLength) WrongLength 0 then lineAnswer line

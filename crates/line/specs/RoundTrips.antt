@@ -16,11 +16,11 @@ use Rattle.barcode.specs.declared.Decoded.the-variants.{Read}
 use Rattle.barcode.specs.Codes.{digitAt, isSegment, isKind, modulusOf, value, issuer, free, fieldsOf, freeOf, barcodeAnswer}
 use Rattle.barcode.specs.Building.{builtOf}
 use Rattle.barcode.specs.RoundTrips.{builtFrom, fromAnswer}
-use Rattle.line.specs.Lines.{boxes, codeOf, boxRight, lineAnswer, decodeOf, lineOf, toLineAnswer, toCodeAnswer}
+use Rattle.line.specs.Lines.{lineLength, boxes, codeOf, boxRight, lineAnswer, decodeOf, lineOf, toLineAnswer, toCodeAnswer}
 
 -- a line is accepted exactly when its four box checks hold and its barcode is accepted
 pub record Sound (line : List ℕ) : Type 0 where
-  pub long : length line ≡ 48
+  pub long : length line ≡ lineLength
   pub checks : Each (λ box. boxRight (modulusOf (digitAt 3 line)) line box ≡ true) boxes
   pub code : barcodeAnswer (codeOf line) ≡ Accepted
 

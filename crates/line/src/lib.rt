@@ -6,12 +6,15 @@ ghost use Rattle.answer.specs.Refusals.{answerPlace};
 ghost use Rattle.answer.specs.Orders.{first, movedBy, kept};
 ghost use Rattle.decimal.specs.Places.{putAt};
 ghost use Rattle.modulus.specs.Checks.{checkOf};
-ghost use Rattle.barcode.specs.Codes.{digitAt, modulusOf};
-ghost use Rattle.line.specs.Lines.{boxes, codeOf, inLine, boxRight, boxAnswer, checksAnswer, lineBody, lineAnswer, decodeOf, checkedBox, lineOf, toLineAnswer, toCodeAnswer};
+ghost use Rattle.barcode.specs.Codes.{codeLength, digitAt, modulusOf};
+ghost use Rattle.line.specs.Lines.{lineLength, boxes, codeOf, inLine, boxRight, boxAnswer, checksAnswer, lineBody, lineAnswer, decodeOf, checkedBox, lineOf, toLineAnswer, toCodeAnswer};
 use answer::Answer;
 use answer::Reason;
 use barcode::Decoded;
 use modulus::Modulus;
+
+// The digits of a line.
+pub const LENGTH: usize = 48;
 
 // The check digit of a box, as a byte.
 fn check_byte(m: Modulus, part: &[u8]) -> u8
@@ -31,7 +34,7 @@ fn box_right(m: Modulus, line: &[u8], from: usize) -> bool
 
 // The four boxes, lowest first, all under the modulus that the line's third digit names.
 fn ask_boxes(m: Modulus, line: &[u8]) -> Answer
-    requires { ⌜ (length (now line) ≡ 48) × (m ≡ modulusOf (digitAt 3 (now line))) ⌝ }
+    requires { ⌜ (length (now line) ≡ lineLength) × (m ≡ modulusOf (digitAt 3 (now line))) ⌝ }
     ensures { λ r. ⌜ r ≡ first (boxAnswer (now (line .entry))) boxes ⌝ }
 {
     if !box_right(m, line, 0) {
@@ -67,7 +70,7 @@ fn moved(a: Answer) -> Answer
 
 // The barcode that 48 bytes hold.
 fn put_code(line: &[u8], code: &mut [u8])
-    requires { ⌜ (length (now line) ≡ 48) × (length (now code) ≡ 44) ⌝ }
+    requires { ⌜ (length (now line) ≡ lineLength) × (length (now code) ≡ codeLength) ⌝ }
     ensures { λ _. ⌜ now (code .exit) ≡ codeOf (now (line .entry)) ⌝ }
 {
     decimal::put(&line[0..11], code, 0);
@@ -78,7 +81,7 @@ fn put_code(line: &[u8], code: &mut [u8])
 
 // 6, then 7: the boxes, and what is left to ask of the barcode.
 fn ask_checks(line: &[u8], code: &[u8]) -> Answer
-    requires { ⌜ (length (now line) ≡ 48) × (now code ≡ codeOf (now line)) ⌝ }
+    requires { ⌜ (length (now line) ≡ lineLength) × (now code ≡ codeOf (now line)) ⌝ }
     ensures { λ r. ⌜ r ≡ checksAnswer (now (line .entry)) ⌝ }
 {
     let boxes = ask_boxes(barcode::named(decimal::value(line[2])), line);
@@ -90,7 +93,7 @@ fn ask_checks(line: &[u8], code: &[u8]) -> Answer
 
 // Everything but the length.
 fn ask_body(line: &[u8], code: &[u8]) -> Answer
-    requires { ⌜ (length (now line) ≡ 48) × (now code ≡ codeOf (now line)) ⌝ }
+    requires { ⌜ (length (now line) ≡ lineLength) × (now code ≡ codeOf (now line)) ⌝ }
     ensures { λ r. ⌜ r ≡ lineBody (now (line .entry)) ⌝ }
 {
     let front = barcode::front(line);
@@ -104,10 +107,10 @@ fn ask_body(line: &[u8], code: &[u8]) -> Answer
 pub fn check(line: &[u8]) -> Answer
     ensures { λ r. ⌜ r ≡ lineAnswer (now (line .entry)) ⌝ }
 {
-    if line.len() != 48 {
+    if line.len() != LENGTH {
         return Answer::Refused(Reason::WrongLength, 0);
     }
-    let mut code = [48u8; 44];
+    let mut code = [48u8; barcode::LENGTH];
     put_code(line, &mut code);
     ask_body(line, &code)
 }
@@ -115,10 +118,10 @@ pub fn check(line: &[u8]) -> Answer
 pub fn decode(line: &[u8]) -> Decoded
     ensures { λ r. ⌜ r ≡ decodeOf (now (line .entry)) ⌝ }
 {
-    if line.len() != 48 {
+    if line.len() != LENGTH {
         return Decoded::Refused(Reason::WrongLength, 0);
     }
-    let mut code = [48u8; 44];
+    let mut code = [48u8; barcode::LENGTH];
     put_code(line, &mut code);
     match ask_body(line, &code) {
         Answer::Refused(why, place) => Decoded::Refused(why, place),
@@ -131,7 +134,7 @@ pub fn to_barcode(line: &[u8], out: &mut [u8]) -> Answer
     ensures answer { λ r. ⌜ r ≡ toCodeAnswer (length (now (out .entry))) (now (line .entry)) ⌝ }
     ensures bytes { λ r. ⌜ now (out .exit) ≡ kept r (codeOf (now (line .entry))) (now (out .entry)) ⌝ }
 {
-    if out.len() != 44 {
+    if out.len() != barcode::LENGTH {
         return Answer::Refused(Reason::WrongLength, 0);
     }
     let a = check(line);
@@ -156,14 +159,14 @@ fn put_box(m: Modulus, part: &[u8], out: &mut [u8], at: usize)
 }
 
 fn put_line(code: &[u8], out: &mut [u8])
-    requires { ⌜ (length (now code) ≡ 44) × (length (now out) ≡ 48) ⌝ }
+    requires { ⌜ (length (now code) ≡ codeLength) × (length (now out) ≡ lineLength) ⌝ }
     ensures { λ _. ⌜ now (out .exit) ≡ lineOf (now (code .entry)) ⌝ }
 {
     let m = barcode::named(decimal::value(code[2]));
     put_box(m, &code[0..11], out, 0);
     put_box(m, &code[11..22], out, 12);
     put_box(m, &code[22..33], out, 24);
-    put_box(m, &code[33..44], out, 36);
+    put_box(m, &code[33..barcode::LENGTH], out, 36);
 }
 
 // Writes the line of a barcode into 48 lent bytes; a refusal leaves them as they were.
@@ -171,7 +174,7 @@ pub fn from_barcode(code: &[u8], out: &mut [u8]) -> Answer
     ensures answer { λ r. ⌜ r ≡ toLineAnswer (length (now (out .entry))) (now (code .entry)) ⌝ }
     ensures bytes { λ r. ⌜ now (out .exit) ≡ kept r (lineOf (now (code .entry))) (now (out .entry)) ⌝ }
 {
-    if out.len() != 48 {
+    if out.len() != LENGTH {
         return Answer::Refused(Reason::WrongLength, 0);
     }
     let a = barcode::check(code);
