@@ -76,37 +76,14 @@ fn digit_rows(part: &[u8]) -> bool
     all_of(Class::Digit, &part[n - 16..n])
 }
 
-// A function of its own: the compiler widens a row only where its class is known.
-fn text_rows(part: &[u8]) -> bool
-    ensures { λ r. ⌜ r ≡ all (isOf Class.Text) (now (part .entry)) ⌝ }
-{
-    let n = part.len();
-    if n < 8 {
-        return all_of(Class::Text, part);
-    }
-    if n < 16 {
-        if !all_of(Class::Text, &part[0..8]) {
-            return false;
-        }
-        return all_of(Class::Text, &part[n - 8..n]);
-    }
-    let mut i = 0;
-    while i < n - 16 {
-        if !all_of(Class::Text, &part[i..i + 16]) {
-            return false;
-        }
-        i += 16;
-    }
-    all_of(Class::Text, &part[n - 16..n])
-}
-
+// Digits in rows, since every barcode is asked them; the other classes are asked seldom.
 fn rows_of(class: Class, part: &[u8]) -> bool
     ensures { λ r. ⌜ r ≡ all (isOf class) (now (part .entry)) ⌝ }
 {
     match class {
         Class::Digit => digit_rows(part),
         Class::Blank => all_of(Class::Blank, part),
-        Class::Text => text_rows(part),
+        Class::Text => all_of(Class::Text, part),
     }
 }
 

@@ -18,8 +18,8 @@ all-of-requires c κs = search needs
 enum-told-3 : tie.Need-enum-told-3
 enum-told-3 c = search needs
 
-text-rows-requires : tie.Need-text-rows-requires
-text-rows-requires c κs = search needs
+all-of-requires-2 : tie.Need-all-of-requires-2
+all-of-requires-2 c κs = search needs
 
 returns : tie.Need-returns
 returns c = rw (c .before .enum-told .given .1) (c .digit-rows .ensures)
@@ -28,7 +28,7 @@ returns-2 : tie.Need-returns-2
 returns-2 c = rw (c .before .enum-told2 .given .1) (c .all-of .ensures)
 
 returns-3 : tie.Need-returns-3
-returns-3 c = rw (c .before .enum-told3 .given .1) (c .text-rows .ensures)
+returns-3 c = rw (c .before .enum-told3 .given .1) (c .all-of2 .ensures)
 
 pub rows-of-spec : {M : Type 1} → statement M
 rows-of-spec =
@@ -39,7 +39,7 @@ rows-of-spec =
     enum-told-2
     all-of-requires
     enum-told-3
-    text-rows-requires
+    all-of-requires-2
     returns
     returns-2
     returns-3)

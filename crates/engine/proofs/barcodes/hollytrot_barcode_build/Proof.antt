@@ -1,6 +1,5 @@
 -- `engine::barcodes::hollytrot_barcode_build` meets its contract. Assumes nothing.
 use borrow.Author.Needs.{needs}
-use lib.ListN.{length}
 use Rattle.engine.proofs.Steps.{handed}
 use Rattle.engine.proofs.barcodes.hollytrot_barcode_build.Statement.{statement}
 use Rattle.engine.proofs.barcodes.hollytrot_barcode_build.Tie as tie

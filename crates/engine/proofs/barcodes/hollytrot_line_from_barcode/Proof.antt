@@ -1,6 +1,5 @@
 -- `engine::barcodes::hollytrot_line_from_barcode` meets its contract. Assumes nothing.
 use borrow.Author.Needs.{needs}
-use lib.ListN.{length}
 use Rattle.engine.proofs.Steps.{handed}
 use Rattle.engine.proofs.barcodes.hollytrot_line_from_barcode.Statement.{statement}
 use Rattle.engine.proofs.barcodes.hollytrot_line_from_barcode.Tie as tie

@@ -1,6 +1,5 @@
 -- `engine::forms::part` meets its contract. Assumes nothing.
 use borrow.Author.Tests.{ne-eqb}
-use borrow.Author.Needs.{needs}
 use Rattle.engine.proofs.forms.part.Statement.{statement}
 use Rattle.engine.proofs.forms.part.Tie as tie
 

@@ -1,7 +1,6 @@
 -- `engine::pages::hollytrot_page` meets its contract. Assumes nothing.
 use borrow.Author.Needs.{needs}
 use borrow.Author.Tests.{le-leb, lt-leb}
-use lib.ListN.{length}
 use Rattle.engine.proofs.Steps.{paged, numbered-past}
 use Rattle.engine.specs.Exports.{paperOf}
 use Rattle.engine.proofs.pages.hollytrot_page.Statement.{statement}

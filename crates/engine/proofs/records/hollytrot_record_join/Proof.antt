@@ -1,6 +1,5 @@
 -- `engine::records::hollytrot_record_join` meets its contract. Assumes nothing.
 use borrow.Author.Needs.{needs}
-use lib.ListN.{length}
 use Rattle.engine.proofs.Steps.{handed}
 use Rattle.engine.proofs.records.hollytrot_record_join.Statement.{statement}
 use Rattle.engine.proofs.records.hollytrot_record_join.Tie as tie
