@@ -4,4 +4,5 @@
 void *malloc(size_t);
 void *realloc(void *, size_t);
 void free(void *);
+long atol(const char *);
 _Noreturn void exit(int);

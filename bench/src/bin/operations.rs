@@ -1,0 +1,118 @@
+//! `operations NAME ROUNDS <DAY`: one operation of the second program over all records of a file, so many times.
+//! operations.c does the same with the engine, and prints the same sum.
+
+use std::error::Error;
+use std::hint::black_box;
+use std::io::{self, Read};
+
+use second::{barcode, digits, line, records, Record, Refusal, Session, Writer};
+
+/// What the operations are given, made before the rounds.
+struct Inputs {
+    day: Vec<u8>,
+    codes: Vec<[u8; 44]>,
+    lines: Vec<[u8; 48]>,
+    header: [u8; 78],
+    payments: Vec<([u8; 121], u64, u64)>,
+    written: Vec<u8>,
+}
+
+fn inputs(day: Vec<u8>) -> Result<Inputs, Refusal> {
+    let mut inputs = Inputs {
+        written: vec![0; day.len()],
+        day,
+        codes: Vec::new(),
+        lines: Vec::new(),
+        header: [0; 78],
+        payments: Vec::new(),
+    };
+    let count = inputs.day.len() / 150;
+    records::joined(&inputs.day[..150], &mut inputs.header)?;
+    for g in inputs.day.chunks(150).take(count - 1).skip(1) {
+        let mut code = [0; 44];
+        code.copy_from_slice(&g[37..81]);
+        let mut typed = [0; 48];
+        line::line_from_barcode(&code, &mut typed)?;
+        let mut fields = [0; 121];
+        records::joined(g, &mut fields)?;
+        let amount = |part| digits::number(part).unwrap_or(0);
+        inputs.codes.push(code);
+        inputs.lines.push(typed);
+        inputs
+            .payments
+            .push((fields, amount(&g[81..93]), amount(&g[93..100])));
+    }
+    Ok(inputs)
+}
+
+fn round(name: &str, inputs: &mut Inputs) -> Result<u64, Box<dyn Error>> {
+    let said = |code: barcode::Barcode| {
+        code.value + code.issuer + code.due.map_or(0, |due| due.day().into())
+    };
+    let mut sum = 0;
+    match name {
+        "barcode" => {
+            for code in &inputs.codes {
+                sum += said(barcode::decode(black_box(code))?);
+            }
+        }
+        "line" => {
+            for typed in &inputs.lines {
+                sum += said(line::decode(black_box(typed))?);
+            }
+        }
+        "record" => {
+            for record in inputs.day.chunks(150) {
+                sum += match records::decode(black_box(record))? {
+                    Record::A(a) => a.sequence,
+                    Record::G(g) => g.received + g.tariff + g.number,
+                    Record::Z(z) => z.count + z.total,
+                };
+            }
+        }
+        "take" => {
+            let mut session = Session::new();
+            for record in inputs.day.chunks(150) {
+                session.take(black_box(record))?;
+            }
+            sum += session.board().centavos;
+        }
+        "run" => {
+            let mut session = Session::new();
+            session.take_many(black_box(&inputs.day)).answer?;
+            sum += session.board().centavos;
+        }
+        "write" => {
+            let mut writer = Writer::new();
+            let mut out = inputs.written.chunks_mut(150);
+            let mut next = || out.next().ok_or("too short a room");
+            writer.header(black_box(&inputs.header), next()?)?;
+            for (fields, received, tariff) in &inputs.payments {
+                writer.payment(black_box(fields), *received, *tariff, next()?)?;
+            }
+            writer.trailer(next()?)?;
+            sum += writer.total;
+        }
+        _ => return Err("no such operation".into()),
+    }
+    Ok(sum)
+}
+
+fn main() -> Result<(), Box<dyn Error>> {
+    let words: Vec<String> = std::env::args().skip(1).collect();
+    let [name, rounds] = &words[..] else {
+        return Err("operations NAME ROUNDS".into());
+    };
+    let mut day = Vec::new();
+    io::stdin().lock().read_to_end(&mut day)?;
+    let mut inputs = inputs(day)?;
+    let mut sum = 0;
+    for _ in 0..rounds.parse()? {
+        sum += round(name, &mut inputs)?;
+    }
+    if name == "write" && inputs.written != inputs.day {
+        return Err("the file written is not the day".into());
+    }
+    println!("{sum}");
+    Ok(())
+}
