@@ -26,9 +26,10 @@ pub fn seeds(random: &mut Random) -> io::Result<Vec<Vec<u8>>> {
     // A folder's order is any.
     seeds.sort();
     for kind in Kind::ALL {
-        for _ in 0..EACH {
+        for turn in 0..EACH {
             // What the second program refuses to make is no seed.
-            seeds.extend(made(random, kind).ok().map(|rest| input(kind, rest)));
+            let rest = made(random, kind, turn).ok();
+            seeds.extend(rest.map(|rest| input(kind, rest)));
         }
     }
     Ok(seeds)
@@ -39,7 +40,8 @@ fn input(kind: Kind, mut rest: Vec<u8>) -> Vec<u8> {
     rest
 }
 
-fn made(random: &mut Random, kind: Kind) -> Result<Vec<u8>, Refusal> {
+/// The rest of an input of a kind; records, conversions and writers take turns.
+fn made(random: &mut Random, kind: Kind, turn: usize) -> Result<Vec<u8>, Refusal> {
     Ok(match kind {
         Kind::Line => days::line(random)?.to_vec(),
         Kind::Barcode => days::barcode(random)?.to_vec(),
@@ -58,10 +60,15 @@ fn made(random: &mut Random, kind: Kind) -> Result<Vec<u8>, Refusal> {
             rest.extend((0..free).map(|_| random.digit()));
             rest
         }
-        Kind::Record => days::record(random)?.to_vec(),
-        Kind::Converted => match random.below(3) {
+        Kind::Record => match turn % 3 {
+            0 => days::header(random)?.to_vec(),
+            1 => days::payment(random)?.to_vec(),
+            _ => days::trailer(random).to_vec(),
+        },
+        Kind::Converted => match turn % 4 {
             0 => [&[0, 44], days::line(random)?.as_slice()].concat(),
             1 => [&[1, 48], days::barcode(random)?.as_slice()].concat(),
+            2 => [&[2, 78], days::header(random)?.as_slice()].concat(),
             _ => [&[2, 121], days::payment(random)?.as_slice()].concat(),
         },
         Kind::Run => [vec![random.below(4) as u8], day(random)?].concat(),
@@ -87,7 +94,7 @@ fn made(random: &mut Random, kind: Kind) -> Result<Vec<u8>, Refusal> {
             rest.extend(board(random, issuer));
             rest
         }
-        Kind::Written => written(random)?,
+        Kind::Written => written(random, turn.is_multiple_of(2))?,
     })
 }
 
@@ -120,9 +127,9 @@ fn board(random: &mut Random, first: Issuer) -> Vec<u8> {
 }
 
 /// A whole file, written by a new writer, or the end of one by a writer with a file open.
-fn written(random: &mut Random) -> Result<Vec<u8>, Refusal> {
+fn written(random: &mut Random, whole: bool) -> Result<Vec<u8>, Refusal> {
     let mut rest = Vec::new();
-    if random.once_in(2) {
+    if whole {
         let header = days::header_fields(random);
         rest.extend([0, 0, 150, header.len() as u8]);
         rest.extend(header);
