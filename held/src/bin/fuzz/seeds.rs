@@ -126,17 +126,15 @@ fn board(random: &mut Random, first: Issuer) -> Vec<u8> {
     board
 }
 
-/// A whole file, written by a new writer, or the end of one by a writer with a file open.
-fn written(random: &mut Random, whole: bool) -> Result<Vec<u8>, Refusal> {
-    let mut rest = Vec::new();
-    if whole {
-        let header = days::header_fields(random);
-        rest.extend([0, 0, 150, header.len() as u8]);
-        rest.extend(header);
-    } else {
-        rest.push(1);
+/// A file written by a new writer, or by one with a file open, which refuses another header.
+fn written(random: &mut Random, new: bool) -> Result<Vec<u8>, Refusal> {
+    let mut rest = vec![u8::from(!new)];
+    if !new {
         rest.extend(numbers([1, random.number(6), random.number(17)]));
     }
+    let header = days::header_fields(random);
+    rest.extend([0, 150, header.len() as u8]);
+    rest.extend(header);
     for _ in 0..random.index(3) {
         let code = days::barcode(random)?;
         let fields = days::payment_fields(random, &code);
