@@ -9,4 +9,6 @@
 pub mod calls;
 pub mod engine;
 pub mod families;
+pub mod found;
+pub mod inputs;
 pub mod wire;
