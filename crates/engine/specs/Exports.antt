@@ -17,11 +17,15 @@ use Rattle.writer.specs.declared.Wrote as writer
 use Rattle.engine.specs.declared.Said.{Said}
 use Rattle.engine.specs.declared.Pen.{Pen}
 use Rattle.engine.specs.declared.Page.{Page}
-use Rattle.engine.specs.Forms.{saidOf, answerFrom, bytesIn, freePart, fieldPart, writerOf, penOf, wroteOf}
+use Rattle.engine.specs.Forms.{saidOf, reasons, answerFrom, bytesIn, freePart, fieldPart, writerOf, penOf, wroteOf}
 
--- a page: 21 for a number that no answer has, then 1 for the buffer
+-- 21 for a number that no answer has
+abbrev pub numberAnswer : Said → Answer
+numberAnswer s = asked (leb (s .number) (length reasons)) TooWide 0
+
+-- a page: that, then 1 for the buffer
 abbrev pub pageAnswer : Said → List ℕ → Answer
-pageAnswer s old = asked (leb (s .number) 21) TooWide 0 then bufferAnswer old
+pageAnswer s old = numberAnswer s then bufferAnswer old
 
 abbrev pub paperOf : Said → ℕ → ℕ → Board → List ℕ
 paperOf s records files b = pageOf (answerFrom s) records files b
@@ -30,7 +34,7 @@ abbrev pub pageWith : Answer → List ℕ → Page
 pageWith a paper = record { said = saidOf a; length = kept a (length paper) 0 }
 
 abbrev pub pageBytes : Said → List ℕ → List ℕ → List ℕ
-pageBytes s paper old = kept (asked (leb (s .number) 21) TooWide 0) (bytesWith paper old) old
+pageBytes s paper old = kept (numberAnswer s) (bytesWith paper old) old
 
 -- Promises: what crosses is what the rooms hand over.
 

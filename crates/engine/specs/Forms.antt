@@ -14,7 +14,8 @@ use Rattle.barcode.specs.declared.Fields.{Fields}
 use Rattle.barcode.specs.declared.Decoded.{Decoded}
 use Rattle.barcode.specs.declared.Decoded.the-variants as barcode
 use Rattle.barcode.specs.Codes.{codeLength, noFields, shownFree}
-use Rattle.layout.specs.Layouts.{rowAt}
+use Rattle.layout.specs.declared.Record.the-variants as layout
+use Rattle.layout.specs.Layouts.{markOf, rowAt}
 use Rattle.record.specs.declared.Header.{Header}
 use Rattle.record.specs.declared.Payment.{Payment}
 use Rattle.record.specs.declared.Trailer.{Trailer}
@@ -109,11 +110,11 @@ noTrailer = record { count = 0; total = 0 }
 
 abbrev pub shownOf : record-decoded.Decoded → Shown
 shownOf (decoded.Header h) =
-    record { said = saidOf answer.Accepted; letter = 65; header = h; payment = noPaid; trailer = noTrailer }
+    record { said = saidOf answer.Accepted; letter = markOf layout.Header; header = h; payment = noPaid; trailer = noTrailer }
 shownOf (decoded.Payment p) =
-    record { said = saidOf answer.Accepted; letter = 71; header = noHeader; payment = paidOf p; trailer = noTrailer }
+    record { said = saidOf answer.Accepted; letter = markOf layout.Payment; header = noHeader; payment = paidOf p; trailer = noTrailer }
 shownOf (decoded.Trailer t) =
-    record { said = saidOf answer.Accepted; letter = 90; header = noHeader; payment = noPaid; trailer = t }
+    record { said = saidOf answer.Accepted; letter = markOf layout.Trailer; header = noHeader; payment = noPaid; trailer = t }
 shownOf (decoded.Refused why place) =
     record { said = saidOf (answer.Refused why place); letter = 0; header = noHeader; payment = noPaid; trailer = noTrailer }
 
