@@ -1,6 +1,6 @@
 -- Laws of the pictures: a record that looks like its picture has, in each field, bytes that fit its kind. Assumes nothing.
 use Prim.Native.Nat.{ℕ, zero, suc, _+_, _-_, _≤_, _<_}
-use mathlib.Core.Bool.{Bool, true, false, cond, _&&_, _||_, and-eq-true-iff, and-true, and-assoc}
+use mathlib.Core.Bool.{Bool, true, false, cond, _&&_, and-eq-true-iff, and-true, and-assoc, or-false}
 use mathlib.Core.List.{List, [], _∷_, _++_}
 use mathlib.Core.Path.{_≡_, refl, sym, ap, _∙_}
 use native.Mathlib.Numerals.{add-one}
@@ -74,13 +74,9 @@ fields-fit (f ∷ fs) place rec h n t e =
 
 -- Kinds whose bytes are right where each fits.
 
-or-none : (t : Bool) → t || false ≡ t
-or-none true = refl
-or-none false = refl
-
 within-only : (l h b : ℕ) → eqb h 126 ≡ false → fits l h b ≡ true → within l h b ≡ true
 unfolding fits
-within-only l h b e t = rw (e, or-none) at t
+within-only l h b e t = rw (e, or-false) at t
 
 all-of : (p q : ℕ → Bool) → ((b : ℕ) → p b ≡ true → q b ≡ true) → (bs : List ℕ) → all p bs ≡ true → all q bs ≡ true
 all-of p q h [] t = refl
