@@ -39,6 +39,7 @@ one-outcome =
       modulus·rule = λ w κs given g r r′ left left′. value w _ _ _ _ _ left;
       modulus·rest = λ w κs given g r r′ left left′. value w _ _ _ _ _ left;
       modulus·check = λ w κs given g r r′ left left′. value w _ _ _ _ _ left;
+      modulus·sums_of_forty = λ w κs given g r r′ left left′. value w _ _ _ _ _ left;
       barcode·is_segment = λ w κs given g r r′ left left′. value w _ _ _ _ _ left;
       barcode·is_kind = λ w κs given g r r′ left left′. value w _ _ _ _ _ left;
       barcode·named = λ w κs given g r r′ left left′. value w _ _ _ _ _ left;

@@ -25,6 +25,7 @@ use Rattle.modulus.proofs.remainder as modulus·remainder
 use Rattle.modulus.proofs.rule as modulus·rule
 use Rattle.modulus.proofs.rest as modulus·rest
 use Rattle.modulus.proofs.check as modulus·check
+use Rattle.modulus.proofs.sums_of_forty as modulus·sums_of_forty
 use Rattle.barcode.proofs.is_segment as barcode·is_segment
 use Rattle.barcode.proofs.is_kind as barcode·is_kind
 use Rattle.barcode.proofs.named as barcode·named
@@ -135,6 +136,7 @@ pub record OneOutcome : Type 2 where
   pub modulus·rule : One modulus·rule.ended (λ M. modulus·rule.clauses)
   pub modulus·rest : One modulus·rest.ended (λ M. modulus·rest.clauses)
   pub modulus·check : One modulus·check.ended (λ M. modulus·check.clauses)
+  pub modulus·sums_of_forty : One modulus·sums_of_forty.ended (λ M. modulus·sums_of_forty.clauses)
   pub barcode·is_segment : One barcode·is_segment.ended (λ M. barcode·is_segment.clauses)
   pub barcode·is_kind : One barcode·is_kind.ended (λ M. barcode·is_kind.clauses)
   pub barcode·named : One barcode·named.ended (λ M. barcode·named.clauses)
