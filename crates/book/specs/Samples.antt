@@ -8,7 +8,7 @@ use Rattle.answer.specs.Refusals.{answerNumber, answerPlace}
 use Rattle.decimal.specs.Numbers.{digitsOf}
 use Rattle.barcode.specs.declared.Issuer.{Issuer}
 use Rattle.barcode.specs.Building.{builtOf}
-use Rattle.record.specs.Kinds.{version, serviceOf}
+use Rattle.kinds.specs.Kinds.{version, serviceOf}
 use Rattle.board.specs.declared.Tally.{Tally}
 use Rattle.board.specs.declared.Lane.{Lane}
 use Rattle.board.specs.Lanes.{none}

@@ -33,8 +33,8 @@ use Rattle.layout.specs.declared.Record.the-variants.{Header, Payment, Trailer}
 use Rattle.layout.specs.Layouts.{recordLength, layoutOf, stretchOf, givenOf, givenAt, givenLength, widthsOf, covers}
 use Rattle.layout.proofs.Layouts.{Next, next, covers-end, fields-cover}
 use Rattle.layout.proofs.Tables.{every}
-use Rattle.record.specs.Kinds.{kindAnswer}
-use Rattle.record.proofs.KindLaws.{kind-place}
+use Rattle.kinds.specs.Kinds.{kindAnswer}
+use Rattle.kinds.proofs.KindLaws.{kind-place}
 use Rattle.fields.specs.Making.{writtenOf, isMoney, putAnswer, takes, pieceOf, pieceAnswer, amountsAfter, madeOf, makingAnswer, makeAnswer}
 
 -- bytes that are copied into as many

@@ -25,10 +25,10 @@ use Rattle.layout.specs.declared.Kind.the-variants as kind
 use Rattle.layout.specs.Layouts.{recordLength, layoutOf, stretchOf, givenOf, givenAt, givenLength, widthsOf, covers}
 use Rattle.layout.proofs.Layouts.{next, covers-end, fields-cover}
 use Rattle.layout.proofs.Tables.{every}
-use Rattle.record.specs.Kinds.{version, serviceOf, isSpelling, isService, same, kindAnswer}
+use Rattle.kinds.specs.Kinds.{version, serviceOf, isSpelling, isService, same, kindAnswer}
 use Rattle.record.specs.Records.{partOf, fieldAnswer}
 use Rattle.fields.specs.Making.{writtenOf, isMoney, putAnswer, takes, pieceOf, pieceAnswer, amountsAfter, madeOf, makingAnswer, amountsIn, FieldsMakeTheRecord, MadeIsAccepted}
-use Rattle.record.proofs.KindLaws.{same-equal}
+use Rattle.kinds.proofs.KindLaws.{same-equal}
 use Rattle.fields.proofs.Makes.{fitsKind, fitsField, given-order, takes-are, written-length, layout-fits, other-is}
 use Rattle.fields.proofs.Joins.{given-in}
 

@@ -16,7 +16,7 @@ use Rattle.layout.specs.declared.Kind.{Kind}
 use Rattle.layout.specs.declared.Kind.the-variants.{Mark, Version, Service, Blank, Text, Digits, Money, Date, Barcode, Capture, Form}
 use Rattle.layout.specs.declared.Record.{Record}
 use Rattle.layout.specs.Layouts.{recordLength, layoutOf, stretchOf, givenAt, givenLength, joinedOf}
-use Rattle.record.specs.Kinds.{version, serviceOf, kindAnswer}
+use Rattle.kinds.specs.Kinds.{version, serviceOf, kindAnswer}
 use Rattle.record.specs.Records.{partOf, bodyAnswer}
 
 -- a field's bytes: what is fixed, the digits of an amount, else the bytes that are given for it

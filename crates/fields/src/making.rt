@@ -7,13 +7,12 @@ ghost use lib.ListN.{length, getD, replicate};
 ghost use Rattle.answer.specs.declared.Answer.the-variants as answers;
 ghost use Rattle.answer.specs.Orders.{kept};
 ghost use Rattle.layout.specs.Layouts.{recordLength, layoutOf, givenLength};
-ghost use Rattle.record.specs.Kinds.{serviceOf};
+ghost use Rattle.kinds.specs.Kinds.{serviceOf};
 ghost use Rattle.fields.specs.Making.{writtenOf, isMoney, putAnswer, madeOf, makingAnswer, makeAnswer};
 use answer::Answer;
 use answer::Reason;
 use layout::Kind;
 use layout::Record;
-use record::kinds;
 
 fn is_money(kind: Kind) -> bool
     ensures { λ r. ⌜ r ≡ isMoney kind ⌝ }

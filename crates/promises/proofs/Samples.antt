@@ -11,7 +11,7 @@ use Rattle.modulus.specs.Checks.{termOf, ruleOf}
 use Rattle.barcode.specs.Codes.{leadAnswer, generalRight}
 use Rattle.line.specs.Lines.{boxRight}
 use Rattle.layout.specs.Layouts.{namedBy, layoutOf, table, rowAt}
-use Rattle.record.specs.Kinds.{isService, isCapture, isForm, kindAnswer}
+use Rattle.kinds.specs.Kinds.{isService, isCapture, isForm, kindAnswer}
 use Rattle.record.specs.Records.{fieldAnswer, recordAnswer}
 use Rattle.file.specs.Files.{fileAnswer, trailerAnswer}
 use Rattle.board.specs.Lanes.{fits}

@@ -47,6 +47,11 @@ use Rattle.layout.proofs.named_by as layout·named_by
 use Rattle.layout.proofs.rows_of as layout·rows_of
 use Rattle.layout.proofs.given_of as layout·given_of
 use Rattle.layout.proofs.given_length as layout·given_length
+use Rattle.kinds.proofs.check as kinds·check
+use Rattle.kinds.proofs.service as kinds·service
+use Rattle.kinds.proofs.is_capture as kinds·is_capture
+use Rattle.kinds.proofs.between as kinds·between
+use Rattle.kinds.proofs.byte_at as kinds·byte_at
 use Rattle.record.proofs.Decoded.answer as record·Decoded·answer
 use Rattle.fields.proofs.join as fields·join
 use Rattle.fields.proofs.make as fields·make
@@ -54,8 +59,6 @@ use Rattle.record.proofs.decode as record·decode
 use Rattle.record.proofs.field as record·field
 use Rattle.record.proofs.check as record·check
 use Rattle.record.proofs.paid as record·paid
-use Rattle.record.proofs.kinds.check as record·kinds·check
-use Rattle.record.proofs.kinds.service as record·kinds·service
 use Rattle.file.proofs.File.new as file·File·new
 use Rattle.file.proofs.File.take as file·File·take
 use Rattle.file.proofs.File.judge as file·File·judge
@@ -158,6 +161,11 @@ pub record OneOutcome : Type 2 where
   pub layout·rows_of : One layout·rows_of.ended (λ M. layout·rows_of.clauses)
   pub layout·given_of : One layout·given_of.ended (λ M. layout·given_of.clauses)
   pub layout·given_length : One layout·given_length.ended (λ M. layout·given_length.clauses)
+  pub kinds·check : One kinds·check.ended (λ M. kinds·check.clauses)
+  pub kinds·service : One kinds·service.ended (λ M. kinds·service.clauses)
+  pub kinds·is_capture : One kinds·is_capture.ended (λ M. kinds·is_capture.clauses)
+  pub kinds·between : One kinds·between.ended (λ M. kinds·between.clauses)
+  pub kinds·byte_at : One kinds·byte_at.ended (λ M. kinds·byte_at.clauses)
   pub record·Decoded·answer : One record·Decoded·answer.ended (λ M. record·Decoded·answer.clauses)
   pub fields·join : One fields·join.ended (λ M. fields·join.clauses)
   pub fields·make : One fields·make.ended (λ M. fields·make.clauses)
@@ -165,8 +173,6 @@ pub record OneOutcome : Type 2 where
   pub record·field : OneSeen record·field.ended (λ M. record·field.clauses) (λ κs. List ℕ) (λ κs r. now r)
   pub record·check : One record·check.ended (λ M. record·check.clauses)
   pub record·paid : One record·paid.ended (λ M. record·paid.clauses)
-  pub record·kinds·check : One record·kinds·check.ended (λ M. record·kinds·check.clauses)
-  pub record·kinds·service : One record·kinds·service.ended (λ M. record·kinds·service.clauses)
   pub file·File·new : One file·File·new.ended (λ M. file·File·new.clauses)
   pub file·File·take : One file·File·take.ended (λ M. file·File·take.clauses)
   pub file·File·judge : One file·File·judge.ended (λ M. file·File·judge.clauses)

@@ -1,4 +1,3 @@
-pub mod KindLaws
 pub mod Pictures
 pub mod Shown
 pub mod Walks

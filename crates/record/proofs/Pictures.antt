@@ -24,7 +24,7 @@ use Rattle.layout.specs.declared.Record.the-variants.{Payment}
 use Rattle.layout.specs.Layouts.{recordLength, noField, layoutOf, stretchOf, covers, rowAt, table, paidRow, creditedRow, barcodeRow, captureRow}
 use Rattle.layout.proofs.Layouts.{next, covers-end, fields-cover, row-lies}
 use Rattle.record.proofs.Shown.{part-length}
-use Rattle.record.specs.Kinds.{same, isForm, kindAnswer}
+use Rattle.kinds.specs.Kinds.{same, isForm, kindAnswer}
 use Rattle.record.specs.Pictures.{lowestOf, highestOf, picture, fits, fitAll}
 use Rattle.record.specs.Records.{partOf, fieldAnswer, bodyAnswer}
 

@@ -1,4 +1,3 @@
-pub mod Kinds
 pub mod Pictures
 pub mod Records
 pub mod Values

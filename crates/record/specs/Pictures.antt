@@ -1,5 +1,5 @@
 -- A picture of a record: at each place the lowest byte and the highest that may stand there. Only the quick look at a G cites it;
--- what a record is asked stands in Kinds.antt and Records.antt. Assumes nothing.
+-- what a record is asked stands in kinds and in Records.antt. Assumes nothing.
 use Prim.Native.Nat.{ℕ}
 use mathlib.Core.Bool.{Bool, true, false, _&&_, _||_}
 use mathlib.Core.List.{List, [], _∷_, _++_}

@@ -13,7 +13,7 @@ use Rattle.layout.specs.declared.Named.{Named}
 use Rattle.layout.specs.declared.Named.the-variants.{Is, Other}
 use Rattle.layout.specs.declared.Record.{Record}
 use Rattle.layout.specs.Layouts.{recordLength, namedBy, layoutOf, stretchOf}
-use Rattle.record.specs.Kinds.{kindAnswer}
+use Rattle.kinds.specs.Kinds.{kindAnswer}
 
 abbrev pub partOf : Field → List ℕ → List ℕ
 partOf f rec = partAt (stretchOf f) rec

@@ -2,7 +2,6 @@
 ghost use mathlib.Core.Path.{_≡_};
 ghost use Rattle.record.specs.Values.{answerOf};
 
-pub mod kinds;
 mod quick;
 mod values;
 mod walk;

@@ -4,7 +4,6 @@ ghost use lib.ListN.{length};
 ghost use Rattle.layout.specs.Layouts.{recordLength};
 ghost use Rattle.layout.proofs.Layouts.{Lies};
 ghost use Rattle.record.specs.Records.{partOf, fieldAnswer, bodyAnswer, recordAnswer};
-use crate::kinds;
 use crate::quick;
 use answer::Answer;
 use answer::Reason;

@@ -20,7 +20,7 @@ use Rattle.layout.specs.declared.Kind.the-variants as kind
 use Rattle.layout.specs.declared.Record.{Record}
 use Rattle.layout.specs.declared.Record.the-variants.{Payment, Trailer}
 use Rattle.layout.specs.Layouts.{layoutOf, stretchOf, givenLength, joinedOf, rowAt, table, countRow}
-use Rattle.record.specs.Kinds.{kindAnswer}
+use Rattle.kinds.specs.Kinds.{kindAnswer}
 use Rattle.record.specs.Records.{partOf}
 use Rattle.record.specs.Values.{trailerOf}
 use Rattle.fields.specs.Making.{writtenOf, isMoney, putAnswer, takes, pieceOf, pieceAnswer, amountsAfter, madeOf, makingAnswer, makeAnswer, amountsIn}

@@ -20,7 +20,7 @@ use Rattle.layout.specs.declared.Record.the-variants.{Trailer}
 use Rattle.layout.specs.Layouts.{recordLength, namedBy, noField, layoutOf, givenLength, joinedOf, rowAt, table, countRow, totalRow}
 use Rattle.layout.specs.declared.Kind.the-variants as kind
 use Rattle.layout.proofs.Layouts.{row-lies}
-use Rattle.record.specs.Kinds.{kindAnswer}
+use Rattle.kinds.specs.Kinds.{kindAnswer}
 use Rattle.record.specs.Records.{partOf, fieldAnswer, bodyAnswer, recordAnswer}
 use Rattle.record.specs.Values.{trailerOf}
 use Rattle.record.proofs.Shown.{part-length}

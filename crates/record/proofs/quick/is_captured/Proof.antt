@@ -8,7 +8,7 @@ use Rattle.answer.specs.declared.Reason.the-variants.{UnknownCode}
 use Rattle.answer.proofs.Orders.{asked-accepts}
 use Rattle.layout.specs.declared.Field.{Field}
 use Rattle.layout.specs.Layouts.{rowAt, captureRow}
-use Rattle.record.specs.Kinds.{isCapture, kindAnswer}
+use Rattle.kinds.specs.Kinds.{isCapture, kindAnswer}
 use Rattle.record.specs.Records.{partOf}
 use Rattle.record.proofs.Walks.{numbered}
 use borrow.Author.Needs.{needs}

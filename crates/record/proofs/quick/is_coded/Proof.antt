@@ -4,7 +4,7 @@ use lib.Dec.{lit<}
 use Rattle.barcode.specs.Codes.{barcodeAnswer}
 use Rattle.layout.specs.declared.Field.{Field}
 use Rattle.layout.specs.Layouts.{barcodeRow}
-use Rattle.record.specs.Kinds.{kindAnswer}
+use Rattle.kinds.specs.Kinds.{kindAnswer}
 use Rattle.record.specs.Records.{partOf}
 use Rattle.record.proofs.Walks.{numbered}
 use borrow.Author.Needs.{needs}

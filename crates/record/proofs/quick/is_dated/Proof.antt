@@ -3,7 +3,7 @@ use mathlib.Core.Path.{sym, ap, _∙_}
 use Rattle.calendar.specs.Dates.{dateOf}
 use Rattle.layout.specs.declared.Field.{Field}
 use Rattle.record.specs.Records.{partOf}
-use Rattle.record.proofs.KindLaws.{date-accepted}
+use Rattle.kinds.proofs.KindLaws.{date-accepted}
 use Rattle.record.proofs.Walks.{numbered}
 use borrow.Author.Needs.{needs}
 use Rattle.record.proofs.quick.is_dated.Statement.{statement}

@@ -5,9 +5,9 @@ use native.Mathlib.Omega.{arith}
 use borrow.Author.Needs.{needs}
 use Rattle.answer.specs.Orders.{movedBy, heldBehind}
 use Rattle.answer.proofs.Orders.{behind-is-held}
-use Rattle.record.proofs.KindLaws.{kind-place}
+use Rattle.kinds.proofs.KindLaws.{kind-place}
 use Rattle.record.proofs.Shown.{part-length}
-use Rattle.record.specs.Kinds.{kindAnswer}
+use Rattle.kinds.specs.Kinds.{kindAnswer}
 use Rattle.record.specs.Records.{partOf, fieldAnswer}
 use Rattle.record.proofs.walk.field_answer.Statement.{statement}
 use Rattle.record.proofs.walk.field_answer.Tie as tie

@@ -25,7 +25,7 @@ use Rattle.calendar.specs.Dates.{isDate, spelled, dateOf, isOne}
 use Rattle.barcode.proofs.Codes.{code-place}
 use Rattle.layout.specs.declared.Kind.{Kind}
 use Rattle.layout.specs.declared.Kind.the-variants as kind
-use Rattle.record.specs.Kinds.{same, version, serviceOf, isSpelling, isService, isCapture, isForm, kindAnswer}
+use Rattle.kinds.specs.Kinds.{same, version, serviceOf, isSpelling, isService, isCapture, isForm, kindAnswer}
 
 -- A loop that compares two lists, at byte i: the bytes are the same, they differ, there are none left.
 module _ (xs bs : List ℕ) (i : ℕ) where

@@ -1,11 +1,11 @@
--- `record::kinds::is_service` meets its contract. Assumes nothing.
+-- `kinds::is_service` meets its contract. Assumes nothing.
 use mathlib.Core.Path.{ap, _∙_}
 use borrow.Author.Needs.{needs}
 use borrow.Author.Tests.{not-true, not-false}
-use Rattle.record.specs.Kinds.{same}
-use Rattle.record.proofs.KindLaws.{no-service, service-same}
-use Rattle.record.proofs.kinds.is_service.Statement.{statement}
-use Rattle.record.proofs.kinds.is_service.Tie as tie
+use Rattle.kinds.specs.Kinds.{same}
+use Rattle.kinds.proofs.KindLaws.{no-service, service-same}
+use Rattle.kinds.proofs.is_service.Statement.{statement}
+use Rattle.kinds.proofs.is_service.Tie as tie
 
 byte-at-requires : tie.Need-byte-at-requires
 byte-at-requires c κs = search needs

@@ -1,9 +1,9 @@
--- `record::kinds::is_capture` meets its contract. Assumes nothing.
+-- `kinds::is_capture` meets its contract. Assumes nothing.
 use mathlib.Core.Path.{sym, _∙_}
 use borrow.Author.Needs.{needs}
-use Rattle.record.specs.Kinds.{isCapture}
-use Rattle.record.proofs.kinds.is_capture.Statement.{statement}
-use Rattle.record.proofs.kinds.is_capture.Tie as tie
+use Rattle.kinds.specs.Kinds.{isCapture}
+use Rattle.kinds.proofs.is_capture.Statement.{statement}
+use Rattle.kinds.proofs.is_capture.Tie as tie
 
 between-requires : tie.Need-between-requires
 between-requires c κs = search needs

@@ -1,12 +1,12 @@
--- `record::kinds::same_bytes` meets its contract. Assumes nothing.
+-- `kinds::same_bytes` meets its contract. Assumes nothing.
 use Prim.Native.Nat.{_≤_, _-_}
 use mathlib.Core.Path.{_≡_, refl}
 use borrow.Author.Needs.{needs}
 use lib.ListN.{length, drop}
-use Rattle.record.proofs.KindLaws.{same-later, same-here, same-end, same-not}
-use Rattle.record.specs.Kinds.{same}
-use Rattle.record.proofs.kinds.same_bytes.Statement.{statement}
-use Rattle.record.proofs.kinds.same_bytes.Tie as tie
+use Rattle.kinds.proofs.KindLaws.{same-later, same-here, same-end, same-not}
+use Rattle.kinds.specs.Kinds.{same}
+use Rattle.kinds.proofs.same_bytes.Statement.{statement}
+use Rattle.kinds.proofs.same_bytes.Tie as tie
 
 abbrev Inv-loop : tie.InvT-loop
 Inv-loop a b i₀ i = (i ≤ length a) × (same (drop i a) (drop i b) ≡ same a b)

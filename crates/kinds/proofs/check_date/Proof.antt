@@ -1,9 +1,9 @@
--- `record::kinds::check_date` meets its contract. Assumes nothing.
+-- `kinds::check_date` meets its contract. Assumes nothing.
 use mathlib.Core.Path.{sym, _∙_}
 use borrow.Author.Needs.{needs}
-use Rattle.record.proofs.KindLaws.{date-accepted, no-date}
-use Rattle.record.proofs.kinds.check_date.Statement.{statement}
-use Rattle.record.proofs.kinds.check_date.Tie as tie
+use Rattle.kinds.proofs.KindLaws.{date-accepted, no-date}
+use Rattle.kinds.proofs.check_date.Statement.{statement}
+use Rattle.kinds.proofs.check_date.Tie as tie
 
 read-date-requires : tie.Need-read-date-requires
 read-date-requires c κs = search needs

@@ -1,8 +1,8 @@
--- `record::kinds::is_form` meets its contract. Assumes nothing.
+-- `kinds::is_form` meets its contract. Assumes nothing.
 use borrow.Author.Needs.{needs}
-use Rattle.record.specs.Kinds.{isForm}
-use Rattle.record.proofs.kinds.is_form.Statement.{statement}
-use Rattle.record.proofs.kinds.is_form.Tie as tie
+use Rattle.kinds.specs.Kinds.{isForm}
+use Rattle.kinds.proofs.is_form.Statement.{statement}
+use Rattle.kinds.proofs.is_form.Tie as tie
 
 between-requires : tie.Need-between-requires
 between-requires c κs = search needs

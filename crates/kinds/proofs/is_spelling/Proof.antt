@@ -1,7 +1,7 @@
--- `record::kinds::is_spelling` meets its contract. Assumes nothing.
+-- `kinds::is_spelling` meets its contract. Assumes nothing.
 use borrow.Author.Tests.{eq-eqb, ne-eqb}
-use Rattle.record.proofs.kinds.is_spelling.Statement.{statement}
-use Rattle.record.proofs.kinds.is_spelling.Tie as tie
+use Rattle.kinds.proofs.is_spelling.Statement.{statement}
+use Rattle.kinds.proofs.is_spelling.Tie as tie
 
 returns : tie.Need-returns
 returns c = simp (eq-eqb _ _ (c .if1 .taken))

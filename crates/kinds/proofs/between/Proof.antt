@@ -1,7 +1,7 @@
--- `record::kinds::between` meets its contract. Assumes nothing.
+-- `kinds::between` meets its contract. Assumes nothing.
 use borrow.Author.Tests.{le-leb, lt-leb}
-use Rattle.record.proofs.kinds.between.Statement.{statement}
-use Rattle.record.proofs.kinds.between.Tie as tie
+use Rattle.kinds.proofs.between.Statement.{statement}
+use Rattle.kinds.proofs.between.Tie as tie
 
 returns : tie.Need-returns
 returns c = simp (le-leb _ _ (c .if1 .taken))

@@ -1,8 +1,8 @@
--- `record::kinds::check` meets its contract. Assumes nothing.
+-- `kinds::check` meets its contract. Assumes nothing.
 use borrow.Author.Needs.{needs}
-use Rattle.record.specs.Kinds.{kindAnswer}
-use Rattle.record.proofs.kinds.check.Statement.{statement}
-use Rattle.record.proofs.kinds.check.Tie as tie
+use Rattle.kinds.specs.Kinds.{kindAnswer}
+use Rattle.kinds.proofs.check.Statement.{statement}
+use Rattle.kinds.proofs.check.Tie as tie
 
 enum-known-kind : tie.Need-enum-known-kind
 enum-known-kind c = search needs

@@ -1,9 +1,9 @@
--- `record::kinds::byte_at` meets its contract. Assumes nothing.
+-- `kinds::byte_at` meets its contract. Assumes nothing.
 use mathlib.Core.Path.{sym}
 use borrow.Author.Needs.{needs}
 use lib.ListN.{List·getD-eq-default}
-use Rattle.record.proofs.kinds.byte_at.Statement.{statement}
-use Rattle.record.proofs.kinds.byte_at.Tie as tie
+use Rattle.kinds.proofs.byte_at.Statement.{statement}
+use Rattle.kinds.proofs.byte_at.Tie as tie
 
 shared-slice-read-result : tie.Need-shared-slice-read-result
 shared-slice-read-result c = search needs

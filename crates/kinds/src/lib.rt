@@ -4,7 +4,7 @@ ghost use mathlib.Core.List.{[], _∷_};
 ghost use lib.ListN.{getD};
 ghost use Rattle.answer.specs.Orders.{asked};
 ghost use Rattle.decimal.specs.Bytes.{within};
-ghost use Rattle.record.specs.Kinds.{same, serviceOf, isSpelling, isService, isCapture, isForm, kindAnswer};
+ghost use Rattle.kinds.specs.Kinds.{same, serviceOf, isSpelling, isService, isCapture, isForm, kindAnswer};
 use answer::Answer;
 use answer::Reason;
 use calendar::Dated;
@@ -28,7 +28,7 @@ fn same_bytes(a: &[u8], b: &[u8]) -> bool
 }
 
 // 0 where there is none.
-pub(crate) fn byte_at(part: &[u8], i: usize) -> u8
+pub fn byte_at(part: &[u8], i: usize) -> u8
     ensures { λ r. ⌜ r ≡ getD (now (part .entry)) i 0 ⌝ }
 {
     if i < part.len() { part[i] } else { 0 }
@@ -98,13 +98,13 @@ fn is_service(part: &[u8]) -> bool
     same_bytes(part, &spelled)
 }
 
-pub(crate) fn between(lo: u8, hi: u8, b: u8) -> bool
+pub fn between(lo: u8, hi: u8, b: u8) -> bool
     ensures { λ r. ⌜ r ≡ within lo hi b ⌝ }
 {
     lo <= b && b <= hi
 }
 
-pub(crate) fn is_capture(b: u8) -> bool
+pub fn is_capture(b: u8) -> bool
     ensures { λ r. ⌜ r ≡ isCapture b ⌝ }
 {
     between(49, 54, b) || between(97, 102, b)

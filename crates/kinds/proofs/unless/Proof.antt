@@ -1,6 +1,6 @@
--- `record::kinds::unless` meets its contract. Assumes nothing.
-use Rattle.record.proofs.kinds.unless.Statement.{statement}
-use Rattle.record.proofs.kinds.unless.Tie as tie
+-- `kinds::unless` meets its contract. Assumes nothing.
+use Rattle.kinds.proofs.unless.Statement.{statement}
+use Rattle.kinds.proofs.unless.Tie as tie
 
 returns : tie.Need-returns
 returns c = rw (c .if1 .taken)
