@@ -217,3 +217,16 @@ module _ (bs : List ℕ) (n : length bs ≡ 40) where
         let d = sym e ∙ eq-eqb flag 0 h in
         let t : all (isOf Digit) bs ≡ true = sym forty-digits ∙ d in
         rw (eq-eqb (length bs) 40 n, t, ea d, eb d, forty-sum Ten, forty-sum Eleven)
+
+-- what sums tell of the bytes
+pub sums-tell : (bs : List ℕ) {a b : ℕ} → Both a b ≡ sumsOf bs → (all (isOf Digit) bs ≡ true) × (a ≡ sumOf Ten 0 bs) × (b ≡ sumOf Eleven 0 bs)
+sums-tell bs {a} {b} e = go (eqb (length bs) 40) (all (isOf Digit) bs) e
+  where
+    go : (t u : Bool) → Both a b ≡ cond (t && u) (Both (sumOf Ten 0 bs) (sumOf Eleven 0 bs)) NoSum
+        → (u ≡ true) × (a ≡ sumOf Ten 0 bs) × (b ≡ sumOf Eleven 0 bs)
+    go true true f = (refl, cc, cc)
+    go true false f = let z : _≡_ {A = ℕ} 0 1 = cc in absurd (omega arith)
+    go false u f = let z : _≡_ {A = ℕ} 0 1 = cc in absurd (omega arith)
+
+pub no-sum-tells : (bs : List ℕ) → length bs ≡ 40 → all (isOf Digit) bs ≡ true → NoSum ≡ sumsOf bs → ⊥
+no-sum-tells bs n t e = let f = rw (eq-eqb (length bs) 40 n, t) at e in let z : _≡_ {A = ℕ} 0 1 = cc in omega arith

@@ -48,6 +48,7 @@ one-outcome =
       barcode·check_behind = λ w κs given g r r′ left left′. value w _ _ _ _ _ left;
       barcode·read_fields = λ w κs given g r r′ left left′. value w _ _ _ _ _ left;
       barcode·read_issuer = λ w κs given g r r′ left left′. value w _ _ _ _ _ left;
+      barcode·pays = λ w κs given g r r′ left left′. value w _ _ _ _ _ left;
       barcode·decode = λ w κs given g r r′ left left′. value w _ _ _ _ _ left;
       barcode·free_field = λ w κs given g r r′ left left′. value w _ _ _ _ _ left;
       barcode·builder·build = λ w κs given g r r′ left left′.

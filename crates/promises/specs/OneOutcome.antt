@@ -34,6 +34,7 @@ use Rattle.barcode.proofs.check as barcode·check
 use Rattle.barcode.proofs.check_behind as barcode·check_behind
 use Rattle.barcode.proofs.read_fields as barcode·read_fields
 use Rattle.barcode.proofs.read_issuer as barcode·read_issuer
+use Rattle.barcode.proofs.pays as barcode·pays
 use Rattle.barcode.proofs.decode as barcode·decode
 use Rattle.barcode.proofs.free_field as barcode·free_field
 use Rattle.barcode.proofs.builder.build as barcode·builder·build
@@ -148,6 +149,7 @@ pub record OneOutcome : Type 2 where
   pub barcode·check_behind : One barcode·check_behind.ended (λ M. barcode·check_behind.clauses)
   pub barcode·read_fields : One barcode·read_fields.ended (λ M. barcode·read_fields.clauses)
   pub barcode·read_issuer : One barcode·read_issuer.ended (λ M. barcode·read_issuer.clauses)
+  pub barcode·pays : One barcode·pays.ended (λ M. barcode·pays.clauses)
   pub barcode·decode : One barcode·decode.ended (λ M. barcode·decode.clauses)
   pub barcode·free_field : OneSeen barcode·free_field.ended (λ M. barcode·free_field.clauses) (λ κs. List ℕ) (λ κs r. now r)
   pub barcode·builder·build : One barcode·builder·build.ended (λ M. barcode·builder·build.clauses)
