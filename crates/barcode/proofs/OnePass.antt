@@ -149,3 +149,10 @@ paid-accepts code {i} e = go (barcodeAnswer code) e
     go : (a : Answer) → To i ≡ paysTo a (issuerOf code) → Accepted ≡ a
     go Accepted f = refl
     go (Refused why p) f = let z : _≡_ {A = ℕ} 0 1 = cc in absurd (omega arith)
+
+pub paid-issuer : (code : List ℕ) {i : Issuer} → To i ≡ payeeOf code → i ≡ issuerOf code
+paid-issuer code {i} e = go (barcodeAnswer code) e
+  where
+    go : (a : Answer) → To i ≡ paysTo a (issuerOf code) → i ≡ issuerOf code
+    go Accepted f = cc
+    go (Refused why p) f = let z : _≡_ {A = ℕ} 0 1 = cc in absurd (omega arith)

@@ -51,7 +51,7 @@ use Rattle.layout.proofs.given_length as layout·given_length
 use Rattle.kinds.proofs.check as kinds·check
 use Rattle.kinds.proofs.service as kinds·service
 use Rattle.kinds.proofs.is_capture as kinds·is_capture
-use Rattle.kinds.proofs.between as kinds·between
+use Rattle.kinds.proofs.is_form as kinds·is_form
 use Rattle.kinds.proofs.byte_at as kinds·byte_at
 use Rattle.record.proofs.Decoded.answer as record·Decoded·answer
 use Rattle.fields.proofs.join as fields·join
@@ -166,7 +166,7 @@ pub record OneOutcome : Type 2 where
   pub kinds·check : One kinds·check.ended (λ M. kinds·check.clauses)
   pub kinds·service : One kinds·service.ended (λ M. kinds·service.clauses)
   pub kinds·is_capture : One kinds·is_capture.ended (λ M. kinds·is_capture.clauses)
-  pub kinds·between : One kinds·between.ended (λ M. kinds·between.clauses)
+  pub kinds·is_form : One kinds·is_form.ended (λ M. kinds·is_form.clauses)
   pub kinds·byte_at : One kinds·byte_at.ended (λ M. kinds·byte_at.clauses)
   pub record·Decoded·answer : One record·Decoded·answer.ended (λ M. record·Decoded·answer.clauses)
   pub fields·join : One fields·join.ended (λ M. fields·join.clauses)
