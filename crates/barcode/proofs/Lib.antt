@@ -1,3 +1,4 @@
 pub mod Building
 pub mod Codes
+pub mod OnePass
 pub mod RoundTrips

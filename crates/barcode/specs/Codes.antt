@@ -19,6 +19,8 @@ use Rattle.modulus.specs.declared.Modulus.the-variants.{Ten, Eleven}
 use Rattle.modulus.specs.Checks.{checkOf}
 use Rattle.barcode.specs.declared.Issuer.{Issuer}
 use Rattle.barcode.specs.declared.Fields.{Fields}
+use Rattle.barcode.specs.declared.Payee.{Payee}
+use Rattle.barcode.specs.declared.Payee.the-variants.{To, Nobody}
 use Rattle.barcode.specs.declared.Decoded.{Decoded}
 use Rattle.barcode.specs.declared.Decoded.the-variants.{Read, Refused}
 
@@ -100,6 +102,14 @@ bodyAnswer code = frontAnswer code then asked (generalRight code) WrongGeneralCh
 -- barcode: 1, 2 over all digits, 3, 4, 5, 7
 abbrev pub barcodeAnswer : List ℕ → Answer
 barcodeAnswer code = asked (eqb (length code) codeLength) WrongLength 0 then bodyAnswer code
+
+-- whom it pays: the issuer of a right barcode
+abbrev pub paysTo : Answer → Issuer → Payee
+paysTo answer.Accepted issuer = To issuer
+paysTo (answer.Refused why place) issuer = Nobody
+
+abbrev pub payeeOf : List ℕ → Payee
+payeeOf code = paysTo (barcodeAnswer code) (issuerOf code)
 
 -- What is shown: the fields of an accepted barcode, and its free field; of a refused one the refusal, and the empty stretch.
 

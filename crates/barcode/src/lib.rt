@@ -1,5 +1,6 @@
 // The collection barcode of 44 digits: checked, decoded, and built from its fields.
 pub mod builder;
+mod right;
 
 ghost use mathlib.Core.Path.{_≡_};
 ghost use Prim.Native.Nat.{_+_, _≤_};
@@ -12,6 +13,7 @@ use answer::Reason;
 use calendar::Dated;
 use decimal::Class;
 use modulus::Modulus;
+pub use right::pays;
 
 // The bytes of a barcode.
 pub const LENGTH: usize = 44;
@@ -33,6 +35,12 @@ pub struct Fields {
 pub enum Decoded {
     Read(Fields),
     Refused(Reason, usize),
+}
+
+// Whom a barcode pays.
+pub enum Payee {
+    To(Issuer),
+    Nobody,
 }
 
 pub fn is_segment(segment: u64) -> bool
@@ -136,14 +144,23 @@ fn body(code: &[u8]) -> Answer
     }
 }
 
-// Accepted, or the barcode's first refusal.
-pub fn check(code: &[u8]) -> Answer
+fn asked(code: &[u8]) -> Answer
     ensures { λ r. ⌜ r ≡ barcodeAnswer (now (code .entry)) ⌝ }
 {
     if code.len() != LENGTH {
         return Answer::Refused(Reason::WrongLength, 0);
     }
     body(code)
+}
+
+// Accepted, or the barcode's first refusal, which is looked for only where there is one.
+pub fn check(code: &[u8]) -> Answer
+    ensures { λ r. ⌜ r ≡ barcodeAnswer (now (code .entry)) ⌝ }
+{
+    match pays(code) {
+        Payee::To(_) => Answer::Accepted,
+        Payee::Nobody => asked(code),
+    }
 }
 
 // The same of a barcode that stands behind other bytes, as in a G record.

@@ -98,7 +98,7 @@ fn is_service(part: &[u8]) -> bool
     same_bytes(part, &spelled)
 }
 
-pub fn between(lo: u8, hi: u8, b: u8) -> bool
+fn between(lo: u8, hi: u8, b: u8) -> bool
     ensures { λ r. ⌜ r ≡ within lo hi b ⌝ }
 {
     lo <= b && b <= hi
@@ -110,7 +110,7 @@ pub fn is_capture(b: u8) -> bool
     between(49, 54, b) || between(97, 102, b)
 }
 
-fn is_form(b: u8) -> bool
+pub fn is_form(b: u8) -> bool
     ensures { λ r. ⌜ r ≡ isForm b ⌝ }
 {
     between(49, 51, b)

@@ -101,6 +101,9 @@ fileDateRow = 6
 abbrev pub sequenceRow : ℕ
 sequenceRow = 7
 
+abbrev pub accountRow : ℕ
+accountRow = 12
+
 abbrev pub paidRow : ℕ
 paidRow = 13
 
@@ -119,8 +122,20 @@ tariffRow = 17
 abbrev pub numberRow : ℕ
 numberRow = 18
 
+abbrev pub branchRow : ℕ
+branchRow = 19
+
 abbrev pub captureRow : ℕ
 captureRow = 20
+
+abbrev pub authenticationRow : ℕ
+authenticationRow = 21
+
+abbrev pub formRow : ℕ
+formRow = 22
+
+abbrev pub paymentBlankRow : ℕ
+paymentBlankRow = 23
 
 abbrev pub countRow : ℕ
 countRow = 25

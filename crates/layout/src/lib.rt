@@ -1,4 +1,8 @@
 // The layouts of the three records: one table of their fields.
+pub mod a;
+pub mod g;
+pub mod z;
+
 ghost use mathlib.Core.Path.{_≡_};
 ghost use Rattle.layout.specs.Layouts.{table, rowAt, namedBy, rowsOf, givenOf, givenLength};
 
@@ -52,172 +56,35 @@ pub struct Given {
 pub const LENGTH: usize = 150;
 
 const FIELDS: [Field; 28] = [
-    Field {
-        first: 1,
-        last: 1,
-        kind: Kind::Mark(65),
-    },
-    Field {
-        first: 2,
-        last: 2,
-        kind: Kind::Mark(50),
-    },
-    Field {
-        first: 3,
-        last: 22,
-        kind: Kind::Text,
-    },
-    Field {
-        first: 23,
-        last: 42,
-        kind: Kind::Text,
-    },
-    Field {
-        first: 43,
-        last: 45,
-        kind: Kind::Digits,
-    },
-    Field {
-        first: 46,
-        last: 65,
-        kind: Kind::Text,
-    },
-    Field {
-        first: 66,
-        last: 73,
-        kind: Kind::Date,
-    },
-    Field {
-        first: 74,
-        last: 79,
-        kind: Kind::Digits,
-    },
-    Field {
-        first: 80,
-        last: 81,
-        kind: Kind::Version,
-    },
-    Field {
-        first: 82,
-        last: 98,
-        kind: Kind::Service,
-    },
-    Field {
-        first: 99,
-        last: 150,
-        kind: Kind::Blank,
-    },
-    Field {
-        first: 1,
-        last: 1,
-        kind: Kind::Mark(71),
-    },
-    Field {
-        first: 2,
-        last: 21,
-        kind: Kind::Text,
-    },
-    Field {
-        first: 22,
-        last: 29,
-        kind: Kind::Date,
-    },
-    Field {
-        first: 30,
-        last: 37,
-        kind: Kind::Date,
-    },
-    Field {
-        first: 38,
-        last: 81,
-        kind: Kind::Barcode,
-    },
-    Field {
-        first: 82,
-        last: 93,
-        kind: Kind::Money,
-    },
-    Field {
-        first: 94,
-        last: 100,
-        kind: Kind::Money,
-    },
-    Field {
-        first: 101,
-        last: 108,
-        kind: Kind::Digits,
-    },
-    Field {
-        first: 109,
-        last: 116,
-        kind: Kind::Text,
-    },
-    Field {
-        first: 117,
-        last: 117,
-        kind: Kind::Capture,
-    },
-    Field {
-        first: 118,
-        last: 140,
-        kind: Kind::Text,
-    },
-    Field {
-        first: 141,
-        last: 141,
-        kind: Kind::Form,
-    },
-    Field {
-        first: 142,
-        last: 150,
-        kind: Kind::Blank,
-    },
-    Field {
-        first: 1,
-        last: 1,
-        kind: Kind::Mark(90),
-    },
-    Field {
-        first: 2,
-        last: 7,
-        kind: Kind::Digits,
-    },
-    Field {
-        first: 8,
-        last: 24,
-        kind: Kind::Money,
-    },
-    Field {
-        first: 25,
-        last: 150,
-        kind: Kind::Blank,
-    },
+    a::MARK,
+    a::RETURN,
+    a::AGREEMENT,
+    a::COMPANY,
+    a::BANK,
+    a::BANK_NAME,
+    a::DATE,
+    a::SEQUENCE,
+    a::VERSION,
+    a::SERVICE,
+    a::BLANK,
+    g::MARK,
+    g::ACCOUNT,
+    g::PAID,
+    g::CREDITED,
+    g::BARCODE,
+    g::RECEIVED,
+    g::TARIFF,
+    g::NUMBER,
+    g::BRANCH,
+    g::CAPTURE,
+    g::AUTHENTICATION,
+    g::FORM,
+    g::BLANK,
+    z::MARK,
+    z::COUNT,
+    z::TOTAL,
+    z::BLANK,
 ];
-
-// The rows of what a record is read for.
-pub const BANK: usize = 4;
-
-pub const FILE_DATE: usize = 6;
-
-pub const SEQUENCE: usize = 7;
-
-pub const PAID: usize = 13;
-
-pub const CREDITED: usize = 14;
-
-pub const BARCODE: usize = 15;
-
-pub const RECEIVED: usize = 16;
-
-pub const TARIFF: usize = 17;
-
-pub const NUMBER: usize = 18;
-
-pub const CAPTURE: usize = 20;
-
-pub const COUNT: usize = 25;
-
-pub const TOTAL: usize = 26;
 
 pub fn table() -> [Field; 28]
     ensures { λ r. ⌜ r ≡ table ⌝ }

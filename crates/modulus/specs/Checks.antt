@@ -1,16 +1,18 @@
 -- The two check digits of document 01, over any list of bytes. Assumes nothing.
 use Prim.Native.Nat.{ℕ, _+_, _-_, _*_, _/_, _%_, _≤_, _<_}
-use mathlib.Core.Bool.{true, cond}
+use mathlib.Core.Bool.{true, cond, _&&_}
 use mathlib.Core.List.{List, [], _∷_, _++_}
 use mathlib.Core.Logic.{_↔_, _⊎_}
 use mathlib.Core.Path.{_≡_}
 use lib.Dec.{leb, eqb}
 use lib.ListN.{length, getD, set}
 use Rattle.decimal.specs.declared.Class.the-variants.{Digit}
-use Rattle.decimal.specs.Bytes.{isOf}
+use Rattle.decimal.specs.Bytes.{isOf, all}
 use Rattle.decimal.specs.Numbers.{valueOf}
 use Rattle.modulus.specs.declared.Modulus.{Modulus}
 use Rattle.modulus.specs.declared.Modulus.the-variants.{Ten, Eleven}
+use Rattle.modulus.specs.declared.Summed.{Summed}
+use Rattle.modulus.specs.declared.Summed.the-variants.{Both, NoSum}
 
 abbrev pub sizeOf : Modulus → ℕ
 sizeOf Ten = 10
@@ -44,6 +46,10 @@ ruleOf Eleven rest = cond (leb rest 1) 0 (11 - rest)
 
 abbrev pub checkOf : Modulus → List ℕ → ℕ
 checkOf m bs = ruleOf m (restOf m bs)
+
+-- both sums of forty digits at once; of other bytes none
+abbrev pub sumsOf : List ℕ → Summed
+sumsOf bs = cond (eqb (length bs) 40 && all (isOf Digit) bs) (Both (sumOf Ten 0 bs) (sumOf Eleven 0 bs)) NoSum
 
 -- Promises, over the modulus and over any list.
 

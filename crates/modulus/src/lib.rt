@@ -4,9 +4,19 @@ ghost use Prim.Native.Nat.{_-_, _%_, _≤_, _<_};
 ghost use lib.ListN.{length};
 ghost use Rattle.modulus.specs.Checks.{sizeOf, weightOf, partOf, termOf, sumOf, ruleOf, checkOf};
 
+mod forty;
+
+pub use forty::sums_of_forty;
+
 pub enum Modulus {
     Ten,
     Eleven,
+}
+
+// The sum of digits under modulo 10, and under modulo 11.
+pub enum Summed {
+    Both(u64, u64),
+    NoSum,
 }
 
 // The remainder of a sum; parts of one sum are added first.

@@ -25,6 +25,7 @@ use Rattle.modulus.proofs.remainder as modulus·remainder
 use Rattle.modulus.proofs.rule as modulus·rule
 use Rattle.modulus.proofs.rest as modulus·rest
 use Rattle.modulus.proofs.check as modulus·check
+use Rattle.modulus.proofs.sums_of_forty as modulus·sums_of_forty
 use Rattle.barcode.proofs.is_segment as barcode·is_segment
 use Rattle.barcode.proofs.is_kind as barcode·is_kind
 use Rattle.barcode.proofs.named as barcode·named
@@ -33,6 +34,7 @@ use Rattle.barcode.proofs.check as barcode·check
 use Rattle.barcode.proofs.check_behind as barcode·check_behind
 use Rattle.barcode.proofs.read_fields as barcode·read_fields
 use Rattle.barcode.proofs.read_issuer as barcode·read_issuer
+use Rattle.barcode.proofs.pays as barcode·pays
 use Rattle.barcode.proofs.decode as barcode·decode
 use Rattle.barcode.proofs.free_field as barcode·free_field
 use Rattle.barcode.proofs.builder.build as barcode·builder·build
@@ -49,7 +51,7 @@ use Rattle.layout.proofs.given_length as layout·given_length
 use Rattle.kinds.proofs.check as kinds·check
 use Rattle.kinds.proofs.service as kinds·service
 use Rattle.kinds.proofs.is_capture as kinds·is_capture
-use Rattle.kinds.proofs.between as kinds·between
+use Rattle.kinds.proofs.is_form as kinds·is_form
 use Rattle.kinds.proofs.byte_at as kinds·byte_at
 use Rattle.record.proofs.Decoded.answer as record·Decoded·answer
 use Rattle.fields.proofs.join as fields·join
@@ -138,6 +140,7 @@ pub record OneOutcome : Type 2 where
   pub modulus·rule : One modulus·rule.ended (λ M. modulus·rule.clauses)
   pub modulus·rest : One modulus·rest.ended (λ M. modulus·rest.clauses)
   pub modulus·check : One modulus·check.ended (λ M. modulus·check.clauses)
+  pub modulus·sums_of_forty : One modulus·sums_of_forty.ended (λ M. modulus·sums_of_forty.clauses)
   pub barcode·is_segment : One barcode·is_segment.ended (λ M. barcode·is_segment.clauses)
   pub barcode·is_kind : One barcode·is_kind.ended (λ M. barcode·is_kind.clauses)
   pub barcode·named : One barcode·named.ended (λ M. barcode·named.clauses)
@@ -146,6 +149,7 @@ pub record OneOutcome : Type 2 where
   pub barcode·check_behind : One barcode·check_behind.ended (λ M. barcode·check_behind.clauses)
   pub barcode·read_fields : One barcode·read_fields.ended (λ M. barcode·read_fields.clauses)
   pub barcode·read_issuer : One barcode·read_issuer.ended (λ M. barcode·read_issuer.clauses)
+  pub barcode·pays : One barcode·pays.ended (λ M. barcode·pays.clauses)
   pub barcode·decode : One barcode·decode.ended (λ M. barcode·decode.clauses)
   pub barcode·free_field : OneSeen barcode·free_field.ended (λ M. barcode·free_field.clauses) (λ κs. List ℕ) (λ κs r. now r)
   pub barcode·builder·build : One barcode·builder·build.ended (λ M. barcode·builder·build.clauses)
@@ -162,7 +166,7 @@ pub record OneOutcome : Type 2 where
   pub kinds·check : One kinds·check.ended (λ M. kinds·check.clauses)
   pub kinds·service : One kinds·service.ended (λ M. kinds·service.clauses)
   pub kinds·is_capture : One kinds·is_capture.ended (λ M. kinds·is_capture.clauses)
-  pub kinds·between : One kinds·between.ended (λ M. kinds·between.clauses)
+  pub kinds·is_form : One kinds·is_form.ended (λ M. kinds·is_form.clauses)
   pub kinds·byte_at : One kinds·byte_at.ended (λ M. kinds·byte_at.clauses)
   pub record·Decoded·answer : One record·Decoded·answer.ended (λ M. record·Decoded·answer.clauses)
   pub fields·join : One fields·join.ended (λ M. fields·join.clauses)

@@ -1,11 +1,10 @@
 -- Laws of what an accepted record shows. Assumes nothing.
-use Prim.Native.Nat.{ℕ, _+_, _-_, _≤_, _<_}
-use mathlib.Core.Bool.{true}
+use Prim.Native.Nat.{ℕ, _+_, _-_, _≤_}
 use mathlib.Core.List.{List}
-use mathlib.Core.Path.{_≡_, refl, ap, _∙_}
+use mathlib.Core.Path.{_≡_, refl, _∙_}
 use native.Mathlib.Omega.{arith}
-use borrow.Author.Tests.{eq-eqb, eqb-true, ltb-true, leb-true}
-use lib.Dec.{eqb, ltb, leb}
+use borrow.Author.Tests.{eq-eqb, eqb-true}
+use lib.Dec.{eqb}
 use lib.ListN.{length, getD, drop, length-drop}
 use lib.Seq.{length-take-le}
 use Rattle.answer.specs.declared.Reason.the-variants.{WrongLength}
@@ -15,8 +14,6 @@ use Rattle.answer.specs.Orders.{asked}
 use Rattle.answer.proofs.Orders.{asked-accepts, then-accepts}
 use Rattle.decimal.specs.Numbers.{heldOf, numberOf}
 use Rattle.decimal.proofs.Numbers.{nineteen-are-held}
-use Rattle.calendar.specs.declared.Date.{Date}
-use Rattle.calendar.specs.Dates.{dateOf}
 use Rattle.barcode.specs.declared.Fields.{Fields}
 use Rattle.barcode.specs.Codes.{fieldsOf, readOf}
 use Rattle.layout.specs.declared.Field.{Field}
@@ -24,11 +21,10 @@ use Rattle.layout.specs.declared.Named.{Named}
 use Rattle.layout.specs.declared.Named.the-variants.{Is, Other}
 use Rattle.layout.specs.declared.Record.{Record}
 use Rattle.layout.specs.declared.Record.the-variants.{Header, Payment, Trailer}
-use Rattle.layout.specs.Layouts.{recordLength, namedBy, noField, rowAt, table, layoutOf}
-use Rattle.layout.proofs.Layouts.{Lies, row-lies}
-use Rattle.layout.proofs.Tables.{getD-any}
+use Rattle.layout.specs.Layouts.{recordLength, namedBy}
+use Rattle.layout.proofs.Layouts.{Lies}
 use Rattle.record.specs.Records.{partOf, bodyAnswer, namedAnswer, recordAnswer}
-use Rattle.record.specs.Values.{dayOf, shownOf, answerOf, unlessRefused, DecodeAnswers}
+use Rattle.record.specs.Values.{shownOf, answerOf, unlessRefused, DecodeAnswers}
 
 -- an accepted record has 150 bytes, and its named layout accepts
 pub accepted-is : (rec : List ℕ) → recordAnswer rec ≡ Accepted
@@ -56,34 +52,6 @@ pub code-read : (f : Field) (rec : List ℕ) {r : Fields} → Lies f → f .last
 code-read f rec l w n e =
     let k : length (partOf f rec) ≡ 44 = part-length f rec l n ∙ omega (arith, w, l .start) in
     e ∙ rw (eq-eqb (length (partOf f rec)) 44 k)
-
--- A row that is named by its number, in a copy of the table.
-module _ (i : ℕ) (d : Field) {copy : List Field} (t : copy ≡ table) (h : ltb i 28 ≡ true) where
-  in-table : i < length table
-  unfolding table layoutOf
-  in-table = ltb-true i 28 h
-
-  pub placed : Lies (getD copy i d)
-  placed = rw t (row-lies i d in-table)
-
-  pub row-is : getD copy i d ≡ rowAt i
-  unfolding rowAt
-  row-is = rw t (getD-any table i d noField in-table)
-
-  pub short : leb (rowAt i .last) (rowAt i .first + 18) ≡ true → getD copy i d .last ≤ getD copy i d .first + 18
-  short e = rw row-is (leb-true (rowAt i .last) (rowAt i .first + 18) e)
-
-  pub number-read : (rec : List ℕ) {r : ℕ} → r ≡ numberOf (partOf (getD copy i d) rec) → r ≡ numberOf (partOf (rowAt i) rec)
-  number-read rec e = e ∙ ap (λ (f : Field). numberOf (partOf f rec)) row-is
-
-  pub wide-code : (rowAt i .last) ≡ (rowAt i .first + 43) → getD copy i d .last ≡ getD copy i d .first + 43
-  wide-code e = rw row-is e
-
-  pub fields-read : (rec : List ℕ) {r : Fields} → r ≡ fieldsOf (partOf (getD copy i d) rec) → r ≡ fieldsOf (partOf (rowAt i) rec)
-  fields-read rec e = e ∙ ap (λ (f : Field). fieldsOf (partOf f rec)) row-is
-
-  pub date-read : (rec : List ℕ) {r : Date} → r ≡ dayOf (dateOf (partOf (getD copy i d) rec)) → r ≡ dayOf (dateOf (partOf (rowAt i) rec))
-  date-read rec e = e ∙ ap (λ (f : Field). dayOf (dateOf (partOf f rec))) row-is
 
 pub decode-answers : DecodeAnswers
 decode-answers rec = go (recordAnswer rec) (namedBy (getD rec 0 0)) refl (accepted-is rec)

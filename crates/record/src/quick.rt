@@ -1,120 +1,174 @@
-// A quick look at a G: it only ever says that the walk along the table accepts. What is wrong, and where, the walk says.
-ghost use Prim.Native.Nat.{_<_};
+// A quick look at a G: what it pays, where all its fields hold. What is wrong, and where, the walk says.
+ghost use Prim.Native.Nat.{_≤_};
 ghost use mathlib.Core.Bool.{true, cond, _&&_};
+ghost use mathlib.Core.Logic.{_⊎_};
 ghost use mathlib.Core.Path.{_≡_};
-ghost use lib.Dec.{eqb};
 ghost use lib.ListN.{length};
 ghost use Rattle.answer.specs.declared.Answer.the-variants as answers;
-ghost use Rattle.decimal.specs.Bytes.{within};
-ghost use Rattle.layout.specs.Layouts.{recordLength, layoutOf, rowAt, captureRow, barcodeRow};
+ghost use Rattle.decimal.specs.Bytes.{isOf, all};
 ghost use Rattle.kinds.specs.Kinds.{kindAnswer};
-ghost use Rattle.record.specs.Pictures.{lowestOf, highestOf, picture, fits, fitAll};
-ghost use Rattle.record.specs.Records.{partOf, bodyAnswer};
+ghost use Rattle.layout.specs.Layouts.{recordLength, namedBy};
+ghost use Rattle.layout.proofs.Layouts.{Lies};
+ghost use Rattle.record.specs.Looks.{spanOf, isPlain, isCoded, LooksPaid};
+ghost use Rattle.record.specs.Records.{partOf};
+ghost use Rattle.record.specs.Values.{decodeOf, paysOf};
+use crate::Pays;
 use crate::walk;
-use answer::Answer;
+use barcode::Payee;
 use calendar::Dated;
+use decimal::Class;
+use layout::Field;
 use layout::Kind;
+use layout::Named;
 use layout::Record;
+use layout::g;
 
-fn is_upper_text(high: u8, b: u8) -> bool
-    ensures { λ r. ⌜ r ≡ (eqb high 126 && within 160 255 b) ⌝ }
+fn flag(b: u8) -> u8
+    ensures { λ r. ⌜ r ≡ cond (isOf Class.Text b) 0 1 ⌝ }
 {
-    high == 126 && kinds::between(160, 255, b)
+    if decimal::is_of(Class::Text, b) { 0 } else { 1 }
 }
 
-fn fits_in(low: u8, high: u8, b: u8) -> bool
-    ensures { λ r. ⌜ r ≡ fits low high b ⌝ }
+fn flag_of(x: u8, y: u8, z: u8, w: u8) -> u8
+    ensures { λ r. ⌜ r ≡ cond ((isOf Class.Text x && isOf Class.Text y) && (isOf Class.Text z && isOf Class.Text w)) 0 1 ⌝ }
 {
-    kinds::between(low, high, b) || is_upper_text(high, b)
+    (flag(x) | flag(y)) | (flag(z) | flag(w))
 }
 
-fn flag(low: u8, high: u8, b: u8) -> u8
-    ensures { λ r. ⌜ r ≡ cond (fits low high b) 0 1 ⌝ }
-{
-    if fits_in(low, high, b) { 0 } else { 1 }
-}
-
-// One flag over all places and no early end: such a loop is made wide by the compiler.
-fn looks_like(rec: &[u8], low: &[u8], high: &[u8]) -> bool
-    requires { ⌜ length (now rec) ≡ length (now low) ⌝ }
-    requires { ⌜ length (now rec) ≡ length (now high) ⌝ }
-    ensures { λ r. ⌜ r ≡ fitAll (now (rec .entry)) (now (low .entry)) (now (high .entry)) ⌝ }
+// Four rows of sixteen bytes under one flag, with no early end: such a loop is made wide by the compiler.
+fn text_rows(x: &[u8], y: &[u8], z: &[u8], w: &[u8]) -> bool
+    requires { ⌜ (length (now x) ≡ 16) × (length (now y) ≡ 16) × (length (now z) ≡ 16) × (length (now w) ≡ 16) ⌝ }
+    ensures { λ r. ⌜ r ≡ ((all (isOf Class.Text) (now (x .entry)) && all (isOf Class.Text) (now (y .entry))) && (all (isOf Class.Text) (now (z .entry)) && all (isOf Class.Text) (now (w .entry)))) ⌝ }
 {
     let mut flags: u8 = 0;
     let mut i = 0;
-    while i < rec.len() {
-        flags = flags | flag(low[i], high[i], rec[i]);
+    while i < 16 {
+        flags = flags | flag_of(x[i], y[i], z[i], w[i]);
         i += 1;
     }
     flags == 0
 }
 
-// At each place the lowest byte, and below it the highest; `~` is the highest of text.
-fn looks_like_payment(rec: &[u8]) -> bool
-    requires { ⌜ length (now rec) ≡ recordLength ⌝ }
-    ensures { λ r. ⌜ r ≡ fitAll (now (rec .entry)) (picture lowestOf (layoutOf Record.Payment)) (picture highestOf (layoutOf Record.Payment)) ⌝ }
+// Each part has from 16 to 32 bytes: its first sixteen and its last are all of it.
+fn are_text(part: &[u8], other: &[u8]) -> bool
+    requires { ⌜ (16 ≤ length (now part)) × (length (now part) ≤ 32) ⌝ }
+    requires { ⌜ (16 ≤ length (now other)) × (length (now other) ≤ 32) ⌝ }
+    ensures { λ r. ⌜ r ≡ (all (isOf Class.Text) (now (part .entry)) && all (isOf Class.Text) (now (other .entry))) ⌝ }
 {
-    looks_like(
-        rec,
-        b"G                    000000000000000000000000000000000000000000000000000000000000000000000000000000000000000        1                       1         ",
-        b"G~~~~~~~~~~~~~~~~~~~~999999999999999999999999999999999999999999999999999999999999999999999999999999999999999~~~~~~~~f~~~~~~~~~~~~~~~~~~~~~~~3         ",
+    let n = part.len();
+    let m = other.len();
+    text_rows(
+        &part[0..16],
+        &part[n - 16..n],
+        &other[0..16],
+        &other[m - 16..m],
     )
 }
 
-fn is_dated(rec: &[u8], row: usize) -> bool
-    requires { ⌜ length (now rec) ≡ recordLength ⌝ }
-    requires { ⌜ row < 28 ⌝ }
-    ensures { λ r. ⌜ (r ≡ true → kindAnswer Kind.Date (partOf (rowAt row) (now (rec .entry))) ≡ answers.Accepted) ⌝ }
+fn are_digits(part: &[u8]) -> bool
+    requires { ⌜ (16 ≤ length (now part)) × (length (now part) ≤ 32) ⌝ }
+    ensures { λ r. ⌜ r ≡ all (isOf Class.Digit) (now (part .entry)) ⌝ }
 {
-    match calendar::read_date(walk::part_of(rec, layout::row(row))) {
+    let n = part.len();
+    if !decimal::all_of(Class::Digit, &part[0..16]) {
+        return false;
+    }
+    decimal::all_of(Class::Digit, &part[n - 16..n])
+}
+
+// The bytes of neighbouring fields.
+fn span(rec: &[u8], from: Field, to: Field) -> &[u8]
+    requires { ⌜ length (now rec) ≡ recordLength ⌝ }
+    requires { ⌜ (Lies from) × (Lies to) × (from .first ≤ to .last) ⌝ }
+    ensures { λ r. ⌜ now r ≡ spanOf from to (now (rec .entry)) ⌝ }
+{
+    let first = from.first;
+    let last = to.last;
+    &rec[first - 1..last]
+}
+
+// Text, with the capture between; digits; blanks.
+fn is_plain(rec: &[u8]) -> bool
+    requires { ⌜ length (now rec) ≡ recordLength ⌝ }
+    ensures { λ r. ⌜ r ≡ isPlain (now (rec .entry)) ⌝ }
+{
+    if !are_text(
+        walk::part_of(rec, g::ACCOUNT),
+        span(rec, g::BRANCH, g::AUTHENTICATION),
+    ) {
+        return false;
+    }
+    if !are_digits(span(rec, g::RECEIVED, g::NUMBER)) {
+        return false;
+    }
+    decimal::all_of(Class::Blank, walk::part_of(rec, g::BLANK))
+}
+
+fn is_coded(rec: &[u8]) -> bool
+    requires { ⌜ length (now rec) ≡ recordLength ⌝ }
+    ensures { λ r. ⌜ r ≡ isCoded (now (rec .entry)) ⌝ }
+{
+    if !kinds::is_capture(kinds::byte_at(walk::part_of(rec, g::CAPTURE), 0)) {
+        return false;
+    }
+    kinds::is_form(kinds::byte_at(walk::part_of(rec, g::FORM), 0))
+}
+
+fn is_dated(rec: &[u8], f: Field) -> bool
+    requires { ⌜ length (now rec) ≡ recordLength ⌝ }
+    requires { ⌜ Lies f ⌝ }
+    ensures { λ r. ⌜ (r ≡ true → kindAnswer Kind.Date (partOf f (now (rec .entry))) ≡ answers.Accepted) ⌝ }
+{
+    match calendar::read_date(walk::part_of(rec, f)) {
         Dated::On(_) => true,
         Dated::NoDate => false,
     }
 }
 
-fn is_captured(rec: &[u8]) -> bool
-    requires { ⌜ length (now rec) ≡ recordLength ⌝ }
-    ensures { λ r. ⌜ (r ≡ true → kindAnswer Kind.Capture (partOf (rowAt captureRow) (now (rec .entry))) ≡ answers.Accepted) ⌝ }
+fn is_payment(mark: u8) -> bool
+    ensures { λ r. ⌜ (r ≡ true → namedBy mark ≡ Named.Is Record.Payment) ⌝ }
 {
-    kinds::is_capture(kinds::byte_at(walk::part_of(rec, layout::row(layout::CAPTURE)), 0))
-}
-
-fn is_coded(rec: &[u8]) -> bool
-    requires { ⌜ length (now rec) ≡ recordLength ⌝ }
-    ensures { λ r. ⌜ (r ≡ true → kindAnswer Kind.Barcode (partOf (rowAt barcodeRow) (now (rec .entry))) ≡ answers.Accepted) ⌝ }
-{
-    match barcode::check(walk::part_of(rec, layout::row(layout::BARCODE))) {
-        Answer::Accepted => true,
-        Answer::Refused(_, _) => false,
+    match layout::named_by(mark) {
+        Named::Is(which) => match which {
+            Record::Header => false,
+            Record::Payment => true,
+            Record::Trailer => false,
+        },
+        Named::Other => false,
     }
 }
 
-fn holds_payment(rec: &[u8]) -> bool
+// All fields but the barcode.
+fn looks_like_payment(rec: &[u8]) -> bool
     requires { ⌜ length (now rec) ≡ recordLength ⌝ }
-    ensures { λ r. ⌜ (r ≡ true → bodyAnswer Record.Payment (now (rec .entry)) ≡ answers.Accepted) ⌝ }
+    ensures { λ r. ⌜ (r ≡ true → LooksPaid (now (rec .entry))) ⌝ }
 {
+    if !is_payment(rec[0]) {
+        return false;
+    }
+    if !is_plain(rec) {
+        return false;
+    }
+    if !is_coded(rec) {
+        return false;
+    }
+    if !is_dated(rec, g::PAID) {
+        return false;
+    }
+    is_dated(rec, g::CREDITED)
+}
+
+pub(crate) fn pays(rec: &[u8]) -> Pays
+    ensures { λ r. ⌜ (r ≡ Pays.Nothing) ⊎ (r ≡ paysOf (decodeOf (now (rec .entry)))) ⌝ }
+{
+    if rec.len() != layout::LENGTH {
+        return Pays::Nothing;
+    }
     if !looks_like_payment(rec) {
-        return false;
+        return Pays::Nothing;
     }
-    if !is_dated(rec, layout::PAID) {
-        return false;
-    }
-    if !is_dated(rec, layout::CREDITED) {
-        return false;
-    }
-    if !is_captured(rec) {
-        return false;
-    }
-    is_coded(rec)
-}
-
-pub(crate) fn holds(which: Record, rec: &[u8]) -> bool
-    requires { ⌜ length (now rec) ≡ recordLength ⌝ }
-    ensures { λ r. ⌜ (r ≡ true → bodyAnswer which (now (rec .entry)) ≡ answers.Accepted) ⌝ }
-{
-    match which {
-        Record::Header => false,
-        Record::Payment => holds_payment(rec),
-        Record::Trailer => false,
+    match barcode::pays(walk::part_of(rec, g::BARCODE)) {
+        Payee::To(issuer) => Pays::To(issuer, decimal::number(walk::part_of(rec, g::RECEIVED))),
+        Payee::Nobody => Pays::Nothing,
     }
 }

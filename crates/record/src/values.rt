@@ -14,16 +14,19 @@ use crate::Header;
 use crate::Payment;
 use crate::Pays;
 use crate::Trailer;
+use crate::quick;
 use crate::walk;
 use answer::Answer;
 use answer::Reason;
 use barcode::Fields;
-use barcode::Issuer;
 use calendar::Date;
 use calendar::Dated;
 use layout::Field;
 use layout::Named;
 use layout::Record;
+use layout::a;
+use layout::g;
+use layout::z;
 
 fn number_in(rec: &[u8], f: Field) -> u64
     requires { ⌜ length (now rec) ≡ recordLength ⌝ }
@@ -62,11 +65,10 @@ fn read_header(rec: &[u8]) -> Header
     requires { ⌜ length (now rec) ≡ recordLength ⌝ }
     ensures { λ r. ⌜ r ≡ headerOf (now (rec .entry)) ⌝ }
 {
-    let table = layout::table();
     Header {
-        bank: number_in(rec, table[layout::BANK]),
-        date: date_in(rec, table[layout::FILE_DATE]),
-        sequence: number_in(rec, table[layout::SEQUENCE]),
+        bank: number_in(rec, a::BANK),
+        date: date_in(rec, a::DATE),
+        sequence: number_in(rec, a::SEQUENCE),
     }
 }
 
@@ -74,14 +76,13 @@ fn read_payment(rec: &[u8]) -> Payment
     requires { ⌜ length (now rec) ≡ recordLength ⌝ }
     ensures { λ r. ⌜ r ≡ paymentOf (now (rec .entry)) ⌝ }
 {
-    let table = layout::table();
     Payment {
-        paid: date_in(rec, table[layout::PAID]),
-        credited: date_in(rec, table[layout::CREDITED]),
-        barcode: fields_in(rec, table[layout::BARCODE]),
-        received: number_in(rec, table[layout::RECEIVED]),
-        tariff: number_in(rec, table[layout::TARIFF]),
-        number: number_in(rec, table[layout::NUMBER]),
+        paid: date_in(rec, g::PAID),
+        credited: date_in(rec, g::CREDITED),
+        barcode: fields_in(rec, g::BARCODE),
+        received: number_in(rec, g::RECEIVED),
+        tariff: number_in(rec, g::TARIFF),
+        number: number_in(rec, g::NUMBER),
     }
 }
 
@@ -89,10 +90,9 @@ fn read_trailer(rec: &[u8]) -> Trailer
     requires { ⌜ length (now rec) ≡ recordLength ⌝ }
     ensures { λ r. ⌜ r ≡ trailerOf (now (rec .entry)) ⌝ }
 {
-    let table = layout::table();
     Trailer {
-        count: number_in(rec, table[layout::COUNT]),
-        total: number_in(rec, table[layout::TOTAL]),
+        count: number_in(rec, z::COUNT),
+        total: number_in(rec, z::TOTAL),
     }
 }
 
@@ -119,39 +119,29 @@ pub fn decode(rec: &[u8]) -> Decoded
     }
 }
 
-fn issuer_in(rec: &[u8], f: Field) -> Issuer
-    requires { ⌜ length (now rec) ≡ recordLength ⌝ }
-    requires { ⌜ Lies f ⌝ }
-    requires { ⌜ f .last ≡ f .first + 43 ⌝ }
-    ensures { λ r. ⌜ r ≡ issuerOf (partOf f (now (rec .entry))) ⌝ }
+fn pays_of(decoded: Decoded) -> Pays
+    ensures { λ r. ⌜ r ≡ paysOf decoded ⌝ }
 {
-    barcode::read_issuer(walk::part_of(rec, f))
-}
-
-fn read_pays(rec: &[u8]) -> Pays
-    requires { ⌜ length (now rec) ≡ recordLength ⌝ }
-    ensures { λ r. ⌜ r ≡ paysOf (shownOf (namedBy (getD (now (rec .entry)) 0 0)) (now (rec .entry))) ⌝ }
-{
-    match layout::named_by(rec[0]) {
-        Named::Is(which) => match which {
-            Record::Header => Pays::Nothing,
-            Record::Payment => Pays::To(
-                issuer_in(rec, layout::row(layout::BARCODE)),
-                number_in(rec, layout::row(layout::RECEIVED)),
-            ),
-            Record::Trailer => Pays::Nothing,
-        },
-        Named::Other => Pays::Nothing,
+    match decoded {
+        Decoded::Header(_) => Pays::Nothing,
+        Decoded::Payment(payment) => {
+            let code = payment.barcode;
+            let issuer = code.issuer;
+            Pays::To(issuer, payment.received)
+        }
+        Decoded::Trailer(_) => Pays::Nothing,
+        Decoded::Refused(_, _) => Pays::Nothing,
     }
 }
 
-// Of an accepted payment only what a session needs: decoding the rest of it would cost as much again.
+// Of an accepted payment only what a session needs; decoding the rest of it would cost as much again.
 pub fn paid(rec: &[u8]) -> Pays
     ensures { λ r. ⌜ r ≡ paysOf (decodeOf (now (rec .entry))) ⌝ }
 {
-    match walk::check(rec) {
-        Answer::Accepted => read_pays(rec),
-        Answer::Refused(_, _) => Pays::Nothing,
+    let pays = quick::pays(rec);
+    match pays {
+        Pays::To(_, _) => pays,
+        Pays::Nothing => pays_of(decode(rec)),
     }
 }
 

@@ -4,6 +4,7 @@ ghost use lib.ListN.{length};
 ghost use Rattle.layout.specs.Layouts.{recordLength};
 ghost use Rattle.layout.proofs.Layouts.{Lies};
 ghost use Rattle.record.specs.Records.{partOf, fieldAnswer, bodyAnswer, recordAnswer};
+use crate::Pays;
 use crate::quick;
 use answer::Answer;
 use answer::Reason;
@@ -55,26 +56,25 @@ fn body_answer(which: Record, rec: &[u8]) -> Answer
     Answer::Accepted
 }
 
-// The quick look accepts nothing that the walk refuses.
-fn look_or_walk(which: Record, rec: &[u8]) -> Answer
-    requires { ⌜ length (now rec) ≡ recordLength ⌝ }
-    ensures { λ r. ⌜ r ≡ bodyAnswer which (now (rec .entry)) ⌝ }
-{
-    if quick::holds(which, rec) {
-        return Answer::Accepted;
-    }
-    body_answer(which, rec)
-}
-
 // A record alone: its length, what it is, then its fields.
-pub fn check(rec: &[u8]) -> Answer
+fn walked(rec: &[u8]) -> Answer
     ensures { λ r. ⌜ r ≡ recordAnswer (now (rec .entry)) ⌝ }
 {
     if rec.len() != layout::LENGTH {
         return Answer::Refused(Reason::WrongLength, 0);
     }
     match layout::named_by(rec[0]) {
-        Named::Is(which) => look_or_walk(which, rec),
+        Named::Is(which) => body_answer(which, rec),
         Named::Other => Answer::Refused(Reason::NotExpected, 1),
+    }
+}
+
+// What pays is accepted; else the walk looks for a refusal.
+pub fn check(rec: &[u8]) -> Answer
+    ensures { λ r. ⌜ r ≡ recordAnswer (now (rec .entry)) ⌝ }
+{
+    match quick::pays(rec) {
+        Pays::To(_, _) => Answer::Accepted,
+        Pays::Nothing => walked(rec),
     }
 }

@@ -1,18 +1,28 @@
 -- `barcode::check` meets its contract. Assumes nothing.
 use borrow.Author.Needs.{needs}
-use borrow.Author.Tests.{eq-eqb, ne-eqb}
-use Rattle.answer.proofs.Steps.{stops, goes}
+use mathlib.Core.Path.{sym, _∙_}
+use Rattle.barcode.proofs.OnePass.{paid-accepts}
 use Rattle.barcode.proofs.check.Statement.{statement}
 use Rattle.barcode.proofs.check.Tie as tie
 
-returns : tie.Need-returns
-returns c = stops _ _ _ _ (ne-eqb _ _ (c .if1 .taken))
+pays-requires : tie.Need-pays-requires
+pays-requires c κs = search needs
 
-body-requires : tie.Need-body-requires
-body-requires c κs = search needs
+enum-told : tie.Need-enum-told
+enum-told c = search needs
+
+enum-told-2 : tie.Need-enum-told-2
+enum-told-2 c = search needs
+
+asked-requires : tie.Need-asked-requires
+asked-requires c κs = search needs
+
+returns : tie.Need-returns
+returns c = paid-accepts (c .before .before .before .before .args .code .now) (sym (c .enum-told .given .1) ∙ c .before .before .pays .ensures)
 
 returns-2 : tie.Need-returns-2
-returns-2 c = goes _ _ _ (eq-eqb _ _ (c .before .if1 .left)) (c .body .ensures)
+returns-2 c = search needs
 
 pub check-spec : {M : Type 1} → statement M
-check-spec = tie.close (tie.spec returns body-requires returns-2)
+check-spec =
+    tie.close (tie.spec pays-requires enum-told enum-told-2 asked-requires returns returns-2)

@@ -4,14 +4,14 @@ use borrow.Author.Needs.{needs}
 use Rattle.record.proofs.quick.flag.Statement.{statement}
 use Rattle.record.proofs.quick.flag.Tie as tie
 
-fits-in-requires : tie.Need-fits-in-requires
-fits-in-requires c κs = search needs
+is-of-requires : tie.Need-is-of-requires
+is-of-requires c κs = search needs
 
 returns : tie.Need-returns
-returns c = simp (sym (c .before .fits-in .ensures) ∙ c .if1 .taken)
+returns c = simp (sym (c .before .is-of .ensures) ∙ c .if1 .taken)
 
 returns-2 : tie.Need-returns-2
-returns-2 c = simp (sym (c .before .fits-in .ensures) ∙ c .if1 .left)
+returns-2 c = simp (sym (c .before .is-of .ensures) ∙ c .if1 .left)
 
 pub flag-spec : {M : Type 1} → statement M
-flag-spec = tie.close (tie.spec fits-in-requires returns returns-2)
+flag-spec = tie.close (tie.spec is-of-requires returns returns-2)

@@ -1,42 +1,51 @@
 -- `record::quick::is_coded` meets its contract. Assumes nothing.
-use mathlib.Core.Path.{sym, ap, _∙_}
-use lib.Dec.{lit<}
-use Rattle.barcode.specs.Codes.{barcodeAnswer}
-use Rattle.layout.specs.declared.Field.{Field}
-use Rattle.layout.specs.Layouts.{barcodeRow}
-use Rattle.kinds.specs.Kinds.{kindAnswer}
-use Rattle.record.specs.Records.{partOf}
-use Rattle.record.proofs.Walks.{numbered}
 use borrow.Author.Needs.{needs}
+use Prim.Native.Nat.{ℕ}
+use mathlib.Core.List.{List}
+use mathlib.Core.Path.{ap, _∙_}
+use lib.ListN.{getD}
+use Rattle.kinds.specs.Kinds.{isCapture, isForm}
+use borrow.Author.Tests.{not-true, not-false}
+use Rattle.layout.specs.Layouts.{rowAt, table, layoutOf}
+use Rattle.record.proofs.Looks.{capture-fails, form-is}
 use Rattle.record.proofs.quick.is_coded.Statement.{statement}
 use Rattle.record.proofs.quick.is_coded.Tie as tie
 
-row-requires : tie.Need-row-requires
-row-requires c κs = search needs
-
 part-of-requires : tie.Need-part-of-requires
-part-of-requires c κs = (c .before .before .pre, numbered barcodeRow (c .row .ensures) (lit< tt))
+part-of-requires c κs = search needs
 
-check-requires : tie.Need-check-requires
-check-requires c κs = search needs
+byte-at-requires : tie.Need-byte-at-requires
+byte-at-requires c κs = search needs
 
-enum-told : tie.Need-enum-told
-enum-told c = search needs
-
-enum-told-2 : tie.Need-enum-told-2
-enum-told-2 c = search needs
+is-capture-requires : tie.Need-is-capture-requires
+is-capture-requires c κs = search needs
 
 returns : tie.Need-returns
-unfolding kindAnswer
-returns c =
-    let s = c .before .before .before .before .before .before in
-    let part = c .before .before .before .part-of .ensures ∙ ap (λ (f : Field). partOf f (s .args .rec .now)) (c .before .before .before .before .row .ensures) in
-    λ t. ap barcodeAnswer (sym part) ∙ sym (c .before .before .check .ensures) ∙ c .enum-told .given .1
+unfolding rowAt table layoutOf
+returns c = capture-fails (c .before .before .before .before .before .args .rec .now) (c .before .is-capture .ensures ∙ ap isCapture (c .before .before .byte-at .ensures ∙ ap (λ (l : List ℕ). getD l 0 0) (c .before .before .before .part-of .ensures))) (not-true _ (c .if1 .taken))
+
+part-of-requires-2 : tie.Need-part-of-requires-2
+part-of-requires-2 c κs = search needs
+
+byte-at-requires-2 : tie.Need-byte-at-requires-2
+byte-at-requires-2 c κs = search needs
+
+is-form-requires : tie.Need-is-form-requires
+is-form-requires c κs = search needs
 
 returns-2 : tie.Need-returns-2
-returns-2 c = λ t. cc
+unfolding rowAt table layoutOf
+returns-2 c = form-is (c .before .before .before .before .before .before .before .before .args .rec .now) (c .before .before .before .before .is-capture .ensures ∙ ap isCapture (c .before .before .before .before .before .byte-at .ensures ∙ ap (λ (l : List ℕ). getD l 0 0) (c .before .before .before .before .before .before .part-of .ensures))) (not-false _ (c .before .before .before .if1 .left)) (c .is-form .ensures ∙ ap isForm (c .before .byte-at2 .ensures ∙ ap (λ (l : List ℕ). getD l 0 0) (c .before .before .part-of2 .ensures)))
 
 pub is-coded-spec : {M : Type 1} → statement M
 is-coded-spec =
     tie.close
-    (tie.spec row-requires part-of-requires check-requires enum-told enum-told-2 returns returns-2)
+    (tie.spec
+    part-of-requires
+    byte-at-requires
+    is-capture-requires
+    returns
+    part-of-requires-2
+    byte-at-requires-2
+    is-form-requires
+    returns-2)

@@ -1,23 +1,65 @@
 -- `record::quick::looks_like_payment` meets its contract. Assumes nothing.
 use borrow.Author.Needs.{needs}
-use Rattle.layout.specs.Layouts.{layoutOf}
+use Rattle.layout.specs.Layouts.{rowAt, table, layoutOf}
+use mathlib.Core.Path.{sym, _∙_}
+use borrow.Author.Tests.{not-false}
+use Rattle.record.proofs.Looks.{never}
 use Rattle.record.proofs.quick.looks_like_payment.Statement.{statement}
 use Rattle.record.proofs.quick.looks_like_payment.Tie as tie
 
-slice-aggregate-looks-like : tie.Need-slice-aggregate-looks-like
-slice-aggregate-looks-like c = search needs
+shared-slice-read-is-payment : tie.Need-shared-slice-read-is-payment
+shared-slice-read-is-payment c = search needs
 
-slice-aggregate-looks-like-2 : tie.Need-slice-aggregate-looks-like-2
-slice-aggregate-looks-like-2 c = search needs
-
-looks-like-requires : tie.Need-looks-like-requires
-looks-like-requires c κs = search needs
+is-payment-requires : tie.Need-is-payment-requires
+is-payment-requires c κs = search needs
 
 returns : tie.Need-returns
-unfolding layoutOf
-returns c = search needs
+returns c = never
+
+is-plain-requires : tie.Need-is-plain-requires
+is-plain-requires c κs = search needs
+
+returns-2 : tie.Need-returns-2
+returns-2 c = never
+
+is-coded-requires : tie.Need-is-coded-requires
+is-coded-requires c κs = search needs
+
+returns-3 : tie.Need-returns-3
+returns-3 c = never
+
+is-dated-requires : tie.Need-is-dated-requires
+is-dated-requires c κs = search needs
+
+returns-4 : tie.Need-returns-4
+returns-4 c = never
+
+is-dated-requires-2 : tie.Need-is-dated-requires-2
+is-dated-requires-2 c κs = search needs
+
+returns-5 : tie.Need-returns-5
+unfolding rowAt table layoutOf
+returns-5 c =
+    λ e. (
+      c .before .before .before .before .before .before .before .before .is-payment .ensures (not-false _ (c .before .before .before .before .before .before .before .if1 .left)),
+      sym (c .before .before .before .before .before .before .is-plain .ensures) ∙ not-false _ (c .before .before .before .before .before .if2 .left),
+      sym (c .before .before .before .before .is-coded .ensures) ∙ not-false _ (c .before .before .before .if3 .left),
+      c .before .before .is-dated .ensures (not-false _ (c .before .if4 .left)),
+      c .is-dated2 .ensures e,
+    )
 
 pub looks-like-payment-spec : {M : Type 1} → statement M
 looks-like-payment-spec =
     tie.close
-    (tie.spec slice-aggregate-looks-like slice-aggregate-looks-like-2 looks-like-requires returns)
+    (tie.spec
+    shared-slice-read-is-payment
+    is-payment-requires
+    returns
+    is-plain-requires
+    returns-2
+    is-coded-requires
+    returns-3
+    is-dated-requires
+    returns-4
+    is-dated-requires-2
+    returns-5)

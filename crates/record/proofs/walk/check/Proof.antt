@@ -1,47 +1,27 @@
 -- `record::walk::check` meets its contract. Assumes nothing.
-use mathlib.Core.Path.{sym, _∙_}
 use borrow.Author.Needs.{needs}
-use borrow.Author.Tests.{eq-eqb, ne-eqb}
-use Rattle.record.specs.Records.{recordAnswer}
+use Rattle.record.proofs.Looks.{sure-accepted}
 use Rattle.record.proofs.walk.check.Statement.{statement}
 use Rattle.record.proofs.walk.check.Tie as tie
 
-returns : tie.Need-returns
-unfolding recordAnswer
-returns c = simp (ne-eqb _ _ (c .if1 .taken))
-
-shared-slice-read-named-by : tie.Need-shared-slice-read-named-by
-shared-slice-read-named-by c = search needs
-
-named-by-requires : tie.Need-named-by-requires
-named-by-requires c κs = search needs
-
-enum-known-which : tie.Need-enum-known-which
-enum-known-which c = search needs
-
-look-or-walk-requires : tie.Need-look-or-walk-requires
-look-or-walk-requires c κs = search needs
+pays-requires : tie.Need-pays-requires
+pays-requires c κs = search needs
 
 enum-told : tie.Need-enum-told
 enum-told c = search needs
 
-returns-2 : tie.Need-returns-2
-unfolding recordAnswer
-returns-2 c = rw (eq-eqb _ _ (c .before .before .before .before .before .before .if1 .left), sym (c .before .before .before .before .named-by .ensures) ∙ c .before .before .which .given .1) (c .look-or-walk .ensures)
+enum-told-2 : tie.Need-enum-told-2
+enum-told-2 c = search needs
 
-returns-3 : tie.Need-returns-3
-unfolding recordAnswer
-returns-3 c = rw (eq-eqb _ _ (c .before .before .before .before .if1 .left), sym (c .before .before .named-by .ensures) ∙ c .enum-told .given .1)
+walked-requires : tie.Need-walked-requires
+walked-requires c κs = search needs
+
+returns : tie.Need-returns
+returns c = sure-accepted (c .before .before .before .before .args .rec .now) (c .before .before .pays .ensures) (c .enum-told .given .1)
+
+returns-2 : tie.Need-returns-2
+returns-2 c = search needs
 
 pub check-spec : {M : Type 1} → statement M
 check-spec =
-    tie.close
-    (tie.spec
-    returns
-    shared-slice-read-named-by
-    named-by-requires
-    enum-known-which
-    look-or-walk-requires
-    enum-told
-    returns-2
-    returns-3)
+    tie.close (tie.spec pays-requires enum-told enum-told-2 walked-requires returns returns-2)

@@ -1,0 +1,158 @@
+-- Laws of a right barcode: what its checks show of its digits, and its answer from them. Assumes nothing.
+use Prim.Native.Nat.{ℕ, _+_, _-_, _%_, _≤_}
+use mathlib.Core.Bool.{Bool, true, false}
+use mathlib.Core.List.{List, [], _∷_}
+use mathlib.Core.Logic.{_↔_}
+use mathlib.Core.Path.{_≡_, refl, sym, ap, _∙_}
+use native.Mathlib.Nat.{add-mod-mod}
+use native.Mathlib.Omega.{arith}
+use borrow.Author.Tests.{eqb-true, eq-eqb}
+use lib.Dec.{eqb}
+use lib.ListN.{length, take, drop, getD, length-drop}
+use lib.Seq.{take-all, length-take-le}
+use Rattle.answer.specs.declared.Reason.{Reason}
+use Rattle.answer.specs.declared.Reason.the-variants.{WrongLength, NoDigit, WrongProduct, UnknownSegment, UnknownKind, WrongGeneralCheck}
+use Rattle.answer.specs.declared.Answer.{Answer}
+use Rattle.answer.specs.declared.Answer.the-variants.{Accepted, Refused}
+use Rattle.answer.specs.Orders.{asked, _then_}
+use Rattle.answer.proofs.Orders.{asked-accepts, then-accepts}
+use Rattle.answer.proofs.Steps.{passed}
+use Rattle.decimal.specs.declared.Class.the-variants.{Digit}
+use Rattle.decimal.specs.Bytes.{isOf, all, eachIs}
+use Rattle.decimal.specs.Numbers.{valueOf, numberOf}
+use Rattle.decimal.proofs.Bytes.{each-accepts, all-of-part}
+use Rattle.decimal.proofs.Numbers.{value-other, range-digit}
+use Rattle.modulus.specs.declared.Modulus.{Modulus}
+use Rattle.modulus.specs.declared.Summed.the-variants.{NoSum}
+use Rattle.modulus.specs.Checks.{sumsOf, sumOf, sizeOf, ruleOf}
+use Rattle.modulus.proofs.Columns.{no-sum-tells}
+use Rattle.modulus.proofs.Sums.{rule-small}
+use Rattle.barcode.specs.declared.Issuer.{Issuer}
+use Rattle.barcode.specs.declared.Payee.the-variants.{To, Nobody}
+use Rattle.barcode.proofs.Codes.{general-as}
+use Rattle.barcode.specs.Codes.{digitAt, product, issuerEnd, isSegment, isKind, modulusOf, leadAnswer, frontAnswer, generalCheck, generalRight, bodyAnswer, barcodeAnswer, issuerOf, paysTo, payeeOf}
+
+pub never : {a : Answer} {why : Reason} {p : ℕ} → a ≡ Refused why p → a ≡ Accepted → ⊥
+never e f = let z : _≡_ {A = ℕ} 0 1 = cc in omega arith
+
+pub unequal : {r : Bool} → r ≡ true → r ≡ false → ⊥
+unequal e f = let z : _≡_ {A = ℕ} 0 1 = cc in omega arith
+
+-- a byte whose value passes a test that 0 fails is a digit
+shows : (ok : ℕ → Bool) → ok 0 ≡ false → (b : ℕ) → ok (valueOf b) ≡ true → isOf Digit b ≡ true
+shows ok z b h = go (isOf Digit b) refl
+  where
+    go : (t : Bool) → isOf Digit b ≡ t → isOf Digit b ≡ true
+    go true e = e
+    go false e = let f : ok 0 ≡ true = rw (value-other b e) at h in let n : _≡_ {A = Bool} false true = cc in rw e n
+
+lead-shows : (l : List ℕ) → leadAnswer l ≡ Accepted → (isOf Digit (getD l 0 0) ≡ true) × (isOf Digit (getD l 1 0) ≡ true) × (isOf Digit (getD l 2 0) ≡ true)
+unfolding leadAnswer
+lead-shows l e =
+    let one = passed (eqb (digitAt 1 l) product) WrongProduct 1 e in
+    let two = passed (isSegment (digitAt 2 l)) UnknownSegment 2 (one .1) in
+    let three = asked-accepts (isKind (digitAt 3 l)) UnknownKind 3 .0 (two .1) in
+    (shows (λ v. eqb v product) refl (getD l 0 0) (one .0), shows isSegment refl (getD l 1 0) (two .0), shows isKind refl (getD l 2 0) three)
+
+check-shows : (code : List ℕ) → generalRight code ≡ true → isOf Digit (getD code 3 0) ≡ true
+unfolding generalRight
+check-shows code e =
+    let m = modulusOf (digitAt 3 code) in
+    let small : generalCheck code ≤ 9 = rule-small m _ in
+    let f = eqb-true (getD code 3 0) (48 + generalCheck code) e in
+    range-digit (getD code 3 0) (omega arith) (omega arith)
+
+right-digits : (code : List ℕ) → length code ≡ 44 → leadAnswer code ≡ Accepted → generalRight code ≡ true
+    → all (isOf Digit) (take 40 (drop 4 code)) ≡ true → all (isOf Digit) code ≡ true
+right-digits [] n l g h = absurd (omega arith)
+right-digits (a ∷ []) n l g h = absurd (omega arith)
+right-digits (a ∷ (b ∷ [])) n l g h = absurd (omega arith)
+right-digits (a ∷ (b ∷ (c ∷ []))) n l g h = absurd (omega arith)
+right-digits (a ∷ (b ∷ (c ∷ (d ∷ rest)))) n l g h =
+    let lead = lead-shows (a ∷ (b ∷ (c ∷ (d ∷ rest)))) l in
+    let check = check-shows (a ∷ (b ∷ (c ∷ (d ∷ rest)))) g in
+    let t : all (isOf Digit) rest ≡ true = rw (take-all 40 rest (omega arith)) at h in
+    rw (lead .0, lead .1, lead .2, check, t)
+
+-- the general check from the sum of the forty digits behind it
+pub right-as : (code : List ℕ) → length code ≡ 44 → (m : Modulus) {x y r k w : ℕ} → m ≡ modulusOf (digitAt 3 code) → y ≡ sumOf m 0 (take 40 (drop 4 code))
+    → x ≡ sumOf m 40 (take 3 code) % sizeOf m → r ≡ (x + y) % sizeOf m → k ≡ ruleOf m r → w ≡ getD code 3 0 → eqb w (48 + k) ≡ generalRight code
+unfolding generalRight
+right-as code n m {x} {y} {r} em ey ex er ek ew =
+    let e : r ≡ (x + y % sizeOf m) % sizeOf m = rw (add-mod-mod) er in
+    let f : y % sizeOf m ≡ sumOf m 0 (take 40 (drop 4 code)) % sizeOf m = ap (λ (t : ℕ). t % sizeOf m) ey in
+    rw (ew, general-as code n refl em ex f e ek)
+
+-- the issuer of digits
+pub digits-issuer : (code : List ℕ) {s e i : ℕ} → s ≡ digitAt 2 code → e ≡ issuerEnd s → i ≡ numberOf (take (e - 15) (drop 15 code))
+    → _≡_ {A = Issuer} (record { segment = s; number = i }) (issuerOf code)
+digits-issuer code {s} {e} es ee ei = let f : e ≡ issuerEnd (digitAt 2 code) = ee ∙ ap issuerEnd es in rw (ei, f, es)
+
+-- The answer of 44 bytes, from its parts.
+module _ (code : List ℕ) (n : length code ≡ 44) where
+  right-accepts : leadAnswer code ≡ Accepted → all (isOf Digit) (take 40 (drop 4 code)) ≡ true → generalRight code ≡ true → bodyAnswer code ≡ Accepted
+  right-accepts l h g =
+      let digits = each-accepts (isOf Digit) NoDigit 1 code .1 (right-digits code n l g h) in
+      then-accepts (frontAnswer code) (asked (generalRight code) WrongGeneralCheck 4) .1
+      (then-accepts (eachIs (isOf Digit) NoDigit 1 code) (leadAnswer code) .1 (digits, l), asked-accepts (generalRight code) WrongGeneralCheck 4 .1 g)
+
+  -- what the quick test may say
+  pub not-right : (bodyAnswer code ≡ Accepted → ⊥) → (false ≡ true) ↔ (bodyAnswer code ≡ Accepted)
+  not-right h = (λ e. let z : _≡_ {A = ℕ} 0 1 = cc in absurd (omega arith), λ e. absurd (h e))
+
+  module _ (e : bodyAnswer code ≡ Accepted) where
+    parts : (frontAnswer code ≡ Accepted) × (asked (generalRight code) WrongGeneralCheck 4 ≡ Accepted)
+    parts = then-accepts (frontAnswer code) (asked (generalRight code) WrongGeneralCheck 4) .0 e
+
+    front : (eachIs (isOf Digit) NoDigit 1 code ≡ Accepted) × (leadAnswer code ≡ Accepted)
+    front = then-accepts (eachIs (isOf Digit) NoDigit 1 code) (leadAnswer code) .0 (parts .0)
+
+    pub lead-accepted : leadAnswer code ≡ Accepted
+    lead-accepted = front .1
+
+    pub all-digits : all (isOf Digit) code ≡ true
+    all-digits = each-accepts (isOf Digit) NoDigit 1 code .0 (front .0)
+
+    general-right : generalRight code ≡ true
+    general-right = asked-accepts (generalRight code) WrongGeneralCheck 4 .0 (parts .1)
+
+    pub has-sums : NoSum ≡ sumsOf (take 40 (drop 4 code)) → ⊥
+    has-sums f =
+        no-sum-tells (take 40 (drop 4 code)) (length-take-le 40 (drop 4 code) (omega (arith, length-drop 4 code))) (all-of-part (isOf Digit) 4 40 code all-digits) f
+
+  pub as-right : {r : Bool} → leadAnswer code ≡ Accepted → all (isOf Digit) (take 40 (drop 4 code)) ≡ true → r ≡ generalRight code → (r ≡ true) ↔ (bodyAnswer code ≡ Accepted)
+  as-right l h e = (λ t. right-accepts l h (sym e ∙ t), λ a. e ∙ general-right a)
+
+  whole : bodyAnswer code ≡ Accepted → barcodeAnswer code ≡ Accepted
+  whole e = rw (eq-eqb (length code) 44 n) e
+
+  pub pays-to : {i : Issuer} → bodyAnswer code ≡ Accepted → i ≡ issuerOf code → To i ≡ payeeOf code
+  pays-to e f = rw (whole e, f)
+
+-- Whom a barcode pays, and its answer.
+
+pays-nobody : (a : Answer) (i : Issuer) → (a ≡ Accepted → ⊥) → Nobody ≡ paysTo a i
+pays-nobody Accepted i h = absurd (h refl)
+pays-nobody (Refused why p) i h = refl
+
+pub refused-pays : (code : List ℕ) → (barcodeAnswer code ≡ Accepted → ⊥) → Nobody ≡ payeeOf code
+refused-pays code h = pays-nobody (barcodeAnswer code) (issuerOf code) h
+
+pub body-accepted : (code : List ℕ) → barcodeAnswer code ≡ Accepted → (length code ≡ 44) × (bodyAnswer code ≡ Accepted)
+body-accepted code e =
+    let both = passed (eqb (length code) 44) WrongLength 0 e in
+    (eqb-true (length code) 44 (both .0), both .1)
+
+pub paid-accepts : (code : List ℕ) {i : Issuer} → To i ≡ payeeOf code → Accepted ≡ barcodeAnswer code
+paid-accepts code {i} e = go (barcodeAnswer code) e
+  where
+    go : (a : Answer) → To i ≡ paysTo a (issuerOf code) → Accepted ≡ a
+    go Accepted f = refl
+    go (Refused why p) f = let z : _≡_ {A = ℕ} 0 1 = cc in absurd (omega arith)
+
+pub paid-issuer : (code : List ℕ) {i : Issuer} → To i ≡ payeeOf code → i ≡ issuerOf code
+paid-issuer code {i} e = go (barcodeAnswer code) e
+  where
+    go : (a : Answer) → To i ≡ paysTo a (issuerOf code) → i ≡ issuerOf code
+    go Accepted f = cc
+    go (Refused why p) f = let z : _≡_ {A = ℕ} 0 1 = cc in absurd (omega arith)

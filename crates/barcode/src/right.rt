@@ -1,0 +1,93 @@
+// A right barcode in one pass: it only ever says that all checks pass. What is wrong, and where, they say themselves.
+ghost use Prim.Native.Nat.{_≤_};
+ghost use mathlib.Core.Bool.{true};
+ghost use mathlib.Core.Logic.{_↔_};
+ghost use mathlib.Core.Path.{_≡_};
+ghost use lib.ListN.{length, take, drop};
+ghost use Rattle.answer.specs.declared.Answer.the-variants as answers;
+ghost use Rattle.decimal.specs.Bytes.{isOf, all};
+ghost use Rattle.decimal.specs.Numbers.{valueOf, numberOf};
+ghost use Rattle.modulus.specs.Checks.{sumOf};
+ghost use Rattle.barcode.specs.Codes.{codeLength, digitAt, modulusOf, generalRight, bodyAnswer, issuerOf, payeeOf};
+use crate::Issuer;
+use crate::LENGTH;
+use crate::Payee;
+use answer::Answer;
+use decimal::Class;
+use modulus::Modulus;
+use modulus::Summed;
+
+// The general check, from the sum of the forty digits behind it.
+fn right_under(m: Modulus, code: &[u8], sum: u64) -> bool
+    requires { ⌜ length (now code) ≡ codeLength ⌝ }
+    requires { ⌜ m ≡ modulusOf (digitAt 3 (now code)) ⌝ }
+    requires { ⌜ sum ≡ sumOf m 0 (take 40 (drop 4 (now code))) ⌝ }
+    ensures { λ r. ⌜ r ≡ generalRight (now (code .entry)) ⌝ }
+{
+    let left = modulus::rest(m, &code[0..3], 40);
+    crate::wide(code[3]) == 48 + modulus::rule(m, modulus::remainder(m, left + sum))
+}
+
+// The first three digits show themselves by their values, the fourth by the check.
+fn is_right(code: &[u8]) -> bool
+    requires { ⌜ length (now code) ≡ codeLength ⌝ }
+    ensures { λ r. ⌜ (r ≡ true) ↔ (bodyAnswer (now (code .entry)) ≡ answers.Accepted) ⌝ }
+{
+    let Answer::Accepted = crate::lead(code) else {
+        return false;
+    };
+    let Summed::Both(ten, eleven) = modulus::sums_of_forty(&code[4..LENGTH]) else {
+        return false;
+    };
+    match crate::named(crate::digit(code, 2)) {
+        Modulus::Ten => right_under(Modulus::Ten, code, ten),
+        Modulus::Eleven => right_under(Modulus::Eleven, code, eleven),
+    }
+}
+
+fn digit_value(b: u8) -> u64
+    requires { ⌜ isOf Class.Digit b ≡ true ⌝ }
+    ensures { λ r. ⌜ r ≡ valueOf b ⌝ }
+{
+    b as u64 - 48
+}
+
+// The number of digits that were asked before.
+fn short_number(part: &[u8]) -> u64
+    requires { ⌜ (length (now part) ≤ 19) × (all (isOf Class.Digit) (now part) ≡ true) ⌝ }
+    ensures { λ r. ⌜ r ≡ numberOf (now (part .entry)) ⌝ }
+{
+    let mut n: u64 = 0;
+    let mut i = 0;
+    while i < part.len() {
+        n = n * 10 + digit_value(part[i]);
+        i += 1;
+    }
+    n
+}
+
+fn issuer_in(code: &[u8]) -> Issuer
+    requires { ⌜ length (now code) ≡ codeLength ⌝ }
+    requires { ⌜ all (isOf Class.Digit) (now code) ≡ true ⌝ }
+    ensures { λ r. ⌜ r ≡ issuerOf (now (code .entry)) ⌝ }
+{
+    let segment = digit_value(code[1]);
+    let end = crate::issuer_end(segment);
+    Issuer {
+        segment,
+        number: short_number(&code[15..end]),
+    }
+}
+
+// Whom a right barcode pays.
+pub fn pays(code: &[u8]) -> Payee
+    ensures { λ r. ⌜ r ≡ payeeOf (now (code .entry)) ⌝ }
+{
+    if code.len() != LENGTH {
+        return Payee::Nobody;
+    }
+    if !is_right(code) {
+        return Payee::Nobody;
+    }
+    Payee::To(issuer_in(code))
+}

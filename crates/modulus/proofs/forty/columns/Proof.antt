@@ -1,0 +1,125 @@
+-- `modulus::forty::columns` meets its contract. Assumes nothing.
+use Prim.Native.Nat.{_+_, _-_, _*_, _≤_}
+use mathlib.Core.Bool.{true, _&&_}
+use mathlib.Core.Path.{_≡_}
+use lib.Dec.{eqb}
+use Rattle.modulus.specs.declared.Modulus.the-variants.{Ten, Eleven}
+use Rattle.modulus.specs.Columns.{areDigits, counted}
+use Rattle.modulus.proofs.Columns.{leftDigits, leftSum, digits-step, sum-goes, digits-end, sum-ends}
+use borrow.Author.Needs.{needs}
+use Rattle.modulus.proofs.forty.columns.Statement.{statement}
+use Rattle.modulus.proofs.forty.columns.Tie as tie
+
+abbrev Inv-loop : tie.InvT-loop
+Inv-loop x y z bad₀ tens₀ elevens₀ i₀ bad tens elevens i =
+    (i ≤ 16) × (tens ≤ 90 * i) × (elevens ≤ 405 * i) × ((eqb bad 0 && leftDigits x y z i) ≡ areDigits x y z)
+    × (areDigits x y z ≡ true → (tens + leftSum Ten x y z i ≡ counted Ten x y z) × (elevens + leftSum Eleven x y z i ≡ counted Eleven x y z))
+
+abbrev μ-loop : tie.MeasureT-loop
+μ-loop x y z bad₀ tens₀ elevens₀ i₀ bad tens elevens i = 16 - i
+
+loop-holds : tie.Need-loop-holds Inv-loop μ-loop
+loop-holds c = search needs
+
+shared-slice-read-low : tie.Need-shared-slice-read-low Inv-loop μ-loop
+shared-slice-read-low c = search needs
+
+low-requires : tie.Need-low-requires Inv-loop μ-loop
+low-requires c κs = search needs
+
+shared-slice-read-low-2 : tie.Need-shared-slice-read-low-2 Inv-loop μ-loop
+shared-slice-read-low-2 c = search needs
+
+low-requires-2 : tie.Need-low-requires-2 Inv-loop μ-loop
+low-requires-2 c κs = search needs
+
+shared-slice-read-late : tie.Need-shared-slice-read-late Inv-loop μ-loop
+shared-slice-read-late c = search needs
+
+late-requires : tie.Need-late-requires Inv-loop μ-loop
+late-requires c κs = search needs
+
+shared-slice-read-flag-of : tie.Need-shared-slice-read-flag-of Inv-loop μ-loop
+shared-slice-read-flag-of c = search needs
+
+shared-slice-read-flag-of-2 : tie.Need-shared-slice-read-flag-of-2 Inv-loop μ-loop
+shared-slice-read-flag-of-2 c = search needs
+
+shared-slice-read-flag-of-3 : tie.Need-shared-slice-read-flag-of-3 Inv-loop μ-loop
+shared-slice-read-flag-of-3 c = search needs
+
+flag-of-requires : tie.Need-flag-of-requires Inv-loop μ-loop
+flag-of-requires c κs = search needs
+
+ten-requires : tie.Need-ten-requires Inv-loop μ-loop
+ten-requires c κs = search needs
+
+add-tens : tie.Need-add-tens Inv-loop μ-loop
+add-tens c = search needs
+
+eleven-requires : tie.Need-eleven-requires Inv-loop μ-loop
+eleven-requires c κs = search needs
+
+add-elevens : tie.Need-add-elevens Inv-loop μ-loop
+add-elevens c = search needs
+
+add-i : tie.Need-add-i Inv-loop μ-loop
+add-i c = search needs
+
+loop-less : tie.Need-loop-less Inv-loop μ-loop
+loop-less c = search needs
+
+loop-again : tie.Need-loop-again Inv-loop μ-loop
+loop-again c =
+    let a = c .before .before .before .before .before .before .before .before .before .before .before .before .before .before .before .before .before .args in
+    let p = c .before .before .before .before .before .before .before .before .before .before .before .before .before .before .before .before .before .pre in
+    let l = c .before .before .before .before .before .before .before .before .before .before .before .before .before .loop in
+    let more = c .before .before .before .before .before .before .before .before .before .before .before .before .loop-test .taken in
+    let low = c .before .before .before .before .before .before .before .before .before .before .low .ensures .0 in
+    let low2 = c .before .before .before .before .before .before .before .before .low2 .ensures .0 in
+    let late = c .before .before .before .before .before .before .late .ensures .0 in (
+      search needs,
+      search needs,
+      search needs,
+      digits-step (a .x .now) (a .y .now) (a .z .now) (p .0) (p .1) (p .2) (l .i) more (l .bad) (c .before .before .flag-of .ensures) (l .inv .3),
+      λ d. (sum-goes (a .x .now) (a .y .now) (a .z .now) (p .0) (p .1) (p .2) (l .i) more Ten (l .tens) d low low2 late (c .before .ten .ensures .0) (l .inv .4 d .0), sum-goes (a .x .now) (a .y .now) (a .z .now) (p .0) (p .1) (p .2) (l .i) more Eleven (l .elevens) d low low2 late (λ _ _ _. c .eleven .ensures .0) (l .inv .4 d .1)),
+    )
+
+returns : tie.Need-returns Inv-loop μ-loop
+returns c =
+    let a = c .before .before .before .before .before .args in
+    let p = c .before .before .before .before .before .pre in
+    let l = c .before .loop in
+    let none = c .loop-test .left in (
+      digits-end (a .x .now) (a .y .now) (a .z .now) (p .0) (p .1) (p .2) (l .i) none (l .bad) (l .inv .3),
+      (
+        λ d. sum-ends (a .x .now) (a .y .now) (a .z .now) (p .0) (p .1) (p .2) (l .i) none Ten (l .tens) (l .inv .4 d .0),
+        λ d. sum-ends (a .x .now) (a .y .now) (a .z .now) (p .0) (p .1) (p .2) (l .i) none Eleven (l .elevens) (l .inv .4 d .1),
+      ),
+    )
+
+pub columns-spec : {M : Type 1} → statement M
+columns-spec =
+    tie.close
+    (tie.spec
+    Inv-loop
+    μ-loop
+    loop-holds
+    shared-slice-read-low
+    low-requires
+    shared-slice-read-low-2
+    low-requires-2
+    shared-slice-read-late
+    late-requires
+    shared-slice-read-flag-of
+    shared-slice-read-flag-of-2
+    shared-slice-read-flag-of-3
+    flag-of-requires
+    ten-requires
+    add-tens
+    eleven-requires
+    add-elevens
+    add-i
+    loop-less
+    loop-again
+    returns)

@@ -1,0 +1,74 @@
+-- `record::quick::pays` meets its contract. Assumes nothing.
+use borrow.Author.Needs.{needs}
+use Prim.Native.Nat.{ℕ}
+use mathlib.Core.List.{List}
+use mathlib.Core.Logic.{inl, inr}
+use mathlib.Core.Path.{refl, sym, ap, _∙_}
+use borrow.Author.Tests.{not-false}
+use lib.Dec.{lit<, lit≤}
+use Rattle.decimal.specs.Numbers.{numberOf, heldOf}
+use Rattle.barcode.specs.Codes.{payeeOf}
+use Rattle.barcode.proofs.OnePass.{paid-accepts, paid-issuer}
+use Rattle.layout.specs.Layouts.{rowAt, table, layoutOf, barcodeRow, receivedRow}
+use Rattle.record.specs.Records.{partOf}
+use Rattle.record.proofs.Shown.{number-held}
+use Rattle.record.proofs.Walks.{numbered}
+use Rattle.record.proofs.Looks.{pays-it}
+use Rattle.record.proofs.quick.pays.Statement.{statement}
+use Rattle.record.proofs.quick.pays.Tie as tie
+
+returns : tie.Need-returns
+returns c = inl refl
+
+looks-like-payment-requires : tie.Need-looks-like-payment-requires
+looks-like-payment-requires c κs = search needs
+
+returns-2 : tie.Need-returns-2
+returns-2 c = inl refl
+
+part-of-requires : tie.Need-part-of-requires
+part-of-requires c κs = search needs
+
+pays-requires : tie.Need-pays-requires
+pays-requires c κs = search needs
+
+enum-known-issuer : tie.Need-enum-known-issuer
+enum-known-issuer c = search needs
+
+part-of-requires-2 : tie.Need-part-of-requires-2
+part-of-requires-2 c κs = search needs
+
+number-requires : tie.Need-number-requires
+number-requires c κs = search needs
+
+enum-told : tie.Need-enum-told
+enum-told c = search needs
+
+returns-3 : tie.Need-returns-3
+unfolding rowAt table layoutOf
+returns-3 c =
+    let rec = c .before .before .before .before .before .before .before .before .before .before .before .args .rec .now in
+    let n = c .before .before .before .before .before .before .before .before .before .if1 .left in
+    let part = partOf (rowAt barcodeRow) rec in
+    let to = sym (c .before .before .before .issuer .given .1) ∙ c .before .before .before .before .before .pays .ensures ∙ ap payeeOf (c .before .before .before .before .before .before .part-of .ensures) in
+    let received = number-held (rowAt receivedRow) rec (numbered receivedRow refl (lit< tt)) (lit≤ tt) n (c .number .ensures ∙ ap (λ (l : List ℕ). heldOf (numberOf l)) (c .before .part-of2 .ensures)) in
+    inr (pays-it rec n (c .before .before .before .before .before .before .before .before .looks-like-payment .ensures (not-false _ (c .before .before .before .before .before .before .before .if2 .left))) (sym (paid-accepts part to)) (paid-issuer part to) received)
+
+returns-4 : tie.Need-returns-4
+returns-4 c = inl refl
+
+pub pays-spec : {M : Type 1} → statement M
+pays-spec =
+    tie.close
+    (tie.spec
+    returns
+    looks-like-payment-requires
+    returns-2
+    part-of-requires
+    pays-requires
+    enum-known-issuer
+    part-of-requires-2
+    number-requires
+    enum-told
+    returns-3
+    returns-4)

@@ -1,0 +1,37 @@
+-- What the quick look at a G asks beside its barcode: neighbouring fields of one class at once. Only the quick look cites it; what a record
+-- is asked stands in Records.antt and in the room kinds. Assumes nothing.
+use Prim.Native.Nat.{ℕ}
+use mathlib.Core.Bool.{Bool, true, _&&_}
+use mathlib.Core.List.{List}
+use mathlib.Core.Path.{_≡_}
+use lib.ListN.{getD}
+use Rattle.answer.specs.declared.Answer.the-variants.{Accepted}
+use Rattle.decimal.specs.declared.Class.the-variants.{Digit, Blank, Text}
+use Rattle.decimal.specs.Bytes.{isOf, all}
+use Rattle.decimal.specs.Places.{places}
+use Rattle.kinds.specs.Kinds.{isCapture, isForm, kindAnswer}
+use Rattle.layout.specs.declared.Field.{Field}
+use Rattle.layout.specs.declared.Kind.the-variants.{Date}
+use Rattle.layout.specs.declared.Named.the-variants.{Is}
+use Rattle.layout.specs.declared.Record.the-variants.{Payment}
+use Rattle.layout.specs.Layouts.{namedBy, rowAt, accountRow, paidRow, creditedRow, receivedRow, numberRow, branchRow, captureRow, authenticationRow, formRow, paymentBlankRow}
+use Rattle.record.specs.Records.{partOf}
+
+-- from the first place of a field to the last of another
+abbrev pub spanOf : Field → Field → List ℕ → List ℕ
+spanOf from to rec = places (from .first) (to .last) rec
+
+-- the branch, the capture and the authentication are text; received, tariff and record number are digits
+unfoldable pub isPlain : List ℕ → Bool
+isPlain rec =
+    (all (isOf Text) (partOf (rowAt accountRow) rec) && all (isOf Text) (spanOf (rowAt branchRow) (rowAt authenticationRow) rec))
+    && (all (isOf Digit) (spanOf (rowAt receivedRow) (rowAt numberRow) rec) && all (isOf Blank) (partOf (rowAt paymentBlankRow) rec))
+
+unfoldable pub isCoded : List ℕ → Bool
+isCoded rec = isCapture (getD (partOf (rowAt captureRow) rec) 0 0) && isForm (getD (partOf (rowAt formRow) rec) 0 0)
+
+abbrev pub IsDated : ℕ → List ℕ → Type 0
+IsDated row rec = kindAnswer Date (partOf (rowAt row) rec) ≡ Accepted
+
+abbrev pub LooksPaid : List ℕ → Type 0
+LooksPaid rec = (namedBy (getD rec 0 0) ≡ Is Payment) × (isPlain rec ≡ true) × (isCoded rec ≡ true) × IsDated paidRow rec × IsDated creditedRow rec
