@@ -1,6 +1,8 @@
 -- Many records of one lent slice, taken one by one until the first refusal. Assumes nothing.
-use Prim.Native.Nat.{ℕ, zero, suc, _+_, _≤_}
+use Prim.Native.Nat.{ℕ, zero, suc, _+_, _≤_, _<_, min}
+use mathlib.Core.Bool.{true}
 use mathlib.Core.List.{List, [], _∷_}
+use mathlib.Core.Logic.{_⊎_}
 use mathlib.Core.Path.{_≡_}
 use lib.ListN.{length, getD, take, drop}
 use Rattle.answer.specs.declared.Answer.{Answer}
@@ -10,6 +12,9 @@ use Rattle.layout.specs.declared.Named.the-variants.{Is, Other}
 use Rattle.layout.specs.declared.Record.the-variants.{Header, Payment, Trailer}
 use Rattle.layout.specs.Layouts.{recordLength, namedBy}
 use Rattle.record.specs.Values.{decodeOf}
+use Rattle.barcode.specs.declared.Issuer.{Issuer}
+use Rattle.board.specs.declared.Lane.{Lane}
+use Rattle.board.specs.Lanes.{mostLanes, isOf}
 use Rattle.session.specs.declared.Session.{Session}
 use Rattle.session.specs.declared.Ran.{Ran}
 use Rattle.session.specs.declared.running.Paid.{Paid}
@@ -61,3 +66,8 @@ pub record PaidOf (s : Session) (bytes : List ℕ) (p : Paid) : Type 0 where
   pub within : p .at ≤ length bytes
   pub few : p .records ≤ p .at
   pub rest : after (p .records) 0 (runOf (withPaid s p) (drop (p .at) bytes)) ≡ runOf s bytes
+
+-- a search for an issuer's lane: over at once where the lane that was seen last is its own, else over all that are in use
+abbrev pub Starts : Issuer → ℕ → Lane → ℕ → ℕ → ℕ → Type 0
+Starts i guess seen used from to =
+    ((from ≡ guess) × (to ≡ guess) × (guess < used) × (isOf i seen ≡ true)) ⊎ ((from ≡ 0) × (to ≡ min used mostLanes))

@@ -1,9 +1,9 @@
 // Many records of one lent slice, in one call.
 ghost use mathlib.Core.Path.{_≡_};
-ghost use Prim.Native.Nat.{_+_, _-_, _<_, _≤_, min};
+ghost use Prim.Native.Nat.{_+_, _-_, _%_, _<_, _≤_, min};
 ghost use Rattle.layout.specs.Layouts.{recordLength};
 ghost use Rattle.board.specs.Lanes.{mostLanes, paymentOf};
-ghost use Rattle.session.specs.Runs.{closedBy, runOf, PaidOf};
+ghost use Rattle.session.specs.Runs.{closedBy, runOf, PaidOf, Starts};
 use crate::Ran;
 use crate::Session;
 use answer::Answer;
@@ -23,6 +23,12 @@ struct Paid {
     file: File,
     records: u64,
     at: usize,
+}
+
+// The places where a lane is searched, up to `to` and without it.
+struct Search {
+    from: usize,
+    to: usize,
 }
 
 // The index behind the piece that starts at one: a record, or what is left.
@@ -72,6 +78,37 @@ fn lanes_in_use(used: usize) -> usize
     used
 }
 
+// The mark of an issuer's number.
+fn mark_of(number: u64) -> usize
+    ensures { λ r. ⌜ r < 256 ⌝ }
+{
+    (number % 256) as usize
+}
+
+fn seen_at(mark: u8) -> usize
+    ensures { λ r. ⌜ r ≡ mark % 64 ⌝ }
+{
+    (mark % 64) as usize
+}
+
+// A search among lanes that is over at once where the lane that was seen last is the issuer's.
+fn search_for(issuer: Issuer, guess: usize, seen: Lane, used: usize) -> Search
+    ensures { λ r. ⌜ Starts issuer guess seen used (r .from) (r .to) ⌝ }
+{
+    if guess < used {
+        if seen.is_of(issuer) {
+            return Search {
+                from: guess,
+                to: guess,
+            };
+        }
+    }
+    Search {
+        from: 0,
+        to: lanes_in_use(used),
+    }
+}
+
 impl Session {
     // The accepted payments at the front, up to the first other record. No board is copied for them: each is posted in place.
     fn pay_on(self, bytes: &[u8]) -> Paid
@@ -81,6 +118,8 @@ impl Session {
         let mut file = self.file;
         let mut records: u64 = 0;
         let mut at: usize = 0;
+        // Where lanes were seen last. Of lanes that are not moved, a place once found stays the one that a search finds.
+        let mut marks = [0u8; 256];
         while at < bytes.len() {
             if !self.opened {
                 break;
@@ -97,8 +136,12 @@ impl Session {
             let payment = paid_to(payee, received);
             let issuer = payment.issuer;
             let used = work.used;
-            let most = lanes_in_use(used);
-            let mut place: usize = 0;
+            let mark = mark_of(issuer.number);
+            let guess = seen_at(marks[mark]);
+            let seen = work.lanes[guess];
+            let search = search_for(issuer, guess, seen, used);
+            let most = search.to;
+            let mut place = search.from;
             while place < most {
                 let lane = work.lanes[place];
                 if lane.is_of(issuer) {
@@ -128,6 +171,7 @@ impl Session {
             work.lanes[place] = lane;
             work.used = after.used;
             work.total = total;
+            marks[mark] = place as u8;
             file = taken.file;
             records += 1;
             at = end;
