@@ -1,12 +1,10 @@
 // A right barcode in one pass: it only ever says that all checks pass. What is wrong, and where, they say themselves.
-ghost use Prim.Native.Nat.{_≤_};
 ghost use mathlib.Core.Bool.{true};
 ghost use mathlib.Core.Logic.{_↔_};
 ghost use mathlib.Core.Path.{_≡_};
 ghost use lib.ListN.{length, take, drop};
 ghost use Rattle.answer.specs.declared.Answer.the-variants as answers;
 ghost use Rattle.decimal.specs.Bytes.{isOf, all};
-ghost use Rattle.decimal.specs.Numbers.{valueOf, numberOf};
 ghost use Rattle.modulus.specs.Checks.{sumOf};
 ghost use Rattle.barcode.specs.Codes.{codeLength, digitAt, modulusOf, generalRight, bodyAnswer, issuerOf, payeeOf};
 use crate::Issuer;
@@ -45,37 +43,17 @@ fn is_right(code: &[u8]) -> bool
     }
 }
 
-fn digit_value(b: u8) -> u64
-    requires { ⌜ isOf Class.Digit b ≡ true ⌝ }
-    ensures { λ r. ⌜ r ≡ valueOf b ⌝ }
-{
-    b as u64 - 48
-}
-
-// The number of digits that were asked before.
-fn short_number(part: &[u8]) -> u64
-    requires { ⌜ (length (now part) ≤ 19) × (all (isOf Class.Digit) (now part) ≡ true) ⌝ }
-    ensures { λ r. ⌜ r ≡ numberOf (now (part .entry)) ⌝ }
-{
-    let mut n: u64 = 0;
-    let mut i = 0;
-    while i < part.len() {
-        n = n * 10 + digit_value(part[i]);
-        i += 1;
-    }
-    n
-}
-
+// The issuer of digits.
 fn issuer_in(code: &[u8]) -> Issuer
     requires { ⌜ length (now code) ≡ codeLength ⌝ }
     requires { ⌜ all (isOf Class.Digit) (now code) ≡ true ⌝ }
     ensures { λ r. ⌜ r ≡ issuerOf (now (code .entry)) ⌝ }
 {
-    let segment = digit_value(code[1]);
+    let segment = crate::digit(code, 1);
     let end = crate::issuer_end(segment);
     Issuer {
         segment,
-        number: short_number(&code[15..end]),
+        number: decimal::low_number(&code[15..end]),
     }
 }
 

@@ -1,11 +1,12 @@
 // Gregorian dates as eight digit bytes, YYYYMMDD.
 ghost use mathlib.Core.Bool.{true};
 ghost use mathlib.Core.Path.{_≡_};
-ghost use Prim.Native.Nat.{_+_, _≤_};
+ghost use Prim.Native.Nat.{_+_, _/_, _%_, _≤_};
 ghost use lib.ListN.{length, take, drop};
-ghost use Rattle.decimal.specs.Bytes.{isOf, all};
+ghost use Rattle.decimal.specs.Bytes.{within, isOf, all};
 ghost use Rattle.decimal.specs.Numbers.{numberOf};
-ghost use Rattle.calendar.specs.Dates.{isLeap, daysIn, isDate, dateOf};
+ghost use Rattle.calendar.specs.Dates.{isLeap, daysIn, isDate, dateOf, isOne};
+ghost use Rattle.calendar.specs.Common.{CommonIn};
 use decimal::Class;
 
 #[repr(C)]
@@ -32,6 +33,14 @@ fn is_leap(year: u64) -> bool
     year % 400 == 0
 }
 
+// The days of any month but February: odd months have 31 up to July, even ones from August on.
+fn month_end(month: u64) -> u64
+    requires { ⌜ month ≤ 12 ⌝ }
+    ensures { λ r. ⌜ r ≡ 30 + (month + month / 8) % 2 ⌝ }
+{
+    30 + (month + month / 8) % 2
+}
+
 fn days_in(year: u64, month: u64) -> u64
     ensures { λ r. ⌜ r ≡ daysIn year month ⌝ }
 {
@@ -47,8 +56,7 @@ fn days_in(year: u64, month: u64) -> u64
     if 12 < month {
         return 0;
     }
-    // Odd months have 31 days up to July, even ones from August on.
-    30 + (month + month / 8) % 2
+    month_end(month)
 }
 
 pub fn is_date(date: Date) -> bool
@@ -93,5 +101,52 @@ pub fn read_date(bytes: &[u8]) -> Dated
         Dated::On(date)
     } else {
         Dated::NoDate
+    }
+}
+
+fn between(lo: u64, hi: u64, n: u64) -> bool
+    ensures { λ r. ⌜ r ≡ within lo hi n ⌝ }
+{
+    lo <= n && n <= hi
+}
+
+// A day that does not wait on its year, in one of the three centuries.
+fn is_common(century: u64, month: u64, day: u64) -> bool
+    ensures { λ r. ⌜ (r ≡ true → CommonIn century month day) ⌝ }
+{
+    if !between(19, 21, century) {
+        return false;
+    }
+    if !between(1, 12, month) {
+        return false;
+    }
+    if day < 1 {
+        return false;
+    }
+    if day <= 28 {
+        return true;
+    }
+    if month == 2 {
+        return false;
+    }
+    day <= month_end(month)
+}
+
+// Whether the bytes are a date; of a common day the year is not made.
+pub fn spells_date(bytes: &[u8]) -> bool
+    ensures { λ r. ⌜ r ≡ isOne (dateOf (now (bytes .entry))) ⌝ }
+{
+    if bytes.len() != 8 {
+        return false;
+    }
+    if !decimal::all_of(Class::Digit, bytes) {
+        return false;
+    }
+    if is_common(pair(bytes, 0), pair(bytes, 4), pair(bytes, 6)) {
+        return true;
+    }
+    match read_date(bytes) {
+        Dated::On(_) => true,
+        Dated::NoDate => false,
     }
 }

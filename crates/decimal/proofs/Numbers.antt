@@ -5,15 +5,15 @@ use mathlib.Core.List.{List, [], _∷_, _++_, append-assoc, append-nil}
 use mathlib.Core.Path.{_≡_, refl, ap, sym, _∙_, subst}
 use native.Mathlib.Omega.{arith}
 use native.Mathlib.Numerals.{add-one}
-use native.Mathlib.Nat.{le-refl, lt-of-lt-of-le, not-suc-le-zero, pow-suc, pow-succ', pow-le-pow-right, mul-le-mul-right, mul-assoc, min-le-right, one-le-pow}
-use borrow.Author.Tests.{leb-true, leb-false, le-leb, lt-ltb, le-ltb, ltb-true, ltb-false, eqb-true, eqb-false}
+use native.Mathlib.Nat.{le-refl, le-trans, lt-of-lt-of-le, not-suc-le-zero, pow-suc, pow-succ', pow-le-pow-right, mul-le-mul-right, mul-assoc, min-le-right, one-le-pow}
+use borrow.Author.Tests.{leb-true, leb-false, le-leb, lt-leb, lt-ltb, le-ltb, ltb-true, ltb-false, eqb-true, eqb-false}
 use lib.Dec.{lit<, leb, ltb, eqb}
 use lib.ListN.{length, take, drop, getD, set, length-append, length-set, drop-of-length-le}
 use lib.Seq.{take-all, take-suc, length-take-le, drop-length, drop-cons, getD-set-same, drop-set-lt}
 use Rattle.decimal.specs.declared.Class.the-variants.{Digit}
 use Rattle.decimal.specs.Bytes.{isOf, all}
 use Rattle.decimal.proofs.Bytes.{all-joins}
-use Rattle.decimal.specs.Numbers.{valueOf, numberFrom, numberOf, most, heldOf, digitsOf, NumberOfDigits, DigitsOfNumber, DigitsFill, NumberFits, NineteenAreHeld}
+use Rattle.decimal.specs.Numbers.{valueOf, numberFrom, numberOf, lowFrom, lowNumberOf, most, heldOf, digitsOf, NumberOfDigits, DigitsOfNumber, DigitsFill, NumberFits, LowOfDigits, NineteenAreHeld}
 
 -- Digits.
 
@@ -95,18 +95,50 @@ module _ (bs : List ℕ) (i n : ℕ) where
   pub read-end : {r : ℕ} → length bs ≤ i → n ≤ most → heldOf (numberFrom n (drop i bs)) ≡ r → n ≡ r
   read-end h l q = sym (held-small n l) ∙ (rw (drop-of-length-le bs h) at q)
 
--- the same for digits so few that none is cut
+-- Numbers read by low halves.
+
+pub low-value : (b : ℕ) → isOf Digit b ≡ true → b % 16 ≡ valueOf b
+low-value b t = let r = digit-range b t in let v = value-digit b t in omega arith
+
+low-digits : (n : ℕ) (bs : List ℕ) → all (isOf Digit) bs ≡ true → lowFrom n bs ≡ numberFrom n bs
+low-digits n [] t = refl
+low-digits n (b ∷ bs) t =
+    let both = and-eq-true-iff (isOf Digit b) (all (isOf Digit) bs) .0 t in
+    rw (low-value b (both .0)) (low-digits (n * 10 + valueOf b) bs (both .1))
+
+pub low-of-digits : LowOfDigits
+unfolding lowNumberOf
+low-of-digits bs t h = rw (le-leb (length bs) 19 h) (low-digits 0 bs t)
+
+low-grows : (n : ℕ) (bs : List ℕ) → n ≤ lowFrom n bs
+low-grows n [] = le-refl n
+low-grows n (b ∷ bs) = let h = low-grows (n * 10 + b % 16) bs in omega arith
+
+-- a low half is 15 at the most, so that they come to five thirds of a power of ten
+low-below : (n : ℕ) (bs : List ℕ) → 3 * lowFrom n bs + 5 ≤ (3 * n + 5) * 10 ^ length bs
+low-below n [] = omega arith
+low-below n (b ∷ bs) =
+    let ih : 3 * lowFrom (n * 10 + b % 16) bs + 5 ≤ (3 * (n * 10 + b % 16) + 5) * 10 ^ length bs = low-below (n * 10 + b % 16) bs in
+    let v : 3 * (n * 10 + b % 16) + 5 ≤ (3 * n + 5) * 10 = omega arith in
+    let m : (3 * (n * 10 + b % 16) + 5) * 10 ^ length bs ≤ (3 * n + 5) * 10 * 10 ^ length bs = mul-le-mul-right (10 ^ length bs) v in
+    rw (pow-succ' 10 (length bs), ← mul-assoc (3 * n + 5) 10 (10 ^ length bs)) (le-trans ih m)
+
 module _ (bs : List ℕ) (i n : ℕ) where
-  pub few-step : i < length bs → numberFrom n (drop i bs) ≡ numberOf bs → numberFrom (n * 10 + valueOf (getD bs i 0)) (drop (i + 1) bs) ≡ numberOf bs
-  few-step h q = rw add-one (rw (drop-cons bs i 0 h) at q)
+  pub low-step : i < length bs → lowFrom n (drop i bs) ≡ lowFrom 0 bs → lowFrom (n * 10 + getD bs i 0 % 16) (drop (i + 1) bs) ≡ lowFrom 0 bs
+  low-step h q = rw add-one (rw (drop-cons bs i 0 h) at q)
 
-  pub few-fit : length bs ≤ 19 → i < length bs → numberFrom n (drop i bs) ≡ numberOf bs → n * 10 + valueOf (getD bs i 0) ≤ most
-  few-fit l h q =
+  pub low-fit : length bs ≤ 19 → i < length bs → lowFrom n (drop i bs) ≡ lowFrom 0 bs → n * 10 + getD bs i 0 % 16 ≤ most
+  low-fit l h q =
       let p : 10 ^ length bs ≤ 10 ^ 19 = pow-le-pow-right (lit< tt) l in
-      omega (arith, number-fits bs, few-step h q, from-grows (n * 10 + valueOf (getD bs i 0)) (drop (i + 1) bs))
+      omega (arith, low-below 0 bs, low-step h q, low-grows (n * 10 + getD bs i 0 % 16) (drop (i + 1) bs))
 
-  pub few-end : length bs ≤ i → numberFrom n (drop i bs) ≡ numberOf bs → n ≡ numberOf bs
-  few-end h q = rw (drop-of-length-le bs h) at q
+  pub low-end : length bs ≤ 19 → length bs ≤ i → lowFrom n (drop i bs) ≡ lowFrom 0 bs → n ≡ lowNumberOf bs
+  unfolding lowNumberOf
+  low-end l h q = rw (le-leb (length bs) 19 l) (rw (drop-of-length-le bs h) at q)
+
+pub low-long : (bs : List ℕ) → 19 < length bs → 0 ≡ lowNumberOf bs
+unfolding lowNumberOf
+low-long bs h = rw (lt-leb (length bs) 19 h)
 
 -- The loop that counts a number's digits: it has none left, it has more, its places are at an end.
 module _ (n k : ℕ) where

@@ -3,7 +3,7 @@ use Prim.Native.Nat.{ℕ, zero, suc, _+_, _-_, _*_, _/_, _%_, _^_, _<_, _≤_, m
 use mathlib.Core.Bool.{true, cond}
 use mathlib.Core.List.{List, [], _∷_, _++_}
 use mathlib.Core.Path.{_≡_}
-use lib.Dec.{ltb}
+use lib.Dec.{ltb, leb}
 use lib.ListN.{length}
 use Rattle.answer.specs.declared.Reason.the-variants.{TooWide}
 use Rattle.answer.specs.declared.Answer.{Answer}
@@ -22,6 +22,14 @@ numberFrom n (b ∷ bs) = numberFrom (n * 10 + valueOf b) bs
 
 abbrev pub numberOf : List ℕ → ℕ
 numberOf bs = numberFrom 0 bs
+
+-- the number of at most nineteen bytes by their low halves; of more bytes 0
+abbrev pub lowFrom : ℕ → List ℕ → ℕ
+lowFrom n [] = n
+lowFrom n (b ∷ bs) = lowFrom (n * 10 + b % 16) bs
+
+unfoldable pub lowNumberOf : List ℕ → ℕ
+lowNumberOf bs = cond (leb (length bs) 19) (lowFrom 0 bs) 0
 
 -- the largest number that 64 bits hold
 abbrev pub most : ℕ
@@ -56,6 +64,10 @@ DigitsFill = (w n : ℕ) → (length (digitsOf w n) ≡ w) × (all (isOf Digit) 
 -- a number has no more digits than it has bytes
 abbrev pub NumberFits : Type 0
 NumberFits = (bs : List ℕ) → numberOf bs < 10 ^ length bs
+
+-- the low halves of digits are their values
+abbrev pub LowOfDigits : Type 0
+LowOfDigits = (bs : List ℕ) → all (isOf Digit) bs ≡ true → length bs ≤ 19 → lowNumberOf bs ≡ numberOf bs
 
 -- no number of 19 digits is cut; a field of document 01 has 17 at the most
 abbrev pub NineteenAreHeld : Type 0

@@ -1,13 +1,13 @@
 // Bytes of a class, and numbers as decimal digits.
 ghost use mathlib.Core.Path.{_≡_};
-ghost use mathlib.Core.Bool.{true, cond};
-ghost use Prim.Native.Nat.{_+_, _*_, _^_, _≤_};
+ghost use mathlib.Core.Bool.{cond};
+ghost use Prim.Native.Nat.{_+_, _*_, _%_, _^_};
 ghost use lib.Dec.{ltb};
 ghost use lib.ListN.{length};
 ghost use Rattle.answer.specs.Orders.{kept};
 ghost use Rattle.decimal.specs.Bytes.{within, isOf, all, eachIs};
 ghost use Rattle.decimal.specs.Places.{putAt};
-ghost use Rattle.decimal.specs.Numbers.{valueOf, numberOf, digitsOf, heldOf, widthAnswer};
+ghost use Rattle.decimal.specs.Numbers.{valueOf, numberOf, lowNumberOf, digitsOf, heldOf, widthAnswer};
 use answer::Answer;
 use answer::Reason;
 
@@ -147,22 +147,23 @@ fn long_number(part: &[u8]) -> u64
     n
 }
 
-fn value_of_digit(b: u8) -> u64
-    requires { ⌜ isOf Class.Digit b ≡ true ⌝ }
-    ensures { λ r. ⌜ r ≡ valueOf b ⌝ }
+fn low(b: u8) -> u64
+    ensures { λ r. ⌜ r ≡ b % 16 ⌝ }
 {
-    b as u64 - 48
+    (b % 16) as u64
 }
 
-// Digits so few that none of them needs a look at what 64 bits hold.
-fn short_number(part: &[u8]) -> u64
-    requires { ⌜ (length (now part) ≤ 19) × (all (isOf Class.Digit) (now part) ≡ true) ⌝ }
-    ensures { λ r. ⌜ r ≡ numberOf (now (part .entry)) ⌝ }
+// The number of at most nineteen bytes by their low halves, which are the values of digits; of more bytes 0.
+pub fn low_number(part: &[u8]) -> u64
+    ensures { λ r. ⌜ r ≡ lowNumberOf (now (part .entry)) ⌝ }
 {
+    if 20 <= part.len() {
+        return 0;
+    }
     let mut n: u64 = 0;
     let mut i = 0;
     while i < part.len() {
-        n = n * 10 + value_of_digit(part[i]);
+        n = n * 10 + low(part[i]);
         i += 1;
     }
     n
@@ -175,7 +176,7 @@ pub fn number(part: &[u8]) -> u64
         return long_number(part);
     }
     if all_of(Class::Digit, part) {
-        return short_number(part);
+        return low_number(part);
     }
     long_number(part)
 }

@@ -15,7 +15,7 @@ use Rattle.decimal.specs.declared.Class.the-variants.{Digit}
 use Rattle.decimal.specs.Bytes.{isOf, all}
 use Rattle.decimal.specs.Numbers.{valueOf}
 use Rattle.decimal.proofs.Bytes.{flag-on, all-at, row-fails, row-passes, last-row}
-use Rattle.decimal.proofs.Numbers.{value-digit, digit-range, value-small}
+use Rattle.decimal.proofs.Numbers.{low-value, value-small}
 use Rattle.modulus.specs.declared.Modulus.{Modulus}
 use Rattle.modulus.specs.declared.Modulus.the-variants.{Ten, Eleven}
 use Rattle.modulus.specs.declared.Summed.the-variants.{Both, NoSum}
@@ -77,10 +77,6 @@ two-flags false false = refl
 
 pub three-flags : (t u v : Bool) {f g h : ℕ} → f ≡ cond t 0 1 → g ≡ cond u 0 1 → h ≡ cond v 0 1 → bitOr f (bitOr g h) ≡ cond (t && (u && v)) 0 1
 three-flags t u v ef eg eh = rw (ef, eg, eh, two-flags u v, two-flags t (u && v))
-
--- the low half of a digit is its value
-pub low-value : (b : ℕ) → isOf Digit b ≡ true → b % 16 ≡ valueOf b
-low-value b t = let r = digit-range b t in let v = value-digit b t in omega arith
 
 nothing : (m : Modulus) (k : ℕ) → addedBy m k 0 ≡ 0
 unfolding addedBy

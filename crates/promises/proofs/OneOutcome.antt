@@ -28,6 +28,7 @@ one-outcome =
       decimal·first_not = λ w κs given g r r′ left left′. value w _ _ _ _ _ left;
       decimal·value = λ w κs given g r r′ left left′. value w _ _ _ _ _ left;
       decimal·number = λ w κs given g r r′ left left′. value w _ _ _ _ _ left;
+      decimal·low_number = λ w κs given g r r′ left left′. value w _ _ _ _ _ left;
       decimal·fits_width = λ w κs given g r r′ left left′. value w _ _ _ _ _ left;
       decimal·put = λ w κs given g r r′ left left′.
           one w _ _ _ (λ p p′. (refl, ap (λ bytes. (tt, (bytes, (tt, tt)))) (same p p′)));
@@ -35,6 +36,7 @@ one-outcome =
           two w _ _ _ _ _ (λ p p′. (same (p .0) (p′ .0), ap (λ bytes. (tt, (tt, (bytes, (tt, tt))))) (cc (p .0, p .1, p′ .0, p′ .1))));
       calendar·is_date = λ w κs given g r r′ left left′. value w _ _ _ _ _ left;
       calendar·read_date = λ w κs given g r r′ left left′. value w _ _ _ _ _ left;
+      calendar·spells_date = λ w κs given g r r′ left left′. value w _ _ _ _ _ left;
       modulus·remainder = λ w κs given g r r′ left left′. value w _ _ _ _ _ left;
       modulus·rule = λ w κs given g r r′ left left′. value w _ _ _ _ _ left;
       modulus·rest = λ w κs given g r r′ left left′. value w _ _ _ _ _ left;

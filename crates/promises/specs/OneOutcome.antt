@@ -16,11 +16,13 @@ use Rattle.decimal.proofs.all_of as decimal·all_of
 use Rattle.decimal.proofs.first_not as decimal·first_not
 use Rattle.decimal.proofs.value as decimal·value
 use Rattle.decimal.proofs.number as decimal·number
+use Rattle.decimal.proofs.low_number as decimal·low_number
 use Rattle.decimal.proofs.fits_width as decimal·fits_width
 use Rattle.decimal.proofs.put as decimal·put
 use Rattle.decimal.proofs.put_number as decimal·put_number
 use Rattle.calendar.proofs.is_date as calendar·is_date
 use Rattle.calendar.proofs.read_date as calendar·read_date
+use Rattle.calendar.proofs.spells_date as calendar·spells_date
 use Rattle.modulus.proofs.remainder as modulus·remainder
 use Rattle.modulus.proofs.rule as modulus·rule
 use Rattle.modulus.proofs.rest as modulus·rest
@@ -131,11 +133,13 @@ pub record OneOutcome : Type 2 where
   pub decimal·first_not : One decimal·first_not.ended (λ M. decimal·first_not.clauses)
   pub decimal·value : One decimal·value.ended (λ M. decimal·value.clauses)
   pub decimal·number : One decimal·number.ended (λ M. decimal·number.clauses)
+  pub decimal·low_number : One decimal·low_number.ended (λ M. decimal·low_number.clauses)
   pub decimal·fits_width : One decimal·fits_width.ended (λ M. decimal·fits_width.clauses)
   pub decimal·put : One decimal·put.ended (λ M. decimal·put.clauses)
   pub decimal·put_number : One decimal·put_number.ended (λ M. decimal·put_number.clauses)
   pub calendar·is_date : One calendar·is_date.ended (λ M. calendar·is_date.clauses)
   pub calendar·read_date : One calendar·read_date.ended (λ M. calendar·read_date.clauses)
+  pub calendar·spells_date : One calendar·spells_date.ended (λ M. calendar·spells_date.clauses)
   pub modulus·remainder : One modulus·remainder.ended (λ M. modulus·remainder.clauses)
   pub modulus·rule : One modulus·rule.ended (λ M. modulus·rule.clauses)
   pub modulus·rest : One modulus·rest.ended (λ M. modulus·rest.clauses)

@@ -1,5 +1,5 @@
 -- Laws of the quick look: a record that passes it is an accepted G. Assumes nothing.
-use Prim.Native.Nat.{ℕ, suc, _+_, _-_, _≤_}
+use Prim.Native.Nat.{ℕ, _+_, _-_, _≤_, _<_}
 use mathlib.Core.Bool.{Bool, true, false, cond, _&&_, and-eq-true-iff, and-true}
 use mathlib.Core.List.{List, [], _∷_, _++_}
 use mathlib.Core.Logic.{_⊎_, ⊎-elim}
@@ -19,9 +19,15 @@ use Rattle.answer.proofs.Orders.{asked-accepts, first-accepts, moved-accepts}
 use Rattle.decimal.specs.declared.Class.the-variants.{Digit, Blank, Text}
 use Rattle.decimal.specs.Bytes.{isOf, all}
 use Rattle.decimal.proofs.Bytes.{all-joins, all-of-part, each-accepts, flag-on, row-fails, last-row}
+use Rattle.decimal.specs.Numbers.{lowNumberOf}
+use Rattle.decimal.proofs.Numbers.{low-of-digits}
 use Rattle.decimal.specs.Places.{places}
+use Rattle.calendar.specs.declared.Dated.{Dated}
+use Rattle.calendar.specs.declared.Dated.the-variants.{On, NoDate}
+use Rattle.calendar.specs.Dates.{dateOf, isOne}
 use Rattle.barcode.specs.declared.Issuer.{Issuer}
 use Rattle.barcode.specs.Codes.{barcodeAnswer, issuerOf}
+use Rattle.kinds.proofs.KindLaws.{date-accepted}
 use Rattle.kinds.specs.Kinds.{same, isCapture, isForm, kindAnswer}
 use Rattle.layout.specs.declared.Field.{Field}
 use Rattle.layout.specs.declared.Kind.the-variants as kind
@@ -31,7 +37,7 @@ use Rattle.layout.specs.declared.Record.the-variants.{Header, Payment, Trailer}
 use Rattle.layout.specs.Layouts.{recordLength, namedBy, layoutOf, rowAt, table, accountRow, barcodeRow, receivedRow, numberRow, branchRow, captureRow, authenticationRow, formRow, paymentBlankRow}
 use Rattle.record.specs.declared.Pays.{Pays}
 use Rattle.record.specs.declared.Pays.the-variants.{To, Nothing}
-use Rattle.record.specs.Looks.{spanOf, isPlain, isCoded, LooksPaid}
+use Rattle.record.specs.Looks.{spanOf, rowsHold, isPlain, isCoded, LooksPaid}
 use Rattle.record.specs.Records.{partOf, fieldAnswer, bodyAnswer, recordAnswer}
 use Rattle.record.specs.Values.{numberIn, shownOf, unlessRefused, decodeOf, paysOf}
 use Rattle.record.proofs.Shown.{named-is}
@@ -39,7 +45,7 @@ use Rattle.record.proofs.Shown.{named-is}
 pub never : {A : Type 0} → false ≡ true → A
 never e = let z : _≡_ {A = ℕ} 0 1 = cc in absurd (omega arith)
 
--- The flags of four bytes are one flag.
+-- The flags of six bytes are one flag.
 
 two-flags : (t u : Bool) → bitOr (cond t 0 1) (cond u 0 1) ≡ cond (t && u) 0 1
 two-flags true true = refl
@@ -47,14 +53,12 @@ two-flags true false = refl
 two-flags false true = refl
 two-flags false false = refl
 
-pub four-flags : (t u v w : Bool) {f g h k : ℕ} → f ≡ cond t 0 1 → g ≡ cond u 0 1 → h ≡ cond v 0 1 → k ≡ cond w 0 1
-    → bitOr (bitOr f g) (bitOr h k) ≡ cond ((t && u) && (v && w)) 0 1
-four-flags t u v w ef eg eh ek = rw (ef, eg, eh, ek, two-flags t u, two-flags v w, two-flags (t && u) (v && w))
+pub six-flags : (a b c d e f : Bool) {u v w x y z : ℕ} → u ≡ cond a 0 1 → v ≡ cond b 0 1 → w ≡ cond c 0 1 → x ≡ cond d 0 1 → y ≡ cond e 0 1 → z ≡ cond f 0 1
+    → bitOr (bitOr u v) (bitOr (bitOr w x) (bitOr y z)) ≡ cond ((a && b) && ((c && d) && (e && f))) 0 1
+six-flags a b c d e f eu ev ew ex ey ez =
+    rw (eu, ev, ew, ex, ey, ez, two-flags a b, two-flags c d, two-flags e f, two-flags (c && d) (e && f), two-flags (a && b) ((c && d) && (e && f)))
 
--- Four rows at column i, and behind the last one.
-
-abbrev pub fourAll : (ℕ → Bool) → List ℕ → List ℕ → List ℕ → List ℕ → Bool
-fourAll ok x y z w = (all ok x && all ok y) && (all ok z && all ok w)
+-- Six rows at column i, and behind the last one.
 
 weave : (t r u s : Bool) → ((t && r) && (u && s)) ≡ ((t && u) && (r && s))
 weave false r u s = refl
@@ -62,27 +66,39 @@ weave true false false s = refl
 weave true false true s = refl
 weave true true u s = refl
 
-module _ (ok : ℕ → Bool) (x y z w : List ℕ) (lx : length x ≡ 16) (ly : length y ≡ 16) (lz : length z ≡ 16) (lw : length w ≡ 16) (i n : ℕ) where
-  pub rows-step : {f : ℕ} {r : Bool} → i + 1 ≤ 16 → f ≡ cond ((ok (getD x i 0) && ok (getD y i 0)) && (ok (getD z i 0) && ok (getD w i 0))) 0 1
-      → (eqb n 0 && fourAll ok (drop i x) (drop i y) (drop i z) (drop i w)) ≡ r
-      → (eqb (bitOr n f) 0 && fourAll ok (drop (i + 1) x) (drop (i + 1) y) (drop (i + 1) z) (drop (i + 1) w)) ≡ r
-  rows-step h e q =
-      let a = ok (getD x i 0) in
-      let b = ok (getD y i 0) in
-      let c = ok (getD z i 0) in
-      let d = ok (getD w i 0) in
-      let rx = all ok (drop (suc i) x) in
-      let ry = all ok (drop (suc i) y) in
-      let rz = all ok (drop (suc i) z) in
-      let rs = all ok (drop (suc i) w) in
-      let p = rw (drop-cons x i 0 (omega arith), drop-cons y i 0 (omega arith), drop-cons z i 0 (omega arith), drop-cons w i 0 (omega arith)) at q in
-      rw (e, add-one, flag-on ((a && b) && (c && d)) n ((rx && ry) && (rz && rs)), ← weave (a && b) (rx && ry) (c && d) (rz && rs), ← weave a rx b ry, ← weave c rz d rs) p
+abbrev pub from : ℕ → List ℕ → List ℕ → List ℕ → List ℕ → List ℕ → List ℕ → Bool
+from i a b c d e f = rowsHold (drop i a) (drop i b) (drop i c) (drop i d) (drop i e) (drop i f)
+
+module _ (a b c d e f : List ℕ) (six : (length a ≡ 16) × (length b ≡ 16) × (length c ≡ 16) × (length d ≡ 16) × (length e ≡ 16) × (length f ≡ 16)) (i n : ℕ) where
+  next : (ok : ℕ → Bool) (l : List ℕ) → length l ≡ 16 → i < 16 → all ok (drop i l) ≡ (ok (getD l i 0) && all ok (drop (i + 1) l))
+  next ok l g h = rw (add-one, drop-cons l i 0 (omega arith))
+
+  pub rows-step : {x : ℕ} {r : Bool} → i < 16
+      → x ≡ cond ((isOf Text (getD a i 0) && isOf Text (getD b i 0)) && ((isOf Text (getD c i 0) && isOf Text (getD d i 0)) && (isOf Digit (getD e i 0) && isOf Digit (getD f i 0)))) 0 1
+      → (eqb n 0 && from i a b c d e f) ≡ r → (eqb (bitOr n x) 0 && from (i + 1) a b c d e f) ≡ r
+  rows-step h g q =
+      let ta = isOf Text (getD a i 0) in
+      let tb = isOf Text (getD b i 0) in
+      let tc = isOf Text (getD c i 0) in
+      let td = isOf Text (getD d i 0) in
+      let te = isOf Digit (getD e i 0) in
+      let tf = isOf Digit (getD f i 0) in
+      let ra = all (isOf Text) (drop (i + 1) a) in
+      let rb = all (isOf Text) (drop (i + 1) b) in
+      let rc = all (isOf Text) (drop (i + 1) c) in
+      let rd = all (isOf Text) (drop (i + 1) d) in
+      let re = all (isOf Digit) (drop (i + 1) e) in
+      let rf = all (isOf Digit) (drop (i + 1) f) in
+      let front : from i a b c d e f ≡ ((ta && tb) && ((tc && td) && (te && tf))) && from (i + 1) a b c d e f =
+      rw (next (isOf Text) a (six .0) h, next (isOf Text) b (six .1) h, next (isOf Text) c (six .2) h, next (isOf Text) d (six .3) h, next (isOf Digit) e (six .4) h, next (isOf Digit) f (six .5) h, weave ta ra tb rb, weave tc rc td rd, weave te re tf rf, weave (tc && td) (rc && rd) (te && tf) (re && rf))
+      (weave (ta && tb) (ra && rb) ((tc && td) && (te && tf)) ((rc && rd) && (re && rf))) in
+      rw (g, flag-on ((ta && tb) && ((tc && td) && (te && tf))) n (from (i + 1) a b c d e f), ← front) q
 
   none : (l : List ℕ) → length l ≡ 16 → 16 ≤ i → drop i l ≡ []
-  none l e h = let past : length l ≤ i = omega arith in drop-of-length-le l past
+  none l g h = let past : length l ≤ i = omega arith in drop-of-length-le l past
 
-  pub rows-end : {r : Bool} → 16 ≤ i → (eqb n 0 && fourAll ok (drop i x) (drop i y) (drop i z) (drop i w)) ≡ r → eqb n 0 ≡ r
-  rows-end h q = rw (none x lx h, none y ly h, none z lz h, none w lw h, and-true) at q
+  pub rows-end : {r : Bool} → 16 ≤ i → (eqb n 0 && from i a b c d e f) ≡ r → eqb n 0 ≡ r
+  rows-end h q = rw (none a (six .0) h, none b (six .1) h, none c (six .2) h, none d (six .3) h, none e (six .4) h, none f (six .5) h, and-true) at q
 
 -- a part of 16 to 32 bytes is its first sixteen and its last
 pub two-rows : (ok : ℕ → Bool) (bs : List ℕ) → 16 ≤ length bs → length bs ≤ 32
@@ -98,20 +114,16 @@ places-length rec n first last h = length-take-le (last - (first - 1)) (drop (fi
 
 -- what it asks of a record, in its order
 module _ (rec : List ℕ) where
-  pub text-fails : {t : Bool} → t ≡ (all (isOf Text) (partOf (rowAt accountRow) rec) && all (isOf Text) (spanOf (rowAt branchRow) (rowAt authenticationRow) rec)) → t ≡ false
-      → false ≡ isPlain rec
-  unfolding isPlain
-  text-fails e f = rw (sym e ∙ f)
+  abbrev texts : Bool
+  texts = all (isOf Text) (partOf (rowAt accountRow) rec) && (all (isOf Text) (spanOf (rowAt branchRow) (rowAt authenticationRow) rec) && all (isOf Digit) (spanOf (rowAt receivedRow) (rowAt numberRow) rec))
 
-  pub digits-fail : {t u : Bool} → t ≡ (all (isOf Text) (partOf (rowAt accountRow) rec) && all (isOf Text) (spanOf (rowAt branchRow) (rowAt authenticationRow) rec)) → t ≡ true
-      → u ≡ all (isOf Digit) (spanOf (rowAt receivedRow) (rowAt numberRow) rec) → u ≡ false → false ≡ isPlain rec
+  pub parts-fail : {t : Bool} → t ≡ texts → t ≡ false → false ≡ isPlain rec
   unfolding isPlain
-  digits-fail e f g h = rw (sym e ∙ f, sym g ∙ h)
+  parts-fail e f = rw (sym e ∙ f)
 
-  pub blanks-are : {t u v : Bool} → t ≡ (all (isOf Text) (partOf (rowAt accountRow) rec) && all (isOf Text) (spanOf (rowAt branchRow) (rowAt authenticationRow) rec)) → t ≡ true
-      → u ≡ all (isOf Digit) (spanOf (rowAt receivedRow) (rowAt numberRow) rec) → u ≡ true → v ≡ all (isOf Blank) (partOf (rowAt paymentBlankRow) rec) → v ≡ isPlain rec
+  pub blanks-are : {t v : Bool} → t ≡ texts → t ≡ true → v ≡ all (isOf Blank) (partOf (rowAt paymentBlankRow) rec) → v ≡ isPlain rec
   unfolding isPlain
-  blanks-are e f g h k = rw (sym e ∙ f, sym g ∙ h, k)
+  blanks-are e f k = rw (sym e ∙ f, k)
 
   pub capture-fails : {t : Bool} → t ≡ isCapture (getD (partOf (rowAt captureRow) rec) 0 0) → t ≡ false → false ≡ isCoded rec
   unfolding isCoded
@@ -172,6 +184,13 @@ code : (bs : List ℕ) → barcodeAnswer bs ≡ Accepted → kindAnswer kind.Bar
 unfolding kindAnswer
 code bs t = t
 
+pub spelled-accepted : (bs : List ℕ) → isOne (dateOf bs) ≡ true → kindAnswer kind.Date bs ≡ Accepted
+spelled-accepted bs e = go (dateOf bs) refl e
+  where
+    go : (d : Dated) → dateOf bs ≡ d → isOne d ≡ true → kindAnswer kind.Date bs ≡ Accepted
+    go (On d) f t = sym (date-accepted bs d f)
+    go NoDate f t = never t
+
 mark : (rec : List ℕ) → length rec ≡ recordLength → getD rec 0 0 ≡ 71 → kindAnswer (kind.Mark 71) (take 1 (drop 0 rec)) ≡ Accepted
 unfolding kindAnswer
 mark [] n e = absurd (omega arith)
@@ -190,10 +209,10 @@ module _ (rec : List ℕ) (n : length rec ≡ recordLength) (looks : LooksPaid r
       let behind = all (isOf Text) (spanOf (rowAt branchRow) (rowAt authenticationRow) rec) in
       let numbers = all (isOf Digit) (spanOf (rowAt receivedRow) (rowAt numberRow) rec) in
       let rest = all (isOf Blank) (partOf (rowAt paymentBlankRow) rec) in
-      let both = and-eq-true-iff (account && behind) (numbers && rest) .0 (looks .1) in
-      let texts = and-eq-true-iff account behind .0 (both .0) in
-      let others = and-eq-true-iff numbers rest .0 (both .1) in
-      (texts .0, texts .1, others .0, others .1)
+      let both = and-eq-true-iff (account && (behind && numbers)) rest .0 (looks .1) in
+      let parts = and-eq-true-iff account (behind && numbers) .0 (both .0) in
+      let later = and-eq-true-iff behind numbers .0 (parts .1) in
+      (parts .0, later .0, later .1, both .1)
 
   coded : (isCapture (getD (take 1 (drop 116 rec)) 0 0) ≡ true) × (isForm (getD (take 1 (drop 140 rec)) 0 0) ≡ true)
   unfolding isCoded rowAt table layoutOf
@@ -203,13 +222,19 @@ module _ (rec : List ℕ) (n : length rec ≡ recordLength) (looks : LooksPaid r
   unfolding layoutOf rowAt table
   holds =
       first-accepts (fieldAnswer rec) (layoutOf Payment) .1
-      (accepts _ (mark rec n (named-payment (getD rec 0 0) (looks .0))), (accepts _ (text _ (plain .0)), (accepts _ (looks .3), (accepts _ (looks .4), (accepts _ (code _ right), (accepts _ (money _ (inner (isOf Digit) rec 81 27 0 12 (omega arith) (plain .2))), (accepts _ (money _ (inner (isOf Digit) rec 81 27 12 7 (omega arith) (plain .2))), (accepts _ (digits _ (inner (isOf Digit) rec 81 27 19 8 (omega arith) (plain .2))), (accepts _ (text _ (inner (isOf Text) rec 108 32 0 8 (omega arith) (plain .1))), (accepts _ (capture _ (coded .0)), (accepts _ (text _ (inner (isOf Text) rec 108 32 9 23 (omega arith) (plain .1))), (accepts _ (form _ (coded .1)), (accepts _ (blank _ (plain .3)), tt)))))))))))))
+      (accepts _ (mark rec n (named-payment (getD rec 0 0) (looks .0))), (accepts _ (text _ (plain .0)), (accepts _ (looks .3 .0), (accepts _ (looks .3 .1), (accepts _ (code _ right), (accepts _ (money _ (inner (isOf Digit) rec 81 27 0 12 (omega arith) (plain .2))), (accepts _ (money _ (inner (isOf Digit) rec 81 27 12 7 (omega arith) (plain .2))), (accepts _ (digits _ (inner (isOf Digit) rec 81 27 19 8 (omega arith) (plain .2))), (accepts _ (text _ (inner (isOf Text) rec 108 32 0 8 (omega arith) (plain .1))), (accepts _ (capture _ (coded .0)), (accepts _ (text _ (inner (isOf Text) rec 108 32 9 23 (omega arith) (plain .1))), (accepts _ (form _ (coded .1)), (accepts _ (blank _ (plain .3)), tt)))))))))))))
 
   accepted : recordAnswer rec ≡ Accepted
   accepted = named-is Payment rec n (looks .0) ∙ holds
 
-  pub pays-it : {i : Issuer} {c : ℕ} → i ≡ issuerOf (partOf (rowAt barcodeRow) rec) → c ≡ numberIn receivedRow rec → To i c ≡ paysOf (decodeOf rec)
-  pays-it ei ec = rw (accepted, looks .0, ei, ec)
+  received : {c : ℕ} → c ≡ lowNumberOf (partOf (rowAt receivedRow) rec) → c ≡ numberIn receivedRow rec
+  unfolding rowAt table layoutOf
+  received e =
+      let l : length (take 12 (drop 81 rec)) ≡ 12 = length-take-le 12 (drop 81 rec) (omega (arith, length-drop 81 rec)) in
+      e ∙ low-of-digits (take 12 (drop 81 rec)) (inner (isOf Digit) rec 81 27 0 12 (omega arith) (plain .2)) (omega arith)
+
+  pub pays-it : {i : Issuer} {c : ℕ} → i ≡ issuerOf (partOf (rowAt barcodeRow) rec) → c ≡ lowNumberOf (partOf (rowAt receivedRow) rec) → To i c ≡ paysOf (decodeOf rec)
+  pays-it ei ec = rw (accepted, looks .0, ei, received ec)
 
 -- What the quick look is sure of.
 module _ (rec : List ℕ) {r : Pays} {i : Issuer} {c : ℕ} (one : (r ≡ Nothing) ⊎ (r ≡ paysOf (decodeOf rec))) (to : r ≡ To i c) where

@@ -24,14 +24,20 @@ spanOf from to rec = places (from .first) (to .last) rec
 -- the branch, the capture and the authentication are text; received, tariff and record number are digits
 unfoldable pub isPlain : List ℕ → Bool
 isPlain rec =
-    (all (isOf Text) (partOf (rowAt accountRow) rec) && all (isOf Text) (spanOf (rowAt branchRow) (rowAt authenticationRow) rec))
-    && (all (isOf Digit) (spanOf (rowAt receivedRow) (rowAt numberRow) rec) && all (isOf Blank) (partOf (rowAt paymentBlankRow) rec))
+    (all (isOf Text) (partOf (rowAt accountRow) rec)
+    && (all (isOf Text) (spanOf (rowAt branchRow) (rowAt authenticationRow) rec) && all (isOf Digit) (spanOf (rowAt receivedRow) (rowAt numberRow) rec)))
+    && all (isOf Blank) (partOf (rowAt paymentBlankRow) rec)
+
+-- four rows of text and two of digits
+abbrev pub rowsHold : List ℕ → List ℕ → List ℕ → List ℕ → List ℕ → List ℕ → Bool
+rowsHold a b c d e f =
+    (all (isOf Text) a && all (isOf Text) b) && ((all (isOf Text) c && all (isOf Text) d) && (all (isOf Digit) e && all (isOf Digit) f))
 
 unfoldable pub isCoded : List ℕ → Bool
 isCoded rec = isCapture (getD (partOf (rowAt captureRow) rec) 0 0) && isForm (getD (partOf (rowAt formRow) rec) 0 0)
 
-abbrev pub IsDated : ℕ → List ℕ → Type 0
-IsDated row rec = kindAnswer Date (partOf (rowAt row) rec) ≡ Accepted
+abbrev pub IsDated : List ℕ → Type 0
+IsDated rec = (kindAnswer Date (partOf (rowAt paidRow) rec) ≡ Accepted) × (kindAnswer Date (partOf (rowAt creditedRow) rec) ≡ Accepted)
 
 abbrev pub LooksPaid : List ℕ → Type 0
-LooksPaid rec = (namedBy (getD rec 0 0) ≡ Is Payment) × (isPlain rec ≡ true) × (isCoded rec ≡ true) × IsDated paidRow rec × IsDated creditedRow rec
+LooksPaid rec = (namedBy (getD rec 0 0) ≡ Is Payment) × (isPlain rec ≡ true) × (isCoded rec ≡ true) × IsDated rec

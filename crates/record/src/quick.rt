@@ -4,76 +4,66 @@ ghost use mathlib.Core.Bool.{true, cond, _&&_};
 ghost use mathlib.Core.Logic.{_⊎_};
 ghost use mathlib.Core.Path.{_≡_};
 ghost use lib.ListN.{length};
-ghost use Rattle.answer.specs.declared.Answer.the-variants as answers;
 ghost use Rattle.decimal.specs.Bytes.{isOf, all};
-ghost use Rattle.kinds.specs.Kinds.{kindAnswer};
 ghost use Rattle.layout.specs.Layouts.{recordLength, namedBy};
 ghost use Rattle.layout.proofs.Layouts.{Lies};
-ghost use Rattle.record.specs.Looks.{spanOf, isPlain, isCoded, LooksPaid};
-ghost use Rattle.record.specs.Records.{partOf};
+ghost use Rattle.record.specs.Looks.{rowsHold, spanOf, isPlain, isCoded, IsDated, LooksPaid};
 ghost use Rattle.record.specs.Values.{decodeOf, paysOf};
 use crate::Pays;
 use crate::walk;
 use barcode::Payee;
-use calendar::Dated;
 use decimal::Class;
 use layout::Field;
-use layout::Kind;
 use layout::Named;
 use layout::Record;
 use layout::g;
 
-fn flag(b: u8) -> u8
-    ensures { λ r. ⌜ r ≡ cond (isOf Class.Text b) 0 1 ⌝ }
+fn flag(class: Class, b: u8) -> u8
+    ensures { λ r. ⌜ r ≡ cond (isOf class b) 0 1 ⌝ }
 {
-    if decimal::is_of(Class::Text, b) { 0 } else { 1 }
+    if decimal::is_of(class, b) { 0 } else { 1 }
 }
 
-fn flag_of(x: u8, y: u8, z: u8, w: u8) -> u8
-    ensures { λ r. ⌜ r ≡ cond ((isOf Class.Text x && isOf Class.Text y) && (isOf Class.Text z && isOf Class.Text w)) 0 1 ⌝ }
+fn flag_of(a: u8, b: u8, c: u8, d: u8, e: u8, f: u8) -> u8
+    ensures { λ r. ⌜ r ≡ cond ((isOf Class.Text a && isOf Class.Text b) && ((isOf Class.Text c && isOf Class.Text d) && (isOf Class.Digit e && isOf Class.Digit f))) 0 1 ⌝ }
 {
-    (flag(x) | flag(y)) | (flag(z) | flag(w))
+    (flag(Class::Text, a) | flag(Class::Text, b))
+        | ((flag(Class::Text, c) | flag(Class::Text, d))
+            | (flag(Class::Digit, e) | flag(Class::Digit, f)))
 }
 
-// Four rows of sixteen bytes under one flag, with no early end: such a loop is made wide by the compiler.
-fn text_rows(x: &[u8], y: &[u8], z: &[u8], w: &[u8]) -> bool
-    requires { ⌜ (length (now x) ≡ 16) × (length (now y) ≡ 16) × (length (now z) ≡ 16) × (length (now w) ≡ 16) ⌝ }
-    ensures { λ r. ⌜ r ≡ ((all (isOf Class.Text) (now (x .entry)) && all (isOf Class.Text) (now (y .entry))) && (all (isOf Class.Text) (now (z .entry)) && all (isOf Class.Text) (now (w .entry)))) ⌝ }
+// Rows of sixteen bytes under one flag, four of text and two of digits, with no early end: such a loop is made wide by the compiler.
+fn rows_hold(a: &[u8], b: &[u8], c: &[u8], d: &[u8], e: &[u8], f: &[u8]) -> bool
+    requires { ⌜ (length (now a) ≡ 16) × (length (now b) ≡ 16) × (length (now c) ≡ 16) × (length (now d) ≡ 16) × (length (now e) ≡ 16) × (length (now f) ≡ 16) ⌝ }
+    ensures { λ r. ⌜ r ≡ rowsHold (now (a .entry)) (now (b .entry)) (now (c .entry)) (now (d .entry)) (now (e .entry)) (now (f .entry)) ⌝ }
 {
     let mut flags: u8 = 0;
     let mut i = 0;
     while i < 16 {
-        flags = flags | flag_of(x[i], y[i], z[i], w[i]);
+        flags = flags | flag_of(a[i], b[i], c[i], d[i], e[i], f[i]);
         i += 1;
     }
     flags == 0
 }
 
-// Each part has from 16 to 32 bytes: its first sixteen and its last are all of it.
-fn are_text(part: &[u8], other: &[u8]) -> bool
-    requires { ⌜ (16 ≤ length (now part)) × (length (now part) ≤ 32) ⌝ }
+// Two texts and digits. Each part has from 16 to 32 bytes: its first sixteen and its last are all of it.
+fn parts_hold(text: &[u8], other: &[u8], digits: &[u8]) -> bool
+    requires { ⌜ (16 ≤ length (now text)) × (length (now text) ≤ 32) ⌝ }
     requires { ⌜ (16 ≤ length (now other)) × (length (now other) ≤ 32) ⌝ }
-    ensures { λ r. ⌜ r ≡ (all (isOf Class.Text) (now (part .entry)) && all (isOf Class.Text) (now (other .entry))) ⌝ }
+    requires { ⌜ (16 ≤ length (now digits)) × (length (now digits) ≤ 32) ⌝ }
+    ensures { λ r. ⌜ r ≡ (all (isOf Class.Text) (now (text .entry)) && (all (isOf Class.Text) (now (other .entry)) && all (isOf Class.Digit) (now (digits .entry)))) ⌝ }
 {
-    let n = part.len();
+    let n = text.len();
     let m = other.len();
-    text_rows(
-        &part[0..16],
-        &part[n - 16..n],
+    let k = digits.len();
+    rows_hold(
+        &text[0..16],
+        &text[n - 16..n],
         &other[0..16],
         &other[m - 16..m],
+        &digits[0..16],
+        &digits[k - 16..k],
     )
-}
-
-fn are_digits(part: &[u8]) -> bool
-    requires { ⌜ (16 ≤ length (now part)) × (length (now part) ≤ 32) ⌝ }
-    ensures { λ r. ⌜ r ≡ all (isOf Class.Digit) (now (part .entry)) ⌝ }
-{
-    let n = part.len();
-    if !decimal::all_of(Class::Digit, &part[0..16]) {
-        return false;
-    }
-    decimal::all_of(Class::Digit, &part[n - 16..n])
 }
 
 // The bytes of neighbouring fields.
@@ -92,13 +82,9 @@ fn is_plain(rec: &[u8]) -> bool
     requires { ⌜ length (now rec) ≡ recordLength ⌝ }
     ensures { λ r. ⌜ r ≡ isPlain (now (rec .entry)) ⌝ }
 {
-    if !are_text(
-        walk::part_of(rec, g::ACCOUNT),
-        span(rec, g::BRANCH, g::AUTHENTICATION),
-    ) {
-        return false;
-    }
-    if !are_digits(span(rec, g::RECEIVED, g::NUMBER)) {
+    let behind = span(rec, g::BRANCH, g::AUTHENTICATION);
+    let numbers = span(rec, g::RECEIVED, g::NUMBER);
+    if !parts_hold(walk::part_of(rec, g::ACCOUNT), behind, numbers) {
         return false;
     }
     decimal::all_of(Class::Blank, walk::part_of(rec, g::BLANK))
@@ -114,15 +100,14 @@ fn is_coded(rec: &[u8]) -> bool
     kinds::is_form(kinds::byte_at(walk::part_of(rec, g::FORM), 0))
 }
 
-fn is_dated(rec: &[u8], f: Field) -> bool
+fn is_dated(rec: &[u8]) -> bool
     requires { ⌜ length (now rec) ≡ recordLength ⌝ }
-    requires { ⌜ Lies f ⌝ }
-    ensures { λ r. ⌜ (r ≡ true → kindAnswer Kind.Date (partOf f (now (rec .entry))) ≡ answers.Accepted) ⌝ }
+    ensures { λ r. ⌜ (r ≡ true → IsDated (now (rec .entry))) ⌝ }
 {
-    match calendar::read_date(walk::part_of(rec, f)) {
-        Dated::On(_) => true,
-        Dated::NoDate => false,
+    if !calendar::spells_date(walk::part_of(rec, g::PAID)) {
+        return false;
     }
+    calendar::spells_date(walk::part_of(rec, g::CREDITED))
 }
 
 fn is_payment(mark: u8) -> bool
@@ -152,10 +137,7 @@ fn looks_like_payment(rec: &[u8]) -> bool
     if !is_coded(rec) {
         return false;
     }
-    if !is_dated(rec, g::PAID) {
-        return false;
-    }
-    is_dated(rec, g::CREDITED)
+    is_dated(rec)
 }
 
 pub(crate) fn pays(rec: &[u8]) -> Pays
@@ -168,7 +150,7 @@ pub(crate) fn pays(rec: &[u8]) -> Pays
         return Pays::Nothing;
     }
     match barcode::pays(walk::part_of(rec, g::BARCODE)) {
-        Payee::To(issuer) => Pays::To(issuer, decimal::number(walk::part_of(rec, g::RECEIVED))),
+        Payee::To(issuer) => Pays::To(issuer, decimal::low_number(walk::part_of(rec, g::RECEIVED))),
         Payee::Nobody => Pays::Nothing,
     }
 }

@@ -24,14 +24,11 @@ returns-3 c = simp (c .if3 .taken)
 returns-4 : tie.Need-returns-4
 returns-4 c = no-month _ _ (c .if4 .taken)
 
-add-result : tie.Need-add-result
-add-result c = search needs
-
-add-result-2 : tie.Need-add-result-2
-add-result-2 c = search needs
+month-end-requires : tie.Need-month-end-requires
+month-end-requires c κs = search needs
 
 returns-5 : tie.Need-returns-5
-returns-5 c = month-days _ _ (c .before .before .if1 .left) (c .before .if3 .left) (c .if4 .left)
+returns-5 c = c .month-end .ensures ∙ month-days _ _ (c .before .before .before .if1 .left) (c .before .before .if3 .left) (c .before .if4 .left)
 
 pub days-in-spec : {M : Type 1} → statement M
 days-in-spec =
@@ -42,6 +39,5 @@ days-in-spec =
     returns-2
     returns-3
     returns-4
-    add-result
-    add-result-2
+    month-end-requires
     returns-5)

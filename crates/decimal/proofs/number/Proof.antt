@@ -1,7 +1,7 @@
 -- `decimal::number` meets its contract. Assumes nothing.
 use mathlib.Core.Path.{sym, _∙_}
 use borrow.Author.Needs.{needs}
-use Rattle.decimal.proofs.Numbers.{nineteen-are-held}
+use Rattle.decimal.proofs.Numbers.{nineteen-are-held, low-of-digits}
 use Rattle.decimal.proofs.number.Statement.{statement}
 use Rattle.decimal.proofs.number.Tie as tie
 
@@ -14,11 +14,14 @@ returns c = search needs
 all-of-requires : tie.Need-all-of-requires
 all-of-requires c κs = search needs
 
-short-number-requires : tie.Need-short-number-requires
-short-number-requires c κs = (c .before .before .if1 .left, sym (c .before .all-of .ensures) ∙ c .if2 .taken)
+low-number-requires : tie.Need-low-number-requires
+low-number-requires c κs = search needs
 
 returns-2 : tie.Need-returns-2
-returns-2 c = c .short-number .ensures ∙ sym (nineteen-are-held (c .before .before .before .before .before .args .part .now) (c .before .before .before .if1 .left))
+returns-2 c =
+    let part = c .before .before .before .before .before .args .part .now in
+    let few = c .before .before .before .if1 .left in
+    c .low-number .ensures ∙ low-of-digits part (sym (c .before .before .all-of .ensures) ∙ c .before .if2 .taken) few ∙ sym (nineteen-are-held part few)
 
 long-number-requires-2 : tie.Need-long-number-requires-2
 long-number-requires-2 c κs = search needs
@@ -33,7 +36,7 @@ number-spec =
     long-number-requires
     returns
     all-of-requires
-    short-number-requires
+    low-number-requires
     returns-2
     long-number-requires-2
     returns-3)

@@ -1,31 +1,45 @@
 -- `record::quick::is_dated` meets its contract. Assumes nothing.
-use borrow.Author.Needs.{needs}
+use Prim.Native.Nat.{ℕ}
+use mathlib.Core.List.{List}
 use mathlib.Core.Path.{sym, ap, _∙_}
-use Rattle.calendar.specs.Dates.{dateOf}
-use Rattle.kinds.proofs.KindLaws.{date-accepted}
-use Rattle.record.proofs.Looks.{never}
+use borrow.Author.Tests.{not-false}
+use Rattle.calendar.specs.Dates.{dateOf, isOne}
+use Rattle.layout.specs.Layouts.{rowAt, table, layoutOf}
+use Rattle.record.proofs.Looks.{never, spelled-accepted}
+use borrow.Author.Needs.{needs}
 use Rattle.record.proofs.quick.is_dated.Statement.{statement}
 use Rattle.record.proofs.quick.is_dated.Tie as tie
 
 part-of-requires : tie.Need-part-of-requires
 part-of-requires c κs = search needs
 
-read-date-requires : tie.Need-read-date-requires
-read-date-requires c κs = search needs
-
-enum-told : tie.Need-enum-told
-enum-told c = search needs
-
-enum-told-2 : tie.Need-enum-told-2
-enum-told-2 c = search needs
+spells-date-requires : tie.Need-spells-date-requires
+spells-date-requires c κs = search needs
 
 returns : tie.Need-returns
-returns c = λ t. sym (date-accepted _ _ (ap dateOf (sym (c .before .before .before .part-of .ensures)) ∙ sym (c .before .before .read-date .ensures) ∙ c .enum-told .given .1))
+returns c = never
+
+part-of-requires-2 : tie.Need-part-of-requires-2
+part-of-requires-2 c κs = search needs
+
+spells-date-requires-2 : tie.Need-spells-date-requires-2
+spells-date-requires-2 c κs = search needs
 
 returns-2 : tie.Need-returns-2
-returns-2 c = never
+unfolding rowAt table layoutOf
+returns-2 c =
+    λ e. (
+      spelled-accepted _ (sym (ap (λ (l : List ℕ). isOne (dateOf l)) (c .before .before .before .before .part-of .ensures)) ∙ sym (c .before .before .before .spells-date .ensures) ∙ not-false _ (c .before .before .if1 .left)),
+      spelled-accepted _ (sym (ap (λ (l : List ℕ). isOne (dateOf l)) (c .before .part-of2 .ensures)) ∙ sym (c .spells-date2 .ensures) ∙ e),
+    )
 
 pub is-dated-spec : {M : Type 1} → statement M
 is-dated-spec =
     tie.close
-    (tie.spec part-of-requires read-date-requires enum-told enum-told-2 returns returns-2)
+    (tie.spec
+    part-of-requires
+    spells-date-requires
+    returns
+    part-of-requires-2
+    spells-date-requires-2
+    returns-2)

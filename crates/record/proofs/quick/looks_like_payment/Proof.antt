@@ -1,6 +1,5 @@
 -- `record::quick::looks_like_payment` meets its contract. Assumes nothing.
 use borrow.Author.Needs.{needs}
-use Rattle.layout.specs.Layouts.{rowAt, table, layoutOf}
 use mathlib.Core.Path.{sym, _∙_}
 use borrow.Author.Tests.{not-false}
 use Rattle.record.proofs.Looks.{never}
@@ -32,20 +31,12 @@ is-dated-requires : tie.Need-is-dated-requires
 is-dated-requires c κs = search needs
 
 returns-4 : tie.Need-returns-4
-returns-4 c = never
-
-is-dated-requires-2 : tie.Need-is-dated-requires-2
-is-dated-requires-2 c κs = search needs
-
-returns-5 : tie.Need-returns-5
-unfolding rowAt table layoutOf
-returns-5 c =
+returns-4 c =
     λ e. (
-      c .before .before .before .before .before .before .before .before .is-payment .ensures (not-false _ (c .before .before .before .before .before .before .before .if1 .left)),
-      sym (c .before .before .before .before .before .before .is-plain .ensures) ∙ not-false _ (c .before .before .before .before .before .if2 .left),
-      sym (c .before .before .before .before .is-coded .ensures) ∙ not-false _ (c .before .before .before .if3 .left),
-      c .before .before .is-dated .ensures (not-false _ (c .before .if4 .left)),
-      c .is-dated2 .ensures e,
+      c .before .before .before .before .before .before .is-payment .ensures (not-false _ (c .before .before .before .before .before .if1 .left)),
+      sym (c .before .before .before .before .is-plain .ensures) ∙ not-false _ (c .before .before .before .if2 .left),
+      sym (c .before .before .is-coded .ensures) ∙ not-false _ (c .before .if3 .left),
+      c .is-dated .ensures e,
     )
 
 pub looks-like-payment-spec : {M : Type 1} → statement M
@@ -60,6 +51,4 @@ looks-like-payment-spec =
     is-coded-requires
     returns-3
     is-dated-requires
-    returns-4
-    is-dated-requires-2
-    returns-5)
+    returns-4)

@@ -1,18 +1,13 @@
 -- `record::quick::pays` meets its contract. Assumes nothing.
 use borrow.Author.Needs.{needs}
-use Prim.Native.Nat.{ℕ}
-use mathlib.Core.List.{List}
 use mathlib.Core.Logic.{inl, inr}
 use mathlib.Core.Path.{refl, sym, ap, _∙_}
 use borrow.Author.Tests.{not-false}
-use lib.Dec.{lit<, lit≤}
-use Rattle.decimal.specs.Numbers.{numberOf, heldOf}
+use Rattle.decimal.specs.Numbers.{lowNumberOf}
 use Rattle.barcode.specs.Codes.{payeeOf}
 use Rattle.barcode.proofs.OnePass.{paid-accepts, paid-issuer}
-use Rattle.layout.specs.Layouts.{rowAt, table, layoutOf, barcodeRow, receivedRow}
+use Rattle.layout.specs.Layouts.{rowAt, table, layoutOf, barcodeRow}
 use Rattle.record.specs.Records.{partOf}
-use Rattle.record.proofs.Shown.{number-held}
-use Rattle.record.proofs.Walks.{numbered}
 use Rattle.record.proofs.Looks.{pays-it}
 use Rattle.record.proofs.quick.pays.Statement.{statement}
 use Rattle.record.proofs.quick.pays.Tie as tie
@@ -38,8 +33,8 @@ enum-known-issuer c = search needs
 part-of-requires-2 : tie.Need-part-of-requires-2
 part-of-requires-2 c κs = search needs
 
-number-requires : tie.Need-number-requires
-number-requires c κs = search needs
+low-number-requires : tie.Need-low-number-requires
+low-number-requires c κs = search needs
 
 enum-told : tie.Need-enum-told
 enum-told c = search needs
@@ -51,8 +46,7 @@ returns-3 c =
     let n = c .before .before .before .before .before .before .before .before .before .if1 .left in
     let part = partOf (rowAt barcodeRow) rec in
     let to = sym (c .before .before .before .issuer .given .1) ∙ c .before .before .before .before .before .pays .ensures ∙ ap payeeOf (c .before .before .before .before .before .before .part-of .ensures) in
-    let received = number-held (rowAt receivedRow) rec (numbered receivedRow refl (lit< tt)) (lit≤ tt) n (c .number .ensures ∙ ap (λ (l : List ℕ). heldOf (numberOf l)) (c .before .part-of2 .ensures)) in
-    inr (pays-it rec n (c .before .before .before .before .before .before .before .before .looks-like-payment .ensures (not-false _ (c .before .before .before .before .before .before .before .if2 .left))) (sym (paid-accepts part to)) (paid-issuer part to) received)
+    inr (pays-it rec n (c .before .before .before .before .before .before .before .before .looks-like-payment .ensures (not-false _ (c .before .before .before .before .before .before .before .if2 .left))) (sym (paid-accepts part to)) (paid-issuer part to) (c .low-number .ensures ∙ ap lowNumberOf (c .before .part-of2 .ensures)))
 
 returns-4 : tie.Need-returns-4
 returns-4 c = inl refl
@@ -68,7 +62,7 @@ pays-spec =
     pays-requires
     enum-known-issuer
     part-of-requires-2
-    number-requires
+    low-number-requires
     enum-told
     returns-3
     returns-4)

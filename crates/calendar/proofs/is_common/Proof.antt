@@ -1,0 +1,52 @@
+-- `calendar::is_common` meets its contract. Assumes nothing.
+use borrow.Author.Needs.{needs}
+use mathlib.Core.Path.{sym, _∙_}
+use borrow.Author.Tests.{not-false, leb-true}
+use Rattle.calendar.proofs.Common.{never, within-is, common, late}
+use Rattle.calendar.proofs.is_common.Statement.{statement}
+use Rattle.calendar.proofs.is_common.Tie as tie
+
+between-requires : tie.Need-between-requires
+between-requires c κs = search needs
+
+returns : tie.Need-returns
+returns c = never
+
+between-requires-2 : tie.Need-between-requires-2
+between-requires-2 c κs = search needs
+
+returns-2 : tie.Need-returns-2
+returns-2 c = never
+
+returns-3 : tie.Need-returns-3
+returns-3 c = never
+
+returns-4 : tie.Need-returns-4
+returns-4 c =
+    let a = c .before .before .before .before .before .before .args in
+    λ e. common (a .century) (a .month) (a .day) (sym (c .before .before .before .before .before .between .ensures) ∙ not-false _ (c .before .before .before .before .if1 .left)) (sym (c .before .before .before .between2 .ensures) ∙ not-false _ (c .before .before .if2 .left)) (c .before .if3 .left) (c .if4 .taken)
+
+returns-5 : tie.Need-returns-5
+returns-5 c = never
+
+month-end-requires : tie.Need-month-end-requires
+month-end-requires c κs = within-is 1 12 _ (sym (c .before .before .before .before .between2 .ensures) ∙ not-false _ (c .before .before .before .if2 .left)) .1
+
+returns-6 : tie.Need-returns-6
+returns-6 c =
+    let a = c .before .before .before .before .before .before .before .before .args in
+    λ e. late (a .century) (a .month) (a .day) (sym (c .before .before .before .before .before .before .before .between .ensures) ∙ not-false _ (c .before .before .before .before .before .before .if1 .left)) (sym (c .before .before .before .before .before .between2 .ensures) ∙ not-false _ (c .before .before .before .before .if2 .left)) (c .before .before .before .if3 .left) (c .before .if5 .left) (c .month-end .ensures) (leb-true (a .day) (c .month-end .result) e)
+
+pub is-common-spec : {M : Type 1} → statement M
+is-common-spec =
+    tie.close
+    (tie.spec
+    between-requires
+    returns
+    between-requires-2
+    returns-2
+    returns-3
+    returns-4
+    returns-5
+    month-end-requires
+    returns-6)
