@@ -19,18 +19,22 @@ use Rattle.answer.proofs.Orders.{asked-accepts, then-accepts}
 use Rattle.answer.proofs.Steps.{passed}
 use Rattle.decimal.specs.declared.Class.the-variants.{Digit}
 use Rattle.decimal.specs.Bytes.{isOf, all, eachIs}
-use Rattle.decimal.specs.Numbers.{valueOf, numberOf}
+use Rattle.decimal.specs.Numbers.{valueOf, numberOf, lowNumberOf}
 use Rattle.decimal.proofs.Bytes.{each-accepts, all-of-part}
-use Rattle.decimal.proofs.Numbers.{value-other, range-digit}
+use Rattle.decimal.proofs.Numbers.{value-other, range-digit, low-of-digits, nineteen-are-held}
 use Rattle.modulus.specs.declared.Modulus.{Modulus}
 use Rattle.modulus.specs.declared.Summed.the-variants.{NoSum}
 use Rattle.modulus.specs.Checks.{sumsOf, sumOf, sizeOf, ruleOf}
 use Rattle.modulus.proofs.Columns.{no-sum-tells}
 use Rattle.modulus.proofs.Sums.{rule-small}
+use Rattle.calendar.specs.declared.Dated.{Dated}
+use Rattle.calendar.specs.Dates.{dateOf}
+use Rattle.barcode.specs.declared.Decoded.the-variants.{Read}
+use Rattle.barcode.specs.declared.Fields.{Fields}
 use Rattle.barcode.specs.declared.Issuer.{Issuer}
 use Rattle.barcode.specs.declared.Payee.the-variants.{To, Nobody}
-use Rattle.barcode.proofs.Codes.{general-as}
-use Rattle.barcode.specs.Codes.{digitAt, product, issuerEnd, isSegment, isKind, modulusOf, leadAnswer, frontAnswer, generalCheck, generalRight, bodyAnswer, barcodeAnswer, issuerOf, paysTo, payeeOf}
+use Rattle.barcode.proofs.Codes.{general-as, as-fields}
+use Rattle.barcode.specs.Codes.{digitAt, product, issuerEnd, isSegment, isKind, modulusOf, leadAnswer, frontAnswer, generalCheck, generalRight, bodyAnswer, barcodeAnswer, issuerOf, paysTo, payeeOf, fieldsOf, decoded, decodeOf}
 
 pub never : {a : Answer} {why : Reason} {p : ℕ} → a ≡ Refused why p → a ≡ Accepted → ⊥
 never e f = let z : _≡_ {A = ℕ} 0 1 = cc in omega arith
@@ -87,6 +91,16 @@ right-as code n m {x} {y} {r} em ey ex er ek ew =
 pub digits-issuer : (code : List ℕ) {s e i : ℕ} → s ≡ digitAt 2 code → e ≡ issuerEnd s → i ≡ numberOf (take (e - 15) (drop 15 code))
     → _≡_ {A = Issuer} (record { segment = s; number = i }) (issuerOf code)
 digits-issuer code {s} {e} es ee ei = let f : e ≡ issuerEnd (digitAt 2 code) = ee ∙ ap issuerEnd es in rw (ei, f, es)
+
+-- the fields of digits
+pub digits-fields : (code : List ℕ) → length code ≡ 44 → all (isOf Digit) code ≡ true → {i : Issuer} {e k v : ℕ} {d : Dated} → i ≡ issuerOf code → e ≡ issuerEnd (i .segment)
+    → k ≡ digitAt 3 code → v ≡ lowNumberOf (take 11 (drop 4 code)) → d ≡ dateOf (take (e + 8 - e) (drop e code))
+    → _≡_ {A = Fields} (record { kind = k; value = v; issuer = i; due = d }) (fieldsOf code)
+digits-fields code n a {i} {e} {k} {v} ei ee ek ev ed =
+    let l : length (take 11 (drop 4 code)) ≡ 11 = length-take-le 11 (drop 4 code) (omega (arith, length-drop 4 code)) in
+    let few : length (take 11 (drop 4 code)) ≤ 19 = omega arith in
+    let read : v ≡ numberOf (take 11 (drop 4 code)) = ev ∙ low-of-digits (take 11 (drop 4 code)) (all-of-part (isOf Digit) 4 11 code a) few in
+    as-fields code n ei ee ek (read ∙ sym (nineteen-are-held (take 11 (drop 4 code)) few)) ed
 
 -- The answer of 44 bytes, from its parts.
 module _ (code : List ℕ) (n : length code ≡ 44) where
@@ -156,3 +170,25 @@ paid-issuer code {i} e = go (barcodeAnswer code) e
     go : (a : Answer) → To i ≡ paysTo a (issuerOf code) → i ≡ issuerOf code
     go Accepted f = cc
     go (Refused why p) f = let z : _≡_ {A = ℕ} 0 1 = cc in absurd (omega arith)
+
+-- what a payee tells of the whole code
+module _ (code : List ℕ) {i : Issuer} (to : To i ≡ payeeOf code) where
+  accepted : (length code ≡ 44) × (bodyAnswer code ≡ Accepted)
+  accepted = body-accepted code (sym (paid-accepts code to))
+
+  pub paid-length : length code ≡ 44
+  paid-length = accepted .0
+
+  pub paid-digits : all (isOf Digit) code ≡ true
+  paid-digits = all-digits code (accepted .0) (accepted .1)
+
+  pub paid-reads : {f : Fields} → f ≡ fieldsOf code → Read f ≡ decodeOf code
+  paid-reads e = rw (sym (paid-accepts code to), e)
+
+-- a barcode that is read was accepted, and these are its fields
+pub read-tells : (code : List ℕ) {f : Fields} → Read f ≡ decodeOf code → (barcodeAnswer code ≡ Accepted) × (f ≡ fieldsOf code)
+read-tells code {f} e = go (barcodeAnswer code) e
+  where
+    go : (a : Answer) → Read f ≡ decoded a (fieldsOf code) → (a ≡ Accepted) × (f ≡ fieldsOf code)
+    go Accepted g = (refl, cc)
+    go (Refused why p) g = let z : _≡_ {A = ℕ} 0 1 = cc in absurd (omega arith)

@@ -239,9 +239,12 @@ pub fn read_issuer(code: &[u8]) -> Issuer
 pub fn decode(code: &[u8]) -> Decoded
     ensures { λ r. ⌜ r ≡ decodeOf (now (code .entry)) ⌝ }
 {
-    match check(code) {
-        Answer::Refused(why, place) => Decoded::Refused(why, place),
-        Answer::Accepted => Decoded::Read(read_fields(code)),
+    match pays(code) {
+        Payee::To(issuer) => Decoded::Read(right::fields_in(code, issuer)),
+        Payee::Nobody => match asked(code) {
+            Answer::Refused(why, place) => Decoded::Refused(why, place),
+            Answer::Accepted => Decoded::Read(read_fields(code)),
+        },
     }
 }
 

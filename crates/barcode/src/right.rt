@@ -6,7 +6,8 @@ ghost use lib.ListN.{length, take, drop};
 ghost use Rattle.answer.specs.declared.Answer.the-variants as answers;
 ghost use Rattle.decimal.specs.Bytes.{isOf, all};
 ghost use Rattle.modulus.specs.Checks.{sumOf};
-ghost use Rattle.barcode.specs.Codes.{codeLength, digitAt, modulusOf, generalRight, bodyAnswer, issuerOf, payeeOf};
+ghost use Rattle.barcode.specs.Codes.{codeLength, digitAt, modulusOf, generalRight, bodyAnswer, issuerOf, fieldsOf, payeeOf};
+use crate::Fields;
 use crate::Issuer;
 use crate::LENGTH;
 use crate::Payee;
@@ -54,6 +55,22 @@ fn issuer_in(code: &[u8]) -> Issuer
     Issuer {
         segment,
         number: decimal::low_number(&code[15..end]),
+    }
+}
+
+// The fields of digits.
+pub(crate) fn fields_in(code: &[u8], issuer: Issuer) -> Fields
+    requires { ⌜ length (now code) ≡ codeLength ⌝ }
+    requires { ⌜ all (isOf Class.Digit) (now code) ≡ true ⌝ }
+    requires { ⌜ issuer ≡ issuerOf (now code) ⌝ }
+    ensures { λ r. ⌜ r ≡ fieldsOf (now (code .entry)) ⌝ }
+{
+    let end = crate::issuer_end(issuer.segment);
+    Fields {
+        kind: crate::digit(code, 2),
+        value: decimal::low_number(&code[4..15]),
+        issuer,
+        due: calendar::read_date(&code[end..end + 8]),
     }
 }
 

@@ -19,14 +19,16 @@ use Rattle.answer.proofs.Orders.{asked-accepts, first-accepts, moved-accepts}
 use Rattle.decimal.specs.declared.Class.the-variants.{Digit, Blank, Text}
 use Rattle.decimal.specs.Bytes.{isOf, all}
 use Rattle.decimal.proofs.Bytes.{all-joins, all-of-part, each-accepts, flag-on, row-fails, last-row}
-use Rattle.decimal.specs.Numbers.{lowNumberOf}
+use Rattle.decimal.specs.Numbers.{numberOf, lowNumberOf}
 use Rattle.decimal.proofs.Numbers.{low-of-digits}
 use Rattle.decimal.specs.Places.{places}
+use Rattle.calendar.specs.declared.Date.{Date}
 use Rattle.calendar.specs.declared.Dated.{Dated}
 use Rattle.calendar.specs.declared.Dated.the-variants.{On, NoDate}
 use Rattle.calendar.specs.Dates.{dateOf, isOne}
+use Rattle.barcode.specs.declared.Fields.{Fields}
 use Rattle.barcode.specs.declared.Issuer.{Issuer}
-use Rattle.barcode.specs.Codes.{barcodeAnswer, issuerOf}
+use Rattle.barcode.specs.Codes.{barcodeAnswer, issuerOf, fieldsOf}
 use Rattle.kinds.proofs.KindLaws.{date-accepted}
 use Rattle.kinds.specs.Kinds.{same, isCapture, isForm, kindAnswer}
 use Rattle.layout.specs.declared.Field.{Field}
@@ -34,12 +36,17 @@ use Rattle.layout.specs.declared.Kind.the-variants as kind
 use Rattle.layout.specs.declared.Named.{Named}
 use Rattle.layout.specs.declared.Named.the-variants.{Is, Other}
 use Rattle.layout.specs.declared.Record.the-variants.{Header, Payment, Trailer}
-use Rattle.layout.specs.Layouts.{recordLength, namedBy, layoutOf, rowAt, table, accountRow, barcodeRow, receivedRow, numberRow, branchRow, captureRow, authenticationRow, formRow, paymentBlankRow}
+use Rattle.layout.specs.Layouts.{recordLength, namedBy, layoutOf, rowAt, table, accountRow, barcodeRow, receivedRow, numberRow, branchRow, captureRow, authenticationRow, formRow, paymentBlankRow, paidRow, creditedRow, tariffRow}
+use Rattle.record.specs.declared.Decoded.{Decoded}
+use Rattle.record.specs.declared.Decoded.the-variants as decoded
+use Rattle.record.specs.declared.Payment.{Payment as Shows}
+use Rattle.record.specs.declared.quick.Sure.{Sure}
+use Rattle.record.specs.declared.quick.Sure.the-variants.{Of, Not}
 use Rattle.record.specs.declared.Pays.{Pays}
 use Rattle.record.specs.declared.Pays.the-variants.{To, Nothing}
-use Rattle.record.specs.Looks.{spanOf, rowsHold, isPlain, isCoded, LooksPaid}
+use Rattle.record.specs.Looks.{spanOf, rowsHold, isPlain, isCoded, IsDated, LooksPaid, SureOf}
 use Rattle.record.specs.Records.{partOf, fieldAnswer, bodyAnswer, recordAnswer}
-use Rattle.record.specs.Values.{numberIn, shownOf, unlessRefused, decodeOf, paysOf}
+use Rattle.record.specs.Values.{shownOf, unlessRefused, decodeOf, paysOf}
 use Rattle.record.proofs.Shown.{named-is}
 
 pub never : {A : Type 0} → false ≡ true → A
@@ -197,7 +204,7 @@ mark [] n e = absurd (omega arith)
 mark (b ∷ rec) n e = asked-accepts (same (b ∷ []) (71 ∷ [])) FixedDiffers 1 .1 (and-eq-true-iff (eqb b 71) true .1 (eq-eqb b 71 e, refl))
 
 -- A record that looks like a payment, with a right barcode.
-module _ (rec : List ℕ) (n : length rec ≡ recordLength) (looks : LooksPaid rec) (right : barcodeAnswer (partOf (rowAt barcodeRow) rec) ≡ Accepted) where
+module _ (rec : List ℕ) (n : length rec ≡ recordLength) (looks : LooksPaid rec) (dated : IsDated rec) (right : barcodeAnswer (partOf (rowAt barcodeRow) rec) ≡ Accepted) where
   accepts : (f : Field) → kindAnswer (f .kind) (partOf f rec) ≡ Accepted → fieldAnswer rec f ≡ Accepted
   unfolding fieldAnswer
   accepts f e = moved-accepts (behind (f .first - 1)) (kindAnswer (f .kind) (partOf f rec)) .1 e
@@ -222,19 +229,27 @@ module _ (rec : List ℕ) (n : length rec ≡ recordLength) (looks : LooksPaid r
   unfolding layoutOf rowAt table
   holds =
       first-accepts (fieldAnswer rec) (layoutOf Payment) .1
-      (accepts _ (mark rec n (named-payment (getD rec 0 0) (looks .0))), (accepts _ (text _ (plain .0)), (accepts _ (looks .3 .0), (accepts _ (looks .3 .1), (accepts _ (code _ right), (accepts _ (money _ (inner (isOf Digit) rec 81 27 0 12 (omega arith) (plain .2))), (accepts _ (money _ (inner (isOf Digit) rec 81 27 12 7 (omega arith) (plain .2))), (accepts _ (digits _ (inner (isOf Digit) rec 81 27 19 8 (omega arith) (plain .2))), (accepts _ (text _ (inner (isOf Text) rec 108 32 0 8 (omega arith) (plain .1))), (accepts _ (capture _ (coded .0)), (accepts _ (text _ (inner (isOf Text) rec 108 32 9 23 (omega arith) (plain .1))), (accepts _ (form _ (coded .1)), (accepts _ (blank _ (plain .3)), tt)))))))))))))
+      (accepts _ (mark rec n (named-payment (getD rec 0 0) (looks .0))), (accepts _ (text _ (plain .0)), (accepts _ (dated .0), (accepts _ (dated .1), (accepts _ (code _ right), (accepts _ (money _ (inner (isOf Digit) rec 81 27 0 12 (omega arith) (plain .2))), (accepts _ (money _ (inner (isOf Digit) rec 81 27 12 7 (omega arith) (plain .2))), (accepts _ (digits _ (inner (isOf Digit) rec 81 27 19 8 (omega arith) (plain .2))), (accepts _ (text _ (inner (isOf Text) rec 108 32 0 8 (omega arith) (plain .1))), (accepts _ (capture _ (coded .0)), (accepts _ (text _ (inner (isOf Text) rec 108 32 9 23 (omega arith) (plain .1))), (accepts _ (form _ (coded .1)), (accepts _ (blank _ (plain .3)), tt)))))))))))))
 
   accepted : recordAnswer rec ≡ Accepted
   accepted = named-is Payment rec n (looks .0) ∙ holds
 
-  received : {c : ℕ} → c ≡ lowNumberOf (partOf (rowAt receivedRow) rec) → c ≡ numberIn receivedRow rec
-  unfolding rowAt table layoutOf
-  received e =
-      let l : length (take 12 (drop 81 rec)) ≡ 12 = length-take-le 12 (drop 81 rec) (omega (arith, length-drop 81 rec)) in
-      e ∙ low-of-digits (take 12 (drop 81 rec)) (inner (isOf Digit) rec 81 27 0 12 (omega arith) (plain .2)) (omega arith)
+  -- a stretch of the digits behind the barcode
+  read : (j m : ℕ) → j + m ≤ 27 → m ≤ 19 → {c : ℕ} → c ≡ lowNumberOf (take m (drop (81 + j) rec)) → c ≡ numberOf (take m (drop (81 + j) rec))
+  read j m h w e =
+      let l : length (take m (drop (81 + j) rec)) ≡ m = length-take-le m (drop (81 + j) rec) (omega (arith, length-drop (81 + j) rec)) in
+      e ∙ low-of-digits (take m (drop (81 + j) rec)) (inner (isOf Digit) rec 81 27 j m (omega arith) (plain .2)) (omega arith)
 
   pub pays-it : {i : Issuer} {c : ℕ} → i ≡ issuerOf (partOf (rowAt barcodeRow) rec) → c ≡ lowNumberOf (partOf (rowAt receivedRow) rec) → To i c ≡ paysOf (decodeOf rec)
-  pays-it ei ec = rw (accepted, looks .0, ei, received ec)
+  unfolding rowAt table layoutOf
+  pays-it ei ec = rw (accepted, looks .0, ei, read 0 12 (omega arith) (omega arith) ec)
+
+  pub shows-it : {p c : Date} {f : Fields} {r t n : ℕ} → dateOf (partOf (rowAt paidRow) rec) ≡ On p → dateOf (partOf (rowAt creditedRow) rec) ≡ On c
+      → f ≡ fieldsOf (partOf (rowAt barcodeRow) rec) → r ≡ lowNumberOf (partOf (rowAt receivedRow) rec) → t ≡ lowNumberOf (partOf (rowAt tariffRow) rec)
+      → n ≡ lowNumberOf (partOf (rowAt numberRow) rec)
+      → decoded.Payment (record { paid = p; credited = c; barcode = f; received = r; tariff = t; number = n }) ≡ decodeOf rec
+  unfolding rowAt table layoutOf
+  shows-it ep ec ef er et en = rw (accepted, looks .0, ep, ec, ef, read 0 12 (omega arith) (omega arith) er, read 12 7 (omega arith) (omega arith) et, read 19 8 (omega arith) (omega arith) en)
 
 -- What the quick look is sure of.
 module _ (rec : List ℕ) {r : Pays} {i : Issuer} {c : ℕ} (one : (r ≡ Nothing) ⊎ (r ≡ paysOf (decodeOf rec))) (to : r ≡ To i c) where
@@ -247,3 +262,7 @@ module _ (rec : List ℕ) {r : Pays} {i : Issuer} {c : ℕ} (one : (r ≡ Nothin
       go : (a : Answer) → To i c ≡ paysOf (unlessRefused a (shownOf (namedBy (getD rec 0 0)) rec)) → Accepted ≡ a
       go Accepted e = refl
       go (Refused why place) e = let z : _≡_ {A = ℕ} 0 1 = cc in absurd (omega arith)
+
+pub sure-shown : (r : Sure) {p : Shows} {d : Decoded} → SureOf r d → r ≡ Of p → decoded.Payment p ≡ d
+sure-shown (Of q) {p} h e = let same : q ≡ p = cc in ap decoded.Payment (sym same) ∙ h
+sure-shown Not h e = let z : _≡_ {A = ℕ} 0 1 = cc in absurd (omega arith)

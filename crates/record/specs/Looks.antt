@@ -15,6 +15,10 @@ use Rattle.layout.specs.declared.Kind.the-variants.{Date}
 use Rattle.layout.specs.declared.Named.the-variants.{Is}
 use Rattle.layout.specs.declared.Record.the-variants.{Payment}
 use Rattle.layout.specs.Layouts.{namedBy, rowAt, accountRow, paidRow, creditedRow, receivedRow, numberRow, branchRow, captureRow, authenticationRow, formRow, paymentBlankRow}
+use Rattle.record.specs.declared.Decoded.{Decoded}
+use Rattle.record.specs.declared.Decoded.the-variants as decoded
+use Rattle.record.specs.declared.quick.Sure.{Sure}
+use Rattle.record.specs.declared.quick.Sure.the-variants.{Of, Not}
 use Rattle.record.specs.Records.{partOf}
 
 -- from the first place of a field to the last of another
@@ -40,4 +44,9 @@ abbrev pub IsDated : List ℕ → Type 0
 IsDated rec = (kindAnswer Date (partOf (rowAt paidRow) rec) ≡ Accepted) × (kindAnswer Date (partOf (rowAt creditedRow) rec) ≡ Accepted)
 
 abbrev pub LooksPaid : List ℕ → Type 0
-LooksPaid rec = (namedBy (getD rec 0 0) ≡ Is Payment) × (isPlain rec ≡ true) × (isCoded rec ≡ true) × IsDated rec
+LooksPaid rec = (namedBy (getD rec 0 0) ≡ Is Payment) × (isPlain rec ≡ true) × (isCoded rec ≡ true)
+
+-- what it is sure of is decoded so
+abbrev pub SureOf : Sure → Decoded → Type 0
+SureOf (Of payment) d = decoded.Payment payment ≡ d
+SureOf Not d = Unit {0}

@@ -7,16 +7,25 @@ ghost use lib.ListN.{length};
 ghost use Rattle.decimal.specs.Bytes.{isOf, all};
 ghost use Rattle.layout.specs.Layouts.{recordLength, namedBy};
 ghost use Rattle.layout.proofs.Layouts.{Lies};
-ghost use Rattle.record.specs.Looks.{rowsHold, spanOf, isPlain, isCoded, IsDated, LooksPaid};
+ghost use Rattle.record.specs.Looks.{rowsHold, spanOf, isPlain, isCoded, IsDated, LooksPaid, SureOf};
 ghost use Rattle.record.specs.Values.{decodeOf, paysOf};
+use crate::Payment;
 use crate::Pays;
 use crate::walk;
+use barcode::Decoded as Coded;
 use barcode::Payee;
+use calendar::Dated;
 use decimal::Class;
 use layout::Field;
 use layout::Named;
 use layout::Record;
 use layout::g;
+
+// A payment, where the look is sure of one.
+pub(crate) enum Sure {
+    Of(Payment),
+    Not,
+}
 
 fn flag(class: Class, b: u8) -> u8
     ensures { λ r. ⌜ r ≡ cond (isOf class b) 0 1 ⌝ }
@@ -123,7 +132,7 @@ fn is_payment(mark: u8) -> bool
     }
 }
 
-// All fields but the barcode.
+// All fields but the dates and the barcode.
 fn looks_like_payment(rec: &[u8]) -> bool
     requires { ⌜ length (now rec) ≡ recordLength ⌝ }
     ensures { λ r. ⌜ (r ≡ true → LooksPaid (now (rec .entry))) ⌝ }
@@ -134,12 +143,10 @@ fn looks_like_payment(rec: &[u8]) -> bool
     if !is_plain(rec) {
         return false;
     }
-    if !is_coded(rec) {
-        return false;
-    }
-    is_dated(rec)
+    is_coded(rec)
 }
 
+// What it pays; nothing where the look is not sure.
 pub(crate) fn pays(rec: &[u8]) -> Pays
     ensures { λ r. ⌜ (r ≡ Pays.Nothing) ⊎ (r ≡ paysOf (decodeOf (now (rec .entry)))) ⌝ }
 {
@@ -149,8 +156,40 @@ pub(crate) fn pays(rec: &[u8]) -> Pays
     if !looks_like_payment(rec) {
         return Pays::Nothing;
     }
+    if !is_dated(rec) {
+        return Pays::Nothing;
+    }
     match barcode::pays(walk::part_of(rec, g::BARCODE)) {
         Payee::To(issuer) => Pays::To(issuer, decimal::low_number(walk::part_of(rec, g::RECEIVED))),
         Payee::Nobody => Pays::Nothing,
+    }
+}
+
+// All that it shows, where the look is sure.
+pub(crate) fn payment(rec: &[u8]) -> Sure
+    ensures { λ r. ⌜ SureOf r (decodeOf (now (rec .entry))) ⌝ }
+{
+    if rec.len() != layout::LENGTH {
+        return Sure::Not;
+    }
+    if !looks_like_payment(rec) {
+        return Sure::Not;
+    }
+    let Dated::On(paid) = calendar::read_date(walk::part_of(rec, g::PAID)) else {
+        return Sure::Not;
+    };
+    let Dated::On(credited) = calendar::read_date(walk::part_of(rec, g::CREDITED)) else {
+        return Sure::Not;
+    };
+    match barcode::decode(walk::part_of(rec, g::BARCODE)) {
+        Coded::Read(barcode) => Sure::Of(Payment {
+            paid,
+            credited,
+            barcode,
+            received: decimal::low_number(walk::part_of(rec, g::RECEIVED)),
+            tariff: decimal::low_number(walk::part_of(rec, g::TARIFF)),
+            number: decimal::low_number(walk::part_of(rec, g::NUMBER)),
+        }),
+        Coded::Refused(_, _) => Sure::Not,
     }
 }

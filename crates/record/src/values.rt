@@ -15,6 +15,7 @@ use crate::Payment;
 use crate::Pays;
 use crate::Trailer;
 use crate::quick;
+use crate::quick::Sure;
 use crate::walk;
 use answer::Answer;
 use answer::Reason;
@@ -110,12 +111,16 @@ fn shown(rec: &[u8]) -> Decoded
     }
 }
 
+// What the quick look is sure of needs no walk.
 pub fn decode(rec: &[u8]) -> Decoded
     ensures { λ r. ⌜ r ≡ decodeOf (now (rec .entry)) ⌝ }
 {
-    match walk::check(rec) {
-        Answer::Accepted => shown(rec),
-        Answer::Refused(why, place) => Decoded::Refused(why, place),
+    match quick::payment(rec) {
+        Sure::Of(payment) => Decoded::Payment(payment),
+        Sure::Not => match walk::check(rec) {
+            Answer::Accepted => shown(rec),
+            Answer::Refused(why, place) => Decoded::Refused(why, place),
+        },
     }
 }
 

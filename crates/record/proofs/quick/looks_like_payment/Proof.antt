@@ -1,8 +1,8 @@
 -- `record::quick::looks_like_payment` meets its contract. Assumes nothing.
-use borrow.Author.Needs.{needs}
 use mathlib.Core.Path.{sym, _∙_}
 use borrow.Author.Tests.{not-false}
 use Rattle.record.proofs.Looks.{never}
+use borrow.Author.Needs.{needs}
 use Rattle.record.proofs.quick.looks_like_payment.Statement.{statement}
 use Rattle.record.proofs.quick.looks_like_payment.Tie as tie
 
@@ -25,18 +25,11 @@ is-coded-requires : tie.Need-is-coded-requires
 is-coded-requires c κs = search needs
 
 returns-3 : tie.Need-returns-3
-returns-3 c = never
-
-is-dated-requires : tie.Need-is-dated-requires
-is-dated-requires c κs = search needs
-
-returns-4 : tie.Need-returns-4
-returns-4 c =
+returns-3 c =
     λ e. (
-      c .before .before .before .before .before .before .is-payment .ensures (not-false _ (c .before .before .before .before .before .if1 .left)),
-      sym (c .before .before .before .before .is-plain .ensures) ∙ not-false _ (c .before .before .before .if2 .left),
-      sym (c .before .before .is-coded .ensures) ∙ not-false _ (c .before .if3 .left),
-      c .is-dated .ensures e,
+      c .before .before .before .before .is-payment .ensures (not-false _ (c .before .before .before .if1 .left)),
+      sym (c .before .before .is-plain .ensures) ∙ not-false _ (c .before .if2 .left),
+      sym (c .is-coded .ensures) ∙ e,
     )
 
 pub looks-like-payment-spec : {M : Type 1} → statement M
@@ -49,6 +42,4 @@ looks-like-payment-spec =
     is-plain-requires
     returns-2
     is-coded-requires
-    returns-3
-    is-dated-requires
-    returns-4)
+    returns-3)

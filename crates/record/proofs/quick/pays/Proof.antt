@@ -1,5 +1,4 @@
 -- `record::quick::pays` meets its contract. Assumes nothing.
-use borrow.Author.Needs.{needs}
 use mathlib.Core.Logic.{inl, inr}
 use mathlib.Core.Path.{refl, sym, ap, _∙_}
 use borrow.Author.Tests.{not-false}
@@ -9,6 +8,7 @@ use Rattle.barcode.proofs.OnePass.{paid-accepts, paid-issuer}
 use Rattle.layout.specs.Layouts.{rowAt, table, layoutOf, barcodeRow}
 use Rattle.record.specs.Records.{partOf}
 use Rattle.record.proofs.Looks.{pays-it}
+use borrow.Author.Needs.{needs}
 use Rattle.record.proofs.quick.pays.Statement.{statement}
 use Rattle.record.proofs.quick.pays.Tie as tie
 
@@ -20,6 +20,12 @@ looks-like-payment-requires c κs = search needs
 
 returns-2 : tie.Need-returns-2
 returns-2 c = inl refl
+
+is-dated-requires : tie.Need-is-dated-requires
+is-dated-requires c κs = search needs
+
+returns-3 : tie.Need-returns-3
+returns-3 c = inl refl
 
 part-of-requires : tie.Need-part-of-requires
 part-of-requires c κs = search needs
@@ -39,17 +45,17 @@ low-number-requires c κs = search needs
 enum-told : tie.Need-enum-told
 enum-told c = search needs
 
-returns-3 : tie.Need-returns-3
+returns-4 : tie.Need-returns-4
 unfolding rowAt table layoutOf
-returns-3 c =
-    let rec = c .before .before .before .before .before .before .before .before .before .before .before .args .rec .now in
-    let n = c .before .before .before .before .before .before .before .before .before .if1 .left in
+returns-4 c =
+    let rec = c .before .before .before .before .before .before .before .before .before .before .before .before .before .args .rec .now in
     let part = partOf (rowAt barcodeRow) rec in
     let to = sym (c .before .before .before .issuer .given .1) ∙ c .before .before .before .before .before .pays .ensures ∙ ap payeeOf (c .before .before .before .before .before .before .part-of .ensures) in
-    inr (pays-it rec n (c .before .before .before .before .before .before .before .before .looks-like-payment .ensures (not-false _ (c .before .before .before .before .before .before .before .if2 .left))) (sym (paid-accepts part to)) (paid-issuer part to) (c .low-number .ensures ∙ ap lowNumberOf (c .before .part-of2 .ensures)))
+    inr (pays-it rec (c .before .before .before .before .before .before .before .before .before .before .before .if1 .left) (c .before .before .before .before .before .before .before .before .before .before .looks-like-payment .ensures (not-false _ (c .before .before .before .before .before .before .before .before .before .if2 .left))) (c .before .before .before .before .before .before .before .before .is-dated .ensures (not-false _ (c .before .before .before .before .before .before .before .if3 .left))) (sym (paid-accepts part to)) (paid-issuer part to)
+    (c .low-number .ensures ∙ ap lowNumberOf (c .before .part-of2 .ensures)))
 
-returns-4 : tie.Need-returns-4
-returns-4 c = inl refl
+returns-5 : tie.Need-returns-5
+returns-5 c = inl refl
 
 pub pays-spec : {M : Type 1} → statement M
 pays-spec =
@@ -58,11 +64,13 @@ pays-spec =
     returns
     looks-like-payment-requires
     returns-2
+    is-dated-requires
+    returns-3
     part-of-requires
     pays-requires
     enum-known-issuer
     part-of-requires-2
     low-number-requires
     enum-told
-    returns-3
-    returns-4)
+    returns-4
+    returns-5)
