@@ -34,8 +34,5 @@ pub onward : {a b next x : Answer} → a ≡ b → a ≡ Accepted → x ≡ next
 onward {a} {b} e f h = let g : b ≡ Accepted = cc in rw g h
 
 -- an answer that is moved
-pub moved-none : {a b : Answer} (move : ℕ → ℕ) → a ≡ b → a ≡ Accepted → Accepted ≡ movedBy move b
-moved-none {a} {b} move e f = let g : b ≡ Accepted = cc in rw g
-
 pub moved-to : {a b : Answer} (move : ℕ → ℕ) {why : Reason} {p q : ℕ} → a ≡ b → a ≡ Refused why p → q ≡ move p → Refused why q ≡ movedBy move b
 moved-to {a} {b} move {why} {p} e f h = let g : b ≡ Refused why p = cc in rw (g, h)

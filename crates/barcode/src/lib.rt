@@ -3,7 +3,7 @@ pub mod builder;
 mod right;
 
 ghost use mathlib.Core.Path.{_≡_};
-ghost use Prim.Native.Nat.{_+_, _≤_};
+ghost use Prim.Native.Nat.{_≤_};
 ghost use lib.ListN.{length, getD};
 ghost use Rattle.answer.specs.Orders.{heldBehind, movedBy};
 ghost use Rattle.decimal.specs.Numbers.{valueOf};
@@ -144,7 +144,8 @@ fn body(code: &[u8]) -> Answer
     }
 }
 
-fn asked(code: &[u8]) -> Answer
+// The checks in their order.
+fn walked(code: &[u8]) -> Answer
     ensures { λ r. ⌜ r ≡ barcodeAnswer (now (code .entry)) ⌝ }
 {
     if code.len() != LENGTH {
@@ -159,7 +160,7 @@ pub fn check(code: &[u8]) -> Answer
 {
     match pays(code) {
         Payee::To(_) => Answer::Accepted,
-        Payee::Nobody => asked(code),
+        Payee::Nobody => walked(code),
     }
 }
 
@@ -223,25 +224,12 @@ pub fn read_fields(code: &[u8]) -> Fields
     fields_of(code)
 }
 
-// The same of the issuer alone.
-pub fn read_issuer(code: &[u8]) -> Issuer
-    ensures { λ r. ⌜ r ≡ readOf (now (code .entry)) .issuer ⌝ }
-{
-    if code.len() != LENGTH {
-        return Issuer {
-            segment: 0,
-            number: 0,
-        };
-    }
-    issuer_of(code)
-}
-
 pub fn decode(code: &[u8]) -> Decoded
     ensures { λ r. ⌜ r ≡ decodeOf (now (code .entry)) ⌝ }
 {
     match pays(code) {
         Payee::To(issuer) => Decoded::Read(right::fields_in(code, issuer)),
-        Payee::Nobody => match asked(code) {
+        Payee::Nobody => match walked(code) {
             Answer::Refused(why, place) => Decoded::Refused(why, place),
             Answer::Accepted => Decoded::Read(read_fields(code)),
         },

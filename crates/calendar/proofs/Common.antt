@@ -18,9 +18,6 @@ use Rattle.calendar.specs.Dates.{isLeap, daysIn, dateOf, isOne}
 use Rattle.calendar.proofs.Dates.{by-days, as-spelled, judged}
 use Rattle.calendar.proofs.Months.{month-days}
 
-pub never : {A : Type 0} → false ≡ true → A
-never e = let z : _≡_ {A = ℕ} 0 1 = cc in absurd (omega arith)
-
 pub within-is : (lo hi n : ℕ) → within lo hi n ≡ true → (lo ≤ n) × (n ≤ hi)
 within-is lo hi n e = let both = and-eq-true-iff (leb lo n) (leb n hi) .0 e in (leb-true lo n (both .0), leb-true n hi (both .1))
 

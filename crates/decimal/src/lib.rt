@@ -76,7 +76,7 @@ fn digit_rows(part: &[u8]) -> bool
     all_of(Class::Digit, &part[n - 16..n])
 }
 
-// Digits in rows, since every barcode is asked them; the other classes are asked seldom.
+// Digits in rows, since every typed line is asked them; the other classes are asked seldom.
 fn rows_of(class: Class, part: &[u8]) -> bool
     ensures { λ r. ⌜ r ≡ all (isOf class) (now (part .entry)) ⌝ }
 {

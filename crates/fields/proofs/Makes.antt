@@ -15,7 +15,7 @@ use Rattle.answer.specs.declared.Reason.the-variants.{WrongLength, NoDigit, Too
 use Rattle.answer.specs.declared.Answer.{Answer}
 use Rattle.answer.specs.declared.Answer.the-variants.{Accepted, Refused}
 use Rattle.answer.specs.Refusals.{answerPlace}
-use Rattle.answer.specs.Orders.{asked, _then_, kept, movedBy, behind, heldBehind}
+use Rattle.answer.specs.Orders.{_then_, kept, movedBy, behind, heldBehind}
 use Rattle.answer.proofs.Orders.{accepted-takes, asked-place, then-place, behind-is-held}
 use Rattle.decimal.specs.declared.Class.the-variants.{Digit}
 use Rattle.decimal.specs.Bytes.{isOf}

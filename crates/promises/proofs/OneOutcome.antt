@@ -49,7 +49,6 @@ one-outcome =
       barcode·check = λ w κs given g r r′ left left′. value w _ _ _ _ _ left;
       barcode·check_behind = λ w κs given g r r′ left left′. value w _ _ _ _ _ left;
       barcode·read_fields = λ w κs given g r r′ left left′. value w _ _ _ _ _ left;
-      barcode·read_issuer = λ w κs given g r r′ left left′. value w _ _ _ _ _ left;
       barcode·pays = λ w κs given g r r′ left left′. value w _ _ _ _ _ left;
       barcode·decode = λ w κs given g r r′ left left′. value w _ _ _ _ _ left;
       barcode·free_field = λ w κs given g r r′ left left′. value w _ _ _ _ _ left;

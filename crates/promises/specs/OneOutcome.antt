@@ -35,7 +35,6 @@ use Rattle.barcode.proofs.front as barcode·front
 use Rattle.barcode.proofs.check as barcode·check
 use Rattle.barcode.proofs.check_behind as barcode·check_behind
 use Rattle.barcode.proofs.read_fields as barcode·read_fields
-use Rattle.barcode.proofs.read_issuer as barcode·read_issuer
 use Rattle.barcode.proofs.pays as barcode·pays
 use Rattle.barcode.proofs.decode as barcode·decode
 use Rattle.barcode.proofs.free_field as barcode·free_field
@@ -152,7 +151,6 @@ pub record OneOutcome : Type 2 where
   pub barcode·check : One barcode·check.ended (λ M. barcode·check.clauses)
   pub barcode·check_behind : One barcode·check_behind.ended (λ M. barcode·check_behind.clauses)
   pub barcode·read_fields : One barcode·read_fields.ended (λ M. barcode·read_fields.clauses)
-  pub barcode·read_issuer : One barcode·read_issuer.ended (λ M. barcode·read_issuer.clauses)
   pub barcode·pays : One barcode·pays.ended (λ M. barcode·pays.clauses)
   pub barcode·decode : One barcode·decode.ended (λ M. barcode·decode.clauses)
   pub barcode·free_field : OneSeen barcode·free_field.ended (λ M. barcode·free_field.clauses) (λ κs. List ℕ) (λ κs r. now r)

@@ -1,6 +1,6 @@
 // Reads return files from standard input, and prints the board shown at their end or at the first refusal.
 ghost use mathlib.Core.Path.{_≡_};
-ghost use Prim.Native.Nat.{_+_, _≤_, _<_};
+ghost use Prim.Native.Nat.{_≤_};
 ghost use lib.ListN.{length, take};
 ghost use Rattle.quadro.specs.Days.{bufferLength, most, fresh, fedOf, endedOf, Counted, Grown, Within};
 use answer::Answer;

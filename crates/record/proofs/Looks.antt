@@ -20,6 +20,7 @@ use Rattle.decimal.specs.declared.Class.the-variants.{Digit, Blank, Text}
 use Rattle.decimal.specs.Bytes.{isOf, all}
 use Rattle.decimal.proofs.Bytes.{all-joins, all-of-part, each-accepts, flag-on, row-fails, last-row}
 use Rattle.decimal.specs.Numbers.{numberOf, lowNumberOf}
+use Rattle.decimal.proofs.Finite.{never}
 use Rattle.decimal.proofs.Numbers.{low-of-digits}
 use Rattle.decimal.specs.Places.{places}
 use Rattle.calendar.specs.declared.Date.{Date}
@@ -48,9 +49,6 @@ use Rattle.record.specs.Looks.{spanOf, rowsHold, isPlain, isCoded, IsDat
 use Rattle.record.specs.Records.{partOf, fieldAnswer, bodyAnswer, recordAnswer}
 use Rattle.record.specs.Values.{shownOf, unlessRefused, decodeOf, paysOf}
 use Rattle.record.proofs.Shown.{named-is}
-
-pub never : {A : Type 0} → false ≡ true → A
-never e = let z : _≡_ {A = ℕ} 0 1 = cc in absurd (omega arith)
 
 -- The flags of six bytes are one flag.
 

@@ -25,7 +25,7 @@ use Rattle.record.specs.Records.{partOf}
 abbrev pub spanOf : Field → Field → List ℕ → List ℕ
 spanOf from to rec = places (from .first) (to .last) rec
 
--- the branch, the capture and the authentication are text; received, tariff and record number are digits
+-- the account is text, and so are branch, capture and authentication as one; received, tariff and record number are digits; the last field is blank
 unfoldable pub isPlain : List ℕ → Bool
 isPlain rec =
     (all (isOf Text) (partOf (rowAt accountRow) rec)

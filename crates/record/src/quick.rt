@@ -12,7 +12,7 @@ ghost use Rattle.record.specs.Values.{decodeOf, paysOf};
 use crate::Payment;
 use crate::Pays;
 use crate::walk;
-use barcode::Decoded as Coded;
+use barcode::Decoded as Barcoded;
 use barcode::Payee;
 use calendar::Dated;
 use decimal::Class;
@@ -99,6 +99,7 @@ fn is_plain(rec: &[u8]) -> bool
     decimal::all_of(Class::Blank, walk::part_of(rec, g::BLANK))
 }
 
+// Capture and payment form.
 fn is_coded(rec: &[u8]) -> bool
     requires { ⌜ length (now rec) ≡ recordLength ⌝ }
     ensures { λ r. ⌜ r ≡ isCoded (now (rec .entry)) ⌝ }
@@ -182,7 +183,7 @@ pub(crate) fn payment(rec: &[u8]) -> Sure
         return Sure::Not;
     };
     match barcode::decode(walk::part_of(rec, g::BARCODE)) {
-        Coded::Read(barcode) => Sure::Of(Payment {
+        Barcoded::Read(barcode) => Sure::Of(Payment {
             paid,
             credited,
             barcode,
@@ -190,6 +191,6 @@ pub(crate) fn payment(rec: &[u8]) -> Sure
             tariff: decimal::low_number(walk::part_of(rec, g::TARIFF)),
             number: decimal::low_number(walk::part_of(rec, g::NUMBER)),
         }),
-        Coded::Refused(_, _) => Sure::Not,
+        Barcoded::Refused(_, _) => Sure::Not,
     }
 }

@@ -4,7 +4,7 @@ ghost use Prim.Native.Nat.{_+_, _≤_};
 ghost use lib.ListN.{length, getD};
 ghost use Rattle.decimal.specs.Numbers.{numberOf};
 ghost use Rattle.calendar.specs.Dates.{dateOf};
-ghost use Rattle.barcode.specs.Codes.{issuerOf, fieldsOf};
+ghost use Rattle.barcode.specs.Codes.{fieldsOf};
 ghost use Rattle.layout.specs.Layouts.{recordLength, namedBy};
 ghost use Rattle.layout.proofs.Layouts.{Lies};
 ghost use Rattle.record.specs.Records.{partOf};
@@ -117,7 +117,7 @@ pub fn decode(rec: &[u8]) -> Decoded
 {
     match quick::payment(rec) {
         Sure::Of(payment) => Decoded::Payment(payment),
-        Sure::Not => match walk::check(rec) {
+        Sure::Not => match walk::walked(rec) {
             Answer::Accepted => shown(rec),
             Answer::Refused(why, place) => Decoded::Refused(why, place),
         },
@@ -139,7 +139,7 @@ fn pays_of(decoded: Decoded) -> Pays
     }
 }
 
-// Of an accepted payment only what a session needs; decoding the rest of it would cost as much again.
+// Of a payment that the quick look is sure of, only what a session needs; decoding the rest of it would cost as much again.
 pub fn paid(rec: &[u8]) -> Pays
     ensures { λ r. ⌜ r ≡ paysOf (decodeOf (now (rec .entry))) ⌝ }
 {

@@ -57,7 +57,7 @@ fn body_answer(which: Record, rec: &[u8]) -> Answer
 }
 
 // A record alone: its length, what it is, then its fields.
-fn walked(rec: &[u8]) -> Answer
+pub(crate) fn walked(rec: &[u8]) -> Answer
     ensures { λ r. ⌜ r ≡ recordAnswer (now (rec .entry)) ⌝ }
 {
     if rec.len() != layout::LENGTH {

@@ -18,7 +18,6 @@ use Rattle.decimal.proofs.Numbers.{digits-of-number, number-fits}
 use Rattle.layout.specs.declared.Named.the-variants.{Is}
 use Rattle.layout.specs.declared.Record.the-variants.{Trailer}
 use Rattle.layout.specs.Layouts.{recordLength, namedBy, noField, layoutOf, givenLength, joinedOf, rowAt, table, countRow, totalRow}
-use Rattle.layout.specs.declared.Kind.the-variants as kind
 use Rattle.layout.proofs.Layouts.{row-lies}
 use Rattle.kinds.specs.Kinds.{kindAnswer}
 use Rattle.record.specs.Records.{partOf, fieldAnswer, bodyAnswer, recordAnswer}

@@ -14,8 +14,8 @@ enum-told c = search needs
 enum-told-2 : tie.Need-enum-told-2
 enum-told-2 c = search needs
 
-asked-requires : tie.Need-asked-requires
-asked-requires c κs = search needs
+walked-requires : tie.Need-walked-requires
+walked-requires c κs = search needs
 
 returns : tie.Need-returns
 returns c = paid-accepts (c .before .before .before .before .args .code .now) (sym (c .enum-told .given .1) ∙ c .before .before .pays .ensures)
@@ -25,4 +25,4 @@ returns-2 c = search needs
 
 pub check-spec : {M : Type 1} → statement M
 check-spec =
-    tie.close (tie.spec pays-requires enum-told enum-told-2 asked-requires returns returns-2)
+    tie.close (tie.spec pays-requires enum-told enum-told-2 walked-requires returns returns-2)

@@ -21,8 +21,8 @@ fields-in-requires c κs =
 enum-told : tie.Need-enum-told
 enum-told c = search needs
 
-asked-requires : tie.Need-asked-requires
-asked-requires c κs = search needs
+walked-requires : tie.Need-walked-requires
+walked-requires c κs = search needs
 
 enum-known-why : tie.Need-enum-known-why
 enum-known-why c = search needs
@@ -37,10 +37,10 @@ returns : tie.Need-returns
 returns c = paid-reads (c .before .before .before .before .before .before .args .code .now) (sym (c .before .before .issuer .given .1) ∙ c .before .before .before .before .pays .ensures) (c .fields-in .ensures)
 
 returns-2 : tie.Need-returns-2
-returns-2 c = as-refused (c .before .before .before .before .before .before .before .before .args .code .now) (c .before .before .before .asked .ensures) (c .before .why .given .1)
+returns-2 c = as-refused (c .before .before .before .before .before .before .before .before .args .code .now) (c .before .before .before .walked .ensures) (c .before .why .given .1)
 
 returns-3 : tie.Need-returns-3
-returns-3 c = as-read (c .before .before .before .before .before .before .before .before .args .code .now) (c .before .before .before .asked .ensures) (c .before .enum-told2 .given .1) (c .read-fields .ensures)
+returns-3 c = as-read (c .before .before .before .before .before .before .before .before .args .code .now) (c .before .before .before .walked .ensures) (c .before .enum-told2 .given .1) (c .read-fields .ensures)
 
 pub decode-spec : {M : Type 1} → statement M
 decode-spec =
@@ -50,7 +50,7 @@ decode-spec =
     enum-known-issuer
     fields-in-requires
     enum-told
-    asked-requires
+    walked-requires
     enum-known-why
     enum-told-2
     read-fields-requires

@@ -2,7 +2,8 @@
 use borrow.Author.Needs.{needs}
 use mathlib.Core.Path.{sym, _∙_}
 use borrow.Author.Tests.{not-false, leb-true}
-use Rattle.calendar.proofs.Common.{never, within-is, common, late}
+use Rattle.decimal.proofs.Finite.{never}
+use Rattle.calendar.proofs.Common.{within-is, common, late}
 use Rattle.calendar.proofs.is_common.Statement.{statement}
 use Rattle.calendar.proofs.is_common.Tie as tie
 

@@ -5,7 +5,8 @@ use mathlib.Core.Path.{sym, ap, _∙_}
 use borrow.Author.Tests.{not-false}
 use Rattle.calendar.specs.Dates.{dateOf, isOne}
 use Rattle.layout.specs.Layouts.{rowAt, table, layoutOf}
-use Rattle.record.proofs.Looks.{never, spelled-accepted}
+use Rattle.decimal.proofs.Finite.{never}
+use Rattle.record.proofs.Looks.{spelled-accepted}
 use borrow.Author.Needs.{needs}
 use Rattle.record.proofs.quick.is_dated.Statement.{statement}
 use Rattle.record.proofs.quick.is_dated.Tie as tie

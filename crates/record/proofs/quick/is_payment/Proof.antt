@@ -2,7 +2,7 @@
 use borrow.Author.Needs.{needs}
 use mathlib.Core.Path.{sym, ap, _∙_}
 use Rattle.layout.specs.declared.Named.the-variants.{Is}
-use Rattle.record.proofs.Looks.{never}
+use Rattle.decimal.proofs.Finite.{never}
 use Rattle.record.proofs.quick.is_payment.Statement.{statement}
 use Rattle.record.proofs.quick.is_payment.Tie as tie
 

@@ -1,7 +1,7 @@
 -- `record::quick::looks_like_payment` meets its contract. Assumes nothing.
 use mathlib.Core.Path.{sym, _∙_}
 use borrow.Author.Tests.{not-false}
-use Rattle.record.proofs.Looks.{never}
+use Rattle.decimal.proofs.Finite.{never}
 use borrow.Author.Needs.{needs}
 use Rattle.record.proofs.quick.looks_like_payment.Statement.{statement}
 use Rattle.record.proofs.quick.looks_like_payment.Tie as tie

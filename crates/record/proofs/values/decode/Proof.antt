@@ -15,14 +15,14 @@ enum-known-payment c = search needs
 enum-told : tie.Need-enum-told
 enum-told c = search needs
 
-check-requires : tie.Need-check-requires
-check-requires c κs = search needs
+walked-requires : tie.Need-walked-requires
+walked-requires c κs = search needs
 
 enum-told-2 : tie.Need-enum-told-2
 enum-told-2 c = search needs
 
 shown-requires : tie.Need-shown-requires
-shown-requires c κs = accepted-is _ (sym (c .before .before .check .ensures) ∙ c .enum-told2 .given .1) .0
+shown-requires c κs = accepted-is _ (sym (c .before .before .walked .ensures) ∙ c .enum-told2 .given .1) .0
 
 enum-known-why : tie.Need-enum-known-why
 enum-known-why c = search needs
@@ -31,10 +31,10 @@ returns : tie.Need-returns
 returns c = sure-shown _ (c .before .before .before .payment .ensures) (c .before .payment2 .given .1)
 
 returns-2 : tie.Need-returns-2
-returns-2 c = rw (sym (c .before .before .before .check .ensures) ∙ c .before .enum-told2 .given .1) (c .shown .ensures)
+returns-2 c = rw (sym (c .before .before .before .walked .ensures) ∙ c .before .enum-told2 .given .1) (c .shown .ensures)
 
 returns-3 : tie.Need-returns-3
-returns-3 c = rw (sym (c .before .before .before .check .ensures) ∙ c .before .why .given .1)
+returns-3 c = rw (sym (c .before .before .before .walked .ensures) ∙ c .before .why .given .1)
 
 pub decode-spec : {M : Type 1} → statement M
 decode-spec =
@@ -43,7 +43,7 @@ decode-spec =
     payment-requires
     enum-known-payment
     enum-told
-    check-requires
+    walked-requires
     enum-told-2
     shown-requires
     enum-known-why
