@@ -3,7 +3,7 @@ use mathlib.Core.Path.{refl}
 use Rattle.decimal.specs.Bytes.{isOf}
 use Rattle.decimal.specs.Numbers.{valueOf, digitsOf}
 use Rattle.calendar.specs.Dates.{isLeap, daysIn, isDate, dateOf}
-use Rattle.modulus.specs.Checks.{termOf, ruleOf}
+use Rattle.modulus.specs.Checks.{addedBy, termOf, ruleOf}
 use Rattle.barcode.specs.Codes.{leadAnswer, generalRight}
 use Rattle.layout.specs.Layouts.{namedBy, layoutOf, table, rowAt}
 use Rattle.kinds.specs.Kinds.{isService, isCapture, isForm, kindAnswer}
@@ -14,5 +14,5 @@ use Rattle.board.specs.Boards.{ownOf, usedAfter, slotAnswer}
 use Rattle.book.specs.Samples.{samples, Hold}
 
 pub samples-hold : Hold samples
-unfolding recordAnswer fieldAnswer kindAnswer isService isCapture isForm namedBy layoutOf table rowAt trailerAnswer fileAnswer fits ownOf usedAfter slotAnswer leadAnswer generalRight termOf ruleOf dateOf isDate daysIn isLeap digitsOf valueOf isOf
+unfolding recordAnswer fieldAnswer kindAnswer isService isCapture isForm namedBy layoutOf table rowAt trailerAnswer fileAnswer fits ownOf usedAfter slotAnswer leadAnswer generalRight termOf addedBy ruleOf dateOf isDate daysIn isLeap digitsOf valueOf isOf
 samples-hold = refl

@@ -94,6 +94,13 @@ pub flag-on : (t : Bool) (n : ℕ) (rest : Bool) → (eqb (bitOr n (cond t 0 1))
 flag-on true n rest = rw or-zero-r
 flag-on false n rest = rw (or-one, and-false)
 
+-- two flags are one
+pub two-flags : (t u : Bool) → bitOr (cond t 0 1) (cond u 0 1) ≡ cond (t && u) 0 1
+two-flags true true = refl
+two-flags true false = refl
+two-flags false true = refl
+two-flags false false = refl
+
 module _ (ok : ℕ → Bool) (bs : List ℕ) (i n : ℕ) where
   pub flag-step : {f : ℕ} {r : Bool} → i < length bs → f ≡ cond (ok (getD bs i 0)) 0 1 → (eqb n 0 && all ok (drop i bs)) ≡ r
       → (eqb (bitOr n f) 0 && all ok (drop (i + 1) bs)) ≡ r

@@ -14,13 +14,13 @@ use lib.Seq.{drop-cons, drop-drop, take-all}
 use Rattle.decimal.specs.declared.Class.the-variants.{Digit}
 use Rattle.decimal.specs.Bytes.{isOf, all}
 use Rattle.decimal.specs.Numbers.{valueOf}
-use Rattle.decimal.proofs.Bytes.{flag-on, all-at, row-fails, row-passes, last-row}
+use Rattle.decimal.proofs.Bytes.{flag-on, all-at, row-fails, row-passes, last-row, two-flags}
 use Rattle.decimal.proofs.Numbers.{low-value, value-small}
 use Rattle.modulus.specs.declared.Modulus.{Modulus}
 use Rattle.modulus.specs.declared.Modulus.the-variants.{Ten, Eleven}
 use Rattle.modulus.specs.declared.Summed.the-variants.{Both, NoSum}
-use Rattle.modulus.specs.Checks.{weightOf, partOf, termOf, sumOf, sumsOf}
-use Rattle.modulus.specs.Columns.{addedBy, areDigits, counted}
+use Rattle.modulus.specs.Checks.{addedBy, weightOf, partOf, termOf, sumOf, sumsOf}
+use Rattle.modulus.specs.Columns.{areDigits, counted}
 use Rattle.modulus.proofs.Sums.{parts-compose, sum-period}
 
 -- Under modulo 10 a digit counts once, or twice less nine where the double has two digits.
@@ -69,12 +69,6 @@ module _ (i a b c : ℕ) (h : i < 16) where
   column-small p q r = let fits : (2 + (15 - i) % 8) * (a + (b + c)) ≤ 9 * 45 = mul-le-mul {n₂ = 9} {m₂ = 45} (omega arith) (omega arith) in fits
 
 -- the flags of three bytes are one flag
-two-flags : (t u : Bool) → bitOr (cond t 0 1) (cond u 0 1) ≡ cond (t && u) 0 1
-two-flags true true = refl
-two-flags true false = refl
-two-flags false true = refl
-two-flags false false = refl
-
 pub three-flags : (t u v : Bool) {f g h : ℕ} → f ≡ cond t 0 1 → g ≡ cond u 0 1 → h ≡ cond v 0 1 → bitOr f (bitOr g h) ≡ cond (t && (u && v)) 0 1
 three-flags t u v ef eg eh = rw (ef, eg, eh, two-flags u v, two-flags t (u && v))
 

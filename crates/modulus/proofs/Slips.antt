@@ -12,7 +12,7 @@ use lib.Seq.{getD-set-other}
 use Rattle.decimal.proofs.Finite.{below, at2, follows, agrees, or-cases}
 use Rattle.modulus.specs.declared.Modulus.{Modulus}
 use Rattle.modulus.specs.declared.Modulus.the-variants.{Ten, Eleven}
-use Rattle.modulus.specs.Checks.{sizeOf, termOf, sumOf, ruleOf, exchanged, OneDigitMoves, ExchangeKeeps, EvenShiftKeeps, CheckShowsTen, CheckShowsEleven}
+use Rattle.modulus.specs.Checks.{sizeOf, addedBy, termOf, sumOf, ruleOf, exchanged, OneDigitMoves, ExchangeKeeps, EvenShiftKeeps, CheckShowsTen, CheckShowsEleven}
 use Rattle.modulus.proofs.Terms.{term-tells, are, are-tells, are-test, neighbours-tell}
 
 -- the byte at i, which has w bytes to its right in the list, set to d
@@ -34,7 +34,7 @@ one-digit-moves m k bs i d h hb hd e =
     sym (term-tells m (k + w) (getD bs i 0) d hb hd (cancel m _ _ _ _ moved e))
 
 even-term : (n k b : ℕ) → termOf Ten (2 * n + k) b ≡ termOf Ten k b
-unfolding termOf
+unfolding termOf addedBy
 even-term n k b = let e : (2 * n + k) % 2 ≡ k % 2 = omega arith in rw e
 
 pub even-shift-keeps : EvenShiftKeeps

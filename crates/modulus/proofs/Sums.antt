@@ -14,7 +14,7 @@ use Rattle.decimal.specs.Numbers.{valueOf}
 use Rattle.decimal.proofs.Numbers.{value-small}
 use Rattle.modulus.specs.declared.Modulus.{Modulus}
 use Rattle.modulus.specs.declared.Modulus.the-variants.{Ten, Eleven}
-use Rattle.modulus.specs.Checks.{sizeOf, weightOf, partOf, termOf, sumOf, ruleOf, CheckIsOneDigit, PartsCompose}
+use Rattle.modulus.specs.Checks.{sizeOf, weightOf, partOf, addedBy, termOf, sumOf, ruleOf, CheckIsOneDigit, PartsCompose}
 use Rattle.modulus.proofs.Terms.{period}
 
 pub weight-small : (m : Modulus) (k : ℕ) → weightOf m k ≤ 9
@@ -56,7 +56,7 @@ pub product-small : (m : Modulus) (k b : ℕ) → weightOf m k * valueOf b ≤ 8
 product-small m k b = mul-le-mul (weight-small m k) (value-small b)
 
 pub term-small : (m : Modulus) (k b : ℕ) → termOf m k b ≤ 81
-unfolding termOf
+unfolding termOf addedBy
 term-small m k b = le-trans (part-small m (weightOf m k * valueOf b)) (product-small m k b)
 
 pub sum-small : (m : Modulus) (k : ℕ) (bs : List ℕ) → sumOf m k bs ≤ 81 * length bs

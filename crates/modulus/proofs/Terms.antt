@@ -14,11 +14,11 @@ use Rattle.decimal.proofs.Finite.{below, at3, follows, agrees, or-cases}
 use Rattle.decimal.proofs.Numbers.{digit-range}
 use Rattle.modulus.specs.declared.Modulus.{Modulus}
 use Rattle.modulus.specs.declared.Modulus.the-variants.{Ten, Eleven}
-use Rattle.modulus.specs.Checks.{sizeOf, termOf, Are}
+use Rattle.modulus.specs.Checks.{sizeOf, addedBy, termOf, Are}
 
 -- the weights of both moduli come again after eight digits
 pub period : (m : Modulus) (k b : ℕ) → termOf m k b ≡ termOf m (k % 8) b
-unfolding termOf
+unfolding termOf addedBy
 period Ten k b = let e : k % 8 % 2 ≡ k % 2 = omega arith in rw e
 period Eleven k b = simp mod-mod
 
@@ -38,7 +38,7 @@ alike : Modulus → ℕ → ℕ → ℕ → Bool
 alike m p b d = cond (eqb (termOf m p b % sizeOf m) (termOf m p d % sizeOf m)) (eqb b d) true
 
 alike-all : (m : Modulus) → below 8 (λ p. below 10 (λ v. below 10 (λ u. alike m p (48 + v) (48 + u)))) ≡ true
-unfolding alike termOf valueOf isOf
+unfolding alike termOf addedBy valueOf isOf
 alike-all Ten = refl
 alike-all Eleven = refl
 
@@ -74,7 +74,7 @@ exact : ℕ → ℕ → ℕ → Bool
 exact p b d = cond (keeps p b d) (eqb b d || are 48 57 b d) (not (eqb b d || are 48 57 b d))
 
 exact-all : below 8 (λ p. below 10 (λ v. below 10 (λ u. exact p (48 + v) (48 + u)))) ≡ true
-unfolding exact keeps are termOf valueOf isOf
+unfolding exact keeps are termOf addedBy valueOf isOf
 exact-all = refl
 
 pub neighbours-tell : (k b d : ℕ) → isOf Digit b ≡ true → isOf Digit d ≡ true

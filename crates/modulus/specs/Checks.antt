@@ -28,8 +28,12 @@ abbrev pub partOf : Modulus → ℕ → ℕ
 partOf Ten product = product / 10 + product % 10
 partOf Eleven product = product
 
+-- what a digit of this value adds that has k digits to its right, and what a byte adds
+unfoldable pub addedBy : Modulus → ℕ → ℕ → ℕ
+addedBy m k d = partOf m (weightOf m k * d)
+
 unfoldable pub termOf : Modulus → ℕ → ℕ → ℕ
-termOf m k b = partOf m (weightOf m k * valueOf b)
+termOf m k b = addedBy m k (valueOf b)
 
 -- the sum over a list that has k more digits to its right
 abbrev pub sumOf : Modulus → ℕ → List ℕ → ℕ

@@ -1,16 +1,12 @@
 -- Three rows of sixteen bytes, of which the last starts with eight that were counted before. Only the sums of forty digits cite it. Assumes nothing.
-use Prim.Native.Nat.{ℕ, _+_, _*_}
+use Prim.Native.Nat.{ℕ, _+_}
 use mathlib.Core.Bool.{Bool, _&&_}
 use mathlib.Core.List.{List}
 use lib.ListN.{drop}
 use Rattle.decimal.specs.declared.Class.the-variants.{Digit}
 use Rattle.decimal.specs.Bytes.{isOf, all}
 use Rattle.modulus.specs.declared.Modulus.{Modulus}
-use Rattle.modulus.specs.Checks.{weightOf, partOf, sumOf}
-
--- what a digit of this value adds that has k digits to its right
-unfoldable pub addedBy : Modulus → ℕ → ℕ → ℕ
-addedBy m k d = partOf m (weightOf m k * d)
+use Rattle.modulus.specs.Checks.{sumOf}
 
 abbrev pub areDigits : List ℕ → List ℕ → List ℕ → Bool
 areDigits x y z = all (isOf Digit) x && (all (isOf Digit) y && all (isOf Digit) z)

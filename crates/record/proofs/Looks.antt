@@ -18,7 +18,7 @@ use Rattle.answer.specs.Orders.{behind}
 use Rattle.answer.proofs.Orders.{asked-accepts, first-accepts, moved-accepts}
 use Rattle.decimal.specs.declared.Class.the-variants.{Digit, Blank, Text}
 use Rattle.decimal.specs.Bytes.{isOf, all}
-use Rattle.decimal.proofs.Bytes.{all-joins, all-of-part, each-accepts, flag-on, row-fails, last-row}
+use Rattle.decimal.proofs.Bytes.{all-joins, all-of-part, each-accepts, flag-on, row-fails, last-row, two-flags}
 use Rattle.decimal.specs.Numbers.{numberOf, lowNumberOf}
 use Rattle.decimal.proofs.Finite.{never}
 use Rattle.decimal.proofs.Numbers.{low-of-digits}
@@ -51,12 +51,6 @@ use Rattle.record.specs.Values.{shownOf, unlessRefused, decodeOf, paysOf
 use Rattle.record.proofs.Shown.{named-is}
 
 -- The flags of six bytes are one flag.
-
-two-flags : (t u : Bool) → bitOr (cond t 0 1) (cond u 0 1) ≡ cond (t && u) 0 1
-two-flags true true = refl
-two-flags true false = refl
-two-flags false true = refl
-two-flags false false = refl
 
 pub six-flags : (a b c d e f : Bool) {u v w x y z : ℕ} → u ≡ cond a 0 1 → v ≡ cond b 0 1 → w ≡ cond c 0 1 → x ≡ cond d 0 1 → y ≡ cond e 0 1 → z ≡ cond f 0 1
     → bitOr (bitOr u v) (bitOr (bitOr w x) (bitOr y z)) ≡ cond ((a && b) && ((c && d) && (e && f))) 0 1

@@ -65,7 +65,3 @@ module _ (which : Record) {rows : Rows} {copy : List Field} (t : copy ≡ table)
 pub row-shown : (which : Record) {rows : Rows} {f : Field} (i : ℕ) → rows ≡ rowsOf which → f ≡ rowAt i → i < rows .to → Lies f
 unfolding rowAt
 row-shown which i e q h = rw q (row-placed which refl e i noField h)
-
-pub numbered : (i : ℕ) {f : Field} → f ≡ rowAt i → i < 28 → Lies f
-unfolding rowAt table layoutOf
-numbered i e h = rw e (row-lies i noField h)

@@ -14,7 +14,7 @@ use Rattle.decimal.specs.Bytes.{isOf}
 use Rattle.decimal.specs.Numbers.{valueOf}
 use Rattle.decimal.proofs.Finite.{below, at}
 use Rattle.modulus.specs.declared.Modulus.the-variants.{Ten, Eleven}
-use Rattle.modulus.specs.Checks.{termOf, ruleOf, ZeroAndNine}
+use Rattle.modulus.specs.Checks.{addedBy, termOf, ruleOf, ZeroAndNine}
 use Rattle.modulus.proofs.Slips.{check-shows-ten}
 use Rattle.modulus.proofs.Terms.{period}
 use Rattle.barcode.specs.Codes.{digitAt, modulusOf, leadAnswer}
@@ -23,11 +23,11 @@ use Rattle.slips.proofs.Accepted.{lead-accepts}
 
 -- they add 0 and 9, whatever the weight
 zero-adds : (k : ℕ) → termOf Ten k 48 ≡ 0
-unfolding termOf valueOf isOf
+unfolding termOf addedBy valueOf isOf
 zero-adds k = simp mul-zero
 
 nines : below 8 (λ p. eqb (termOf Ten p 57) 9) ≡ true
-unfolding termOf valueOf isOf
+unfolding termOf addedBy valueOf isOf
 nines = refl
 
 nine-adds : (k : ℕ) → termOf Ten k 57 ≡ 9

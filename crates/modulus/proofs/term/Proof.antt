@@ -3,7 +3,7 @@ use native.Mathlib.Omega.{arith}
 use borrow.Author.Needs.{needs}
 use Rattle.decimal.proofs.Numbers.{value-small}
 use Rattle.modulus.proofs.Sums.{product-small}
-use Rattle.modulus.specs.Checks.{termOf}
+use Rattle.modulus.specs.Checks.{addedBy, termOf}
 use Rattle.modulus.proofs.term.Statement.{statement}
 use Rattle.modulus.proofs.term.Tie as tie
 
@@ -23,7 +23,7 @@ part-requires : tie.Need-part-requires
 part-requires c κs = search needs
 
 returns : tie.Need-returns
-unfolding termOf
+unfolding termOf addedBy
 returns c = cc
 
 pub term-spec : {M : Type 1} → statement M
