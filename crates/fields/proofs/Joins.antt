@@ -6,34 +6,18 @@ use mathlib.Core.Path.{_≡_, refl, sym, ap, _∙_}
 use native.Mathlib.Nat.{le-antisymm, add-assoc}
 use native.Mathlib.Numerals.{add-one}
 use native.Mathlib.Omega.{arith}
-use borrow.Author.Tests.{eqb-true}
 use lib.ListN.{length, getD, take, drop, length-append, length-drop}
 use lib.Seq.{slice, slice-cons, slice-empty, take-all, length-take-le, take-at, drop-drop}
 use Rattle.decimal.specs.Places.{widthOf, partAt, gather}
 use Rattle.layout.specs.declared.Field.{Field}
-use Rattle.layout.specs.declared.Given.{Given}
-use Rattle.layout.specs.declared.Kind.{Kind}
 use Rattle.layout.specs.declared.Kind.the-variants as kind
 use Rattle.layout.specs.declared.Record.{Record}
-use Rattle.layout.specs.Layouts.{recordLength, layoutOf, stretchOf, givenOf, givenAt, givenLength, widthsOf}
+use Rattle.layout.specs.Layouts.{recordLength, layoutOf, stretchOf, givenAt, givenLength, widthsOf}
 use Rattle.layout.proofs.Layouts.{Lies}
 use Rattle.layout.proofs.Tables.{every}
-use Rattle.fields.proofs.Makes.{fitsKind, fitsField, layout-fits, given-order, takes-are}
-
--- what is given of a field lies in it
-pub given-in : (k : Kind) (w : ℕ) → fitsKind k w ≡ true → givenOf k w .to ≤ w
-unfolding fitsKind
-given-in (kind.Mark byte) w t = omega arith
-given-in kind.Version w t = omega arith
-given-in kind.Service w t = omega (arith, eqb-true w 17 t)
-given-in kind.Blank w t = omega arith
-given-in kind.Text w t = omega arith
-given-in kind.Digits w t = omega arith
-given-in kind.Money w t = omega arith
-given-in kind.Date w t = omega arith
-given-in kind.Barcode w t = omega arith
-given-in kind.Capture w t = omega arith
-given-in kind.Form w t = omega arith
+use Rattle.fields.specs.Making.{takes}
+use Rattle.fields.proofs.Makes.{layout-fits}
+use Rattle.fields.proofs.Parts.{fitsField, given-in, part-length}
 
 -- What is known before a row: the bytes joined so far and those to come.
 pub record Joining (rows : List Field) (rec out : List ℕ) (at : ℕ) (room : ℕ) (whole : List ℕ) : Type 0 where
@@ -76,52 +60,29 @@ after out ys at w k ly ek h =
       length-append (take at out) (ys ++ rest) ∙ omega (arith, length-append ys rest, lr),
     )
 
-module _ {f : Field} {fs : List Field} {rec out : List ℕ} {at room : ℕ} {whole : List ℕ} (m : Joining (f ∷ fs) rec out at room whole) (l : Lies f) (n : length rec ≡ recordLength)
-    {g : Given} (e : g ≡ givenOf (f .kind) (f .last - (f .first - 1))) where
+module _ {f : Field} {fs : List Field} {rec out : List ℕ} {at room : ℕ} {whole : List ℕ} (m : Joining (f ∷ fs) rec out at room whole) where
   fit : (fitsField f ≡ true) × (every fitsField fs ≡ true)
   fit = and-eq-true-iff (fitsField f) (every fitsField fs) .0 (m .fits)
 
-  pub spans : (g .from ≤ g .to) × (f .first - 1 + g .to ≤ f .last) × (g .to - g .from ≡ widthOf (givenAt f)) × (at + (g .to - g .from) ≤ length out)
-  spans =
-      let o : g .from ≤ g .to = rw e (given-order (f .kind) (widthOf (stretchOf f))) in
-      let i : g .to ≤ f .last - (f .first - 1) = rw e (given-in (f .kind) (widthOf (stretchOf f)) (fit .0)) in
-      let t : g .to - g .from ≡ widthOf (givenAt f) = rw e (takes-are f (l .start)) in
-      (o, omega (arith, l .order, l .start), t, omega (arith, m .left))
+  pub in-room : at + takes f ≤ length out
+  in-room = omega (arith, m .left)
 
-  part : take (f .first - 1 + g .to - (f .first - 1 + g .from)) (drop (f .first - 1 + g .from) rec) ≡ partAt (givenAt f) rec
-  part =
-      let a : f .first - 1 + g .from ≡ givenAt f .first - 1 = rw e (omega (arith, l .start)) in
-      let b : f .first - 1 + g .to - (f .first - 1 + g .from) ≡ widthOf (givenAt f) = omega (arith, spans .0, spans .2) in
-      rw (b, a)
+  pub in-field : Lies f → givenAt f .last ≤ f .last
+  in-field l = omega (arith, given-in (f .kind) (widthOf (stretchOf f)) (fit .0), l .start, l .order)
 
-  wide : f .first - 1 + g .to - (f .first - 1 + g .from) ≡ widthOf (givenAt f)
-  wide = omega (arith, spans .0, spans .2)
+  pub gap : {k : ℕ} → k ≡ at + takes f → length (take (k - at) (drop at out)) ≡ takes f
+  gap {k} e = length-gap out at (takes f) k e (rw e in-room)
 
-  part-length : length (take (f .first - 1 + g .to - (f .first - 1 + g .from)) (drop (f .first - 1 + g .from) rec)) ≡ widthOf (givenAt f)
-  part-length =
-      length-take-le _ (drop (f .first - 1 + g .from) rec) (omega (arith, length-drop (f .first - 1 + g .from) rec, spans .0, spans .1, l .end, n)) ∙ wide
-
-  pub same-parts : {k : ℕ} → k ≡ at + (f .first - 1 + g .to - (f .first - 1 + g .from))
-      → length (take (f .first - 1 + g .to - (f .first - 1 + g .from)) (drop (f .first - 1 + g .from) rec)) ≡ length (take (k - at) (drop at out))
-  same-parts {k} ek =
-      let h : at + widthOf (givenAt f) ≤ length out = rw (spans .2) at (spans .3) in
-      let j : k ≡ at + widthOf (givenAt f) = ek ∙ ap (λ (v : ℕ). at + v) wide in
-      part-length ∙ sym (length-gap out at (widthOf (givenAt f)) k j (rw j h))
-
-  pub on : {k : ℕ} {ys : List ℕ} → k ≡ at + (f .first - 1 + g .to - (f .first - 1 + g .from))
-      → ys ≡ take (f .first - 1 + g .to - (f .first - 1 + g .from)) (drop (f .first - 1 + g .from) rec)
+  pub on : {k : ℕ} {ys : List ℕ} → Lies f → length rec ≡ recordLength → k ≡ at + takes f → ys ≡ partAt (givenAt f) rec
       → Joining fs rec (take at out ++ (ys ++ drop (k - at) (drop at out))) k room whole
-  on {k} {ys} ek ey =
-      let w = wide in
-      let y : ys ≡ partAt (givenAt f) rec = ey ∙ part in
-      let ly : length ys ≡ widthOf (givenAt f) = ap length ey ∙ part-length in
-      let p = after out ys at (widthOf (givenAt f)) k ly (ek ∙ ap (λ (v : ℕ). at + v) w) (rw (ek, w) (rw (spans .2) at (spans .3))) in
+  on {k} {ys} l n ek ey =
+      let ly : length ys ≡ takes f = ap length ey ∙ part-length rec l n (in-field l) in
+      let p = after out ys at (takes f) k ly ek (rw ek in-room) in
       record {
         same = p .1 ∙ m .same;
         fits = fit .1;
-        left =
-            ap (λ (v : ℕ). v + widthsOf (map givenAt fs)) (ek ∙ ap (λ (v : ℕ). at + v) w) ∙ add-assoc at (widthOf (givenAt f)) (widthsOf (map givenAt fs)) ∙ m .left ∙ sym (p .1);
-        bytes = rw (p .0, y) (append-assoc (take at out) (partAt (givenAt f) rec) (gather (map givenAt fs) rec) ∙ m .bytes);
+        left = ap (λ (v : ℕ). v + widthsOf (map givenAt fs)) ek ∙ add-assoc at (takes f) (widthsOf (map givenAt fs)) ∙ m .left ∙ sym (p .1);
+        bytes = rw (p .0, ey) (append-assoc (take at out) (partAt (givenAt f) rec) (gather (map givenAt fs) rec) ∙ m .bytes);
       }
 
 pub at-row : (copy : List Field) (d : Field) (i to : ℕ) {rec out : List ℕ} {at room : ℕ} {whole : List ℕ} → i < to → to ≤ length copy

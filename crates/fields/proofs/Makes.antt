@@ -7,8 +7,8 @@ use native.Mathlib.Nat.{le-antisymm}
 use native.Mathlib.Numerals.{add-one}
 use native.Mathlib.Omega.{arith}
 use borrow.Author.Tests.{eq-eqb, ne-eqb, eqb-true}
-use lib.Dec.{eqb, ltb}
-use lib.ListN.{length, getD, set, take, drop, replicate, length-append, length-drop, length-replicate, replicate-append-replicate}
+use lib.Dec.{ltb}
+use lib.ListN.{length, getD, set, take, drop, replicate, length-append, length-drop, replicate-append-replicate}
 use lib.Seq.{slice, slice-cons, slice-empty, take-all, drop-length, length-take-le, take-at, drop-drop, getD-drop, take-suc-set}
 use Rattle.answer.specs.declared.Reason.{Reason}
 use Rattle.answer.specs.declared.Reason.the-variants.{WrongLength, NoDigit, TooWide}
@@ -25,17 +25,17 @@ use Rattle.decimal.proofs.Numbers.{digits-fill}
 use Rattle.decimal.specs.Places.{widthOf, putAt}
 use Rattle.decimal.proofs.Places.{put-whole}
 use Rattle.layout.specs.declared.Field.{Field}
-use Rattle.layout.specs.declared.Given.{Given}
 use Rattle.layout.specs.declared.Kind.{Kind}
 use Rattle.layout.specs.declared.Kind.the-variants as kind
 use Rattle.layout.specs.declared.Record.{Record}
 use Rattle.layout.specs.declared.Record.the-variants.{Header, Payment, Trailer}
 use Rattle.layout.specs.Layouts.{recordLength, layoutOf, stretchOf, givenOf, givenAt, givenLength, widthsOf, covers}
-use Rattle.layout.proofs.Layouts.{Next, next, covers-end, fields-cover}
+use Rattle.layout.proofs.Layouts.{Lies, Next, next, covers-end, fields-cover}
 use Rattle.layout.proofs.Tables.{every}
 use Rattle.kinds.specs.Kinds.{kindAnswer}
 use Rattle.kinds.proofs.KindLaws.{kind-place}
 use Rattle.fields.specs.Making.{writtenOf, isMoney, putAnswer, takes, pieceOf, pieceAnswer, amountsAfter, madeOf, makingAnswer, makeAnswer}
+use Rattle.fields.proofs.Parts.{takes-are, fitsKind, fitsField, written-length}
 
 -- bytes that are copied into as many
 pub copied : (src out : List ℕ) {l : List ℕ} → length src ≡ length out → l ≡ take (length src) src ++ drop (length src) out → l ≡ src
@@ -99,57 +99,6 @@ module _ (k : Kind) (w : ℕ) (given : List ℕ) (n : ℕ) where
   pub put-other : {r : Answer} {new : List ℕ} → isMoney k ≡ false → new ≡ writtenOf k w given 0 → r ≡ kindAnswer k new → r ≡ putAnswer k w given n
   unfolding putAnswer
   put-other e q a = rw e (a ∙ ap (kindAnswer k) (q ∙ sym (other-is k w given n e)))
-
--- The widths: what is given for a field, and what is written for it.
-
-pub given-order : (k : Kind) (w : ℕ) → (givenOf k w .from ≤ givenOf k w .to)
-given-order (kind.Mark byte) w = omega arith
-given-order kind.Version w = omega arith
-given-order kind.Service w = omega arith
-given-order kind.Blank w = omega arith
-given-order kind.Text w = omega arith
-given-order kind.Digits w = omega arith
-given-order kind.Money w = omega arith
-given-order kind.Date w = omega arith
-given-order kind.Barcode w = omega arith
-given-order kind.Capture w = omega arith
-given-order kind.Form w = omega arith
-
--- the width of what is given of a field
-pub takes-are : (f : Field) → 1 ≤ f .first → givenOf (f .kind) (widthOf (stretchOf f)) .to - givenOf (f .kind) (widthOf (stretchOf f)) .from ≡ takes f
-takes-are f h = omega (arith, given-order (f .kind) (widthOf (stretchOf f)))
-
--- a kind that is fixed fits its width
-unfoldable pub fitsKind : Kind → ℕ → Bool
-fitsKind (kind.Mark byte) w = eqb w 1
-fitsKind kind.Version w = eqb w 2
-fitsKind kind.Service w = eqb w 17
-fitsKind kind.Blank w = true
-fitsKind kind.Text w = true
-fitsKind kind.Digits w = true
-fitsKind kind.Money w = true
-fitsKind kind.Date w = true
-fitsKind kind.Barcode w = true
-fitsKind kind.Capture w = true
-fitsKind kind.Form w = true
-
-pub written-length : (k : Kind) (w : ℕ) (piece : List ℕ) (n : ℕ) → fitsKind k w ≡ true → length piece ≡ givenOf k w .to - givenOf k w .from
-    → length (writtenOf k w piece n) ≡ w
-unfolding fitsKind
-written-length (kind.Mark byte) w piece n t e = sym (eqb-true w 1 t)
-written-length kind.Version w piece n t e = sym (eqb-true w 2 t)
-written-length kind.Service w piece n t e = sym (eqb-true w 17 t)
-written-length kind.Blank w piece n t e = length-replicate w 32
-written-length kind.Text w piece n t e = e ∙ omega arith
-written-length kind.Digits w piece n t e = e ∙ omega arith
-written-length kind.Money w piece n t e = digits-fill w n .0
-written-length kind.Date w piece n t e = e ∙ omega arith
-written-length kind.Barcode w piece n t e = e ∙ omega arith
-written-length kind.Capture w piece n t e = e ∙ omega arith
-written-length kind.Form w piece n t e = e ∙ omega arith
-
-abbrev pub fitsField : Field → Bool
-fitsField f = fitsKind (f .kind) (widthOf (stretchOf f))
 
 -- What is known before a field: the bytes made so far and those to come are the record, and so the answers.
 pub record Making (rows : List Field) (given amounts made : List ℕ) (done at used : ℕ) (r : Answer) (whole : List ℕ) : Type 0 where
@@ -229,31 +178,38 @@ module _ {f : Field} {fs : List Field} {given amounts made : List ℕ} {done at 
       let l = length-take-le (f .last - done) (drop done made) (omega (arith, length-drop done made, m .room, ends .0, ends .1)) in
       l ∙ omega (arith, front)
 
+  pub placed : Lies f
+  placed = record { start = omega (arith, here .here); order = omega (arith, here .here, here .wide); end = ends .1 }
+
+  piece-length : length (take (takes f) (drop at given)) ≡ givenOf (f .kind) (widthOf (stretchOf f)) .to - givenOf (f .kind) (widthOf (stretchOf f)) .from
+  piece-length = length-take-le (takes f) (drop at given) (omega (arith, length-drop at given, m .left)) ∙ sym (takes-are f (placed .start))
+
+  -- the bytes of the record up to it, and all of them
+  filled : (ys : List ℕ) → length ys ≡ widthOf (stretchOf f)
+      → (length (take done made ++ ys) ≡ f .last) × (length (take done made ++ (ys ++ drop (f .last - done) (drop done made))) ≡ recordLength)
+  filled ys ly =
+      let lt : length (take done made) ≡ done = length-take-le done made (omega (arith, m .room, ends .0, ends .1)) in
+      let rest = drop (f .last - done) (drop done made) in
+      let lr : length rest ≡ recordLength - f .last = length-drop (f .last - done) (drop done made) ∙ omega (arith, length-drop done made, m .room, ends .0) in (
+        length-append (take done made) ys ∙ omega (arith, front, ends .0),
+        length-append (take done made) (ys ++ rest) ∙ omega (arith, length-append ys rest, front, ends .0, ends .1),
+      )
+
   -- the bytes that are given for it
-  module _ {g : Given} (e : g ≡ givenOf (f .kind) (f .last - done)) where
-    same-given : g ≡ givenOf (f .kind) (widthOf (stretchOf f))
-    same-given = let w : f .last - done ≡ widthOf (stretchOf f) = omega (arith, front) in e ∙ ap (givenOf (f .kind)) w
+  module _ {t : ℕ} (e : t ≡ takes f) where
+    pub in-given : at + t ≤ length given
+    in-given = omega (arith, m .left)
 
-    pub spans : (g .from ≤ g .to) × (g .to - g .from ≡ takes f) × (at + (g .to - g .from) ≤ length given)
-    spans =
-        let o : g .from ≤ g .to = rw same-given (given-order (f .kind) (widthOf (stretchOf f))) in
-        let t : g .to - g .from ≡ takes f = rw same-given (takes-are f (omega (arith, here .here))) in
-        (o, t, omega (arith, m .left))
-
-    piece : take (at + (g .to - g .from) - at) (drop at given) ≡ take (takes f) (drop at given)
-    piece = let n : at + (g .to - g .from) - at ≡ takes f = omega (arith, spans .1) in ap (λ (k : ℕ). take k (drop at given)) n
-
-    piece-length : length (take (takes f) (drop at given)) ≡ givenOf (f .kind) (widthOf (stretchOf f)) .to - givenOf (f .kind) (widthOf (stretchOf f)) .from
-    piece-length =
-        length-take-le (takes f) (drop at given) (omega (arith, length-drop at given, spans .1, spans .2)) ∙ sym (spans .1) ∙ rw same-given
+    piece : take (at + t - at) (drop at given) ≡ take (takes f) (drop at given)
+    piece = let n : at + t - at ≡ takes f = omega arith in ap (λ (k : ℕ). take k (drop at given)) n
 
     pub fits-part : (x : ℕ)
-        → length (writtenOf (f .kind) (length (take (f .last - done) (drop done made))) (take (at + (g .to - g .from) - at) (drop at given)) x) ≡ length (take (f .last - done) (drop done made))
+        → length (writtenOf (f .kind) (length (take (f .last - done) (drop done made))) (take (at + t - at) (drop at given)) x) ≡ length (take (f .last - done) (drop done made))
     fits-part x = rw (width, piece) (written-length (f .kind) (widthOf (stretchOf f)) (take (takes f) (drop at given)) x (fit .0) piece-length)
 
     -- the answer of the call, in the table's words
     module _ {a : Answer} {x : ℕ} (ax : x ≡ getD amounts used 0)
-        (q : a ≡ putAnswer (f .kind) (length (take (f .last - done) (drop done made))) (take (at + (g .to - g .from) - at) (drop at given)) x) where
+        (q : a ≡ putAnswer (f .kind) (length (take (f .last - done) (drop done made))) (take (at + t - at) (drop at given)) x) where
       amount : x ≡ getD (drop used amounts) 0 0
       amount = let z : used + 0 ≡ used = omega arith in ax ∙ ap (λ (k : ℕ). getD amounts k 0) (sym z) ∙ sym (getD-drop used amounts 0 0)
 
@@ -272,25 +228,22 @@ module _ {f : Field} {fs : List Field} {given amounts made : List ℕ} {done at 
           ap (movedBy (behind (f .first - 1))) (sym asked-as ∙ e2) ∙ ap (λ (k : ℕ). Refused why (behind k p)) front in
           h ∙ behind-is-held done a (omega (arith, near)) ∙ rw e2 (rw z at (m .asks))
 
-      pub step : {n u : ℕ} {ys : List ℕ} → a ≡ Accepted → n ≡ at + (g .to - g .from) → u ≡ cond (isMoney (f .kind)) (used + 1) used
-          → ys ≡ writtenOf (f .kind) (length (take (f .last - done) (drop done made))) (take (at + (g .to - g .from) - at) (drop at given)) x
+      pub step : {n u : ℕ} {ys : List ℕ} → a ≡ Accepted → n ≡ at + t → u ≡ cond (isMoney (f .kind)) (used + 1) used
+          → ys ≡ writtenOf (f .kind) (length (take (f .last - done) (drop done made))) (take (at + t - at) (drop at given)) x
           → Making fs given amounts (take done made ++ (ys ++ drop (f .last - done) (drop done made))) (f .last) n u r whole
       step {n} {u} {ys} e2 en eu ey =
           let y : ys ≡ pieceOf f (drop at given) (drop used amounts) = ey ∙ rw (width, piece, ← amount) in
           let ly : length ys ≡ widthOf (stretchOf f) = rw y (written-length (f .kind) (widthOf (stretchOf f)) (take (takes f) (drop at given)) (getD (drop used amounts) 0 0) (fit .0) piece-length) in
-          let lt : length (take done made) ≡ done = length-take-le done made (omega (arith, m .room, ends .0, ends .1)) in
           let rest = drop (f .last - done) (drop done made) in
-          let lr : length rest ≡ recordLength - f .last = length-drop (f .last - done) (drop done made) ∙ omega (arith, length-drop done made, m .room, ends .0) in
-          let la : length (take done made ++ ys) ≡ f .last = length-append (take done made) ys ∙ omega (arith, front, ends .0) in
-          let tk : take (f .last) (take done made ++ (ys ++ rest)) ≡ take done made ++ ys = rw (← append-assoc (take done made) ys rest) (take-at (take done made ++ ys) rest (f .last) la) in
-          let gn : drop n given ≡ drop (takes f) (drop at given) = rw (en, spans .1) (sym (drop-drop (takes f) at given)) in
+          let tk : take (f .last) (take done made ++ (ys ++ rest)) ≡ take done made ++ ys = rw (← append-assoc (take done made) ys rest) (take-at (take done made ++ ys) rest (f .last) (filled ys ly .0)) in
+          let gn : drop n given ≡ drop (takes f) (drop at given) = rw (en, e) (sym (drop-drop (takes f) at given)) in
           let un : drop u amounts ≡ amountsAfter f (drop used amounts) = rw eu (used-on (isMoney (f .kind)) used amounts) in
           let z : pieceAnswer f (drop at given) (drop used amounts) ≡ Accepted = ap (movedBy (behind (f .first - 1))) (sym asked-as ∙ e2) in
           record {
-            room = length-append (take done made) (ys ++ rest) ∙ omega (arith, length-append ys rest, front, ends .0, ends .1);
+            room = filled ys ly .1;
             cover = here .rest;
             fits = fit .1;
-            left = omega (arith, m .left, spans .1);
+            left = omega (arith, m .left);
             few = omega (arith, m .few, used-few (isMoney (f .kind)) used eu);
             bytes = rw (tk, gn, un, y) (append-assoc (take done made) (pieceOf f (drop at given) (drop used amounts)) (madeOf fs (drop (takes f) (drop at given)) (amountsAfter f (drop used amounts))) ∙ m .bytes);
             asks = rw (gn, un) (rw z at (m .asks));

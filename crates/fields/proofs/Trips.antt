@@ -29,8 +29,8 @@ use Rattle.kinds.specs.Kinds.{version, serviceOf, isSpelling, isService, same, 
 use Rattle.record.specs.Records.{partOf, fieldAnswer}
 use Rattle.fields.specs.Making.{writtenOf, isMoney, putAnswer, takes, pieceOf, pieceAnswer, amountsAfter, madeOf, makingAnswer, amountsIn, FieldsMakeTheRecord, MadeIsAccepted}
 use Rattle.kinds.proofs.KindLaws.{same-equal}
-use Rattle.fields.proofs.Makes.{fitsKind, fitsField, given-order, takes-are, written-length, layout-fits, other-is}
-use Rattle.fields.proofs.Joins.{given-in}
+use Rattle.fields.proofs.Makes.{layout-fits, other-is}
+use Rattle.fields.proofs.Parts.{given-order, takes-are, fitsKind, fitsField, written-length, given-in}
 
 blanks : (bs : List ℕ) → all (isOf Blank) bs ≡ true → replicate (length bs) 32 ≡ bs
 unfolding isOf

@@ -1,12 +1,19 @@
 // The field bytes of an accepted A or G, joined in record order.
+ghost use Prim.Native.Nat.{_≤_};
 ghost use mathlib.Core.Path.{_≡_};
 ghost use lib.ListN.{length, getD};
 ghost use Rattle.answer.specs.Orders.{kept};
-ghost use Rattle.layout.specs.Layouts.{recordLength, namedBy, givenLength, joinedOf};
+ghost use Rattle.decimal.specs.Places.{partAt};
+ghost use Rattle.layout.specs.Layouts.{recordLength, namedBy, givenAt, givenLength, joinedOf};
+ghost use Rattle.layout.proofs.Layouts.{Lies};
+ghost use Rattle.fields.specs.Making.{takes};
 ghost use Rattle.fields.specs.Joining.{isGiven, namedJoin, joinAnswer, joinedIn};
 ghost use Rattle.layout.specs.declared.Named.the-variants as named;
+use crate::pieces::copy_all;
+use crate::pieces::takes;
 use answer::Answer;
 use answer::Reason;
+use layout::Field;
 use layout::Named;
 use layout::Record;
 
@@ -18,6 +25,18 @@ fn is_given(which: Record) -> bool
         Record::Payment => true,
         Record::Trailer => false,
     }
+}
+
+fn join_field(f: Field, rec: &[u8], out: &mut [u8])
+    requires { ⌜ length (now rec) ≡ recordLength ⌝ }
+    requires { ⌜ (Lies f) × (givenAt f .last ≤ f .last) ⌝ }
+    requires { ⌜ length (now out) ≡ takes f ⌝ }
+    ensures { λ _. ⌜ now (out .exit) ≡ partAt (givenAt f) (now (rec .entry)) ⌝ }
+{
+    let kind = f.kind;
+    let before = f.first - 1;
+    let part = layout::given_of(kind, f.last - before);
+    copy_all(&rec[before + part.from..before + part.to], out);
 }
 
 fn join_rows(which: Record, rec: &[u8], out: &mut [u8])
@@ -32,13 +51,8 @@ fn join_rows(which: Record, rec: &[u8], out: &mut [u8])
     let mut at = 0;
     while i < to {
         let f = table[i];
-        let kind = f.kind;
-        let before = f.first - 1;
-        let g = layout::given_of(kind, f.last - before);
-        let start = before + g.from;
-        let end = before + g.to;
-        let next = at + (end - start);
-        bytes::copy(&rec[start..end], &mut out[at..next]);
+        let next = at + takes(f);
+        join_field(f, rec, &mut out[at..next]);
         at = next;
         i += 1;
     }

@@ -9,6 +9,8 @@ ghost use Rattle.answer.specs.Orders.{kept};
 ghost use Rattle.layout.specs.Layouts.{recordLength, layoutOf, givenLength};
 ghost use Rattle.kinds.specs.Kinds.{serviceOf};
 ghost use Rattle.fields.specs.Making.{writtenOf, isMoney, putAnswer, madeOf, makingAnswer, makeAnswer};
+use crate::pieces::copy_all;
+use crate::pieces::takes;
 use answer::Answer;
 use answer::Reason;
 use layout::Kind;
@@ -18,25 +20,9 @@ fn is_money(kind: Kind) -> bool
     ensures { λ r. ⌜ r ≡ isMoney kind ⌝ }
 {
     match kind {
-        Kind::Mark(_) => false,
-        Kind::Version => false,
-        Kind::Service => false,
-        Kind::Blank => false,
-        Kind::Text => false,
-        Kind::Digits => false,
         Kind::Money => true,
-        Kind::Date => false,
-        Kind::Barcode => false,
-        Kind::Capture => false,
-        Kind::Form => false,
+        _ => false,
     }
-}
-
-fn copy_all(src: &[u8], out: &mut [u8])
-    requires { ⌜ length (now src) ≡ length (now out) ⌝ }
-    ensures { λ _. ⌜ now (out .exit) ≡ now (src .entry) ⌝ }
-{
-    bytes::copy(src, out);
 }
 
 fn put_mark(byte: u8, out: &mut [u8])
@@ -82,13 +68,10 @@ fn put_bytes(kind: Kind, given: &[u8], out: &mut [u8])
         Kind::Version => copy_all(b"04", out),
         Kind::Service => put_service(given, out),
         Kind::Blank => put_blanks(out),
-        Kind::Text => copy_all(given, out),
-        Kind::Digits => copy_all(given, out),
         Kind::Money => {}
-        Kind::Date => copy_all(given, out),
-        Kind::Barcode => copy_all(given, out),
-        Kind::Capture => copy_all(given, out),
-        Kind::Form => copy_all(given, out),
+        Kind::Text | Kind::Digits | Kind::Date | Kind::Barcode | Kind::Capture | Kind::Form => {
+            copy_all(given, out)
+        }
     }
 }
 
@@ -143,8 +126,7 @@ fn make_rows(which: Record, given: &[u8], first: u64, second: u64, made: &mut [u
         let f = table[i];
         let kind = f.kind;
         let end = f.last;
-        let g = layout::given_of(kind, end - done);
-        let next = at + (g.to - g.from);
+        let next = at + takes(f);
         let a = put(
             kind,
             &given[at..next],

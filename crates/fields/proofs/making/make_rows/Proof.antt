@@ -10,7 +10,7 @@ use Rattle.answer.specs.Orders.{movedBy, heldBehind}
 use Rattle.layout.specs.Layouts.{row}
 use Rattle.layout.specs.declared.Field.{Field}
 use Rattle.layout.specs.declared.Kind.the-variants.{Mark}
-use Rattle.fields.proofs.Makes.{at-row, at-end, ends, spans, fits-part, refuses, step, Making, start}
+use Rattle.fields.proofs.Makes.{at-row, at-end, ends, placed, in-given, fits-part, refuses, step, Making, start}
 use Rattle.record.proofs.Walks.{in-order, in-table, rows-here}
 use Rattle.fields.specs.Making.{madeOf, makingAnswer}
 use Rattle.fields.proofs.making.make_rows.Statement.{statement}
@@ -32,52 +32,46 @@ loop-holds : tie.Need-loop-holds Inv-loop μ-loop
 loop-holds c = let t = c .before .table .ensures in let e = c .rows-of .ensures in let s = c .before .before .before .before in (in-order _ t e, start _ _ _ _ (rows-here _ t e) (s .pre .0) (s .pre .1))
 
 mul-f : tie.Need-mul-f Inv-loop μ-loop
-mul-f c = let l = in-table _ (c .before .before .before .table .ensures) (c .before .before .rows-of .ensures) in omega (arith, l, c .loop-test .taken)
+mul-f c = omega (arith, in-table _ (c .before .before .before .table .ensures) (c .before .before .rows-of .ensures), c .loop-test .taken)
 
 array-copy-out-f : tie.Need-array-copy-out-f Inv-loop μ-loop
-array-copy-out-f c = let l = in-table _ (c .before .before .before .table .ensures) (c .before .before .rows-of .ensures) in omega (arith, l, c .loop-test .taken)
+array-copy-out-f c = omega (arith, in-table _ (c .before .before .before .table .ensures) (c .before .before .rows-of .ensures), c .loop-test .taken)
 
-sub-given-of : tie.Need-sub-given-of Inv-loop μ-loop
-sub-given-of c = let t = c .before .before .before .before .table .ensures in let e = c .before .before .before .rows-of .ensures in let m = at-row _ (row 0 0 (Mark 0)) _ _ (c .before .loop-test .taken) (in-table _ t e) (c .before .before .loop .inv .1) in ends m .0
-
-given-of-requires : tie.Need-given-of-requires Inv-loop μ-loop
-given-of-requires c κs = search needs
-
-sub-next : tie.Need-sub-next Inv-loop μ-loop
-sub-next c = let t = c .before .before .before .before .before .before .table .ensures in let e = c .before .before .before .before .before .rows-of .ensures in let m = at-row _ (row 0 0 (Mark 0)) _ _ (c .before .before .before .loop-test .taken) (in-table _ t e) (c .before .before .before .before .loop .inv .1) in spans m (c .before .given-of .ensures) .0
+takes-requires : tie.Need-takes-requires Inv-loop μ-loop
+takes-requires c κs = let m = at-row _ (row 0 0 (Mark 0)) _ _ (c .before .loop-test .taken) (in-table _ (c .before .before .before .before .table .ensures) (c .before .before .before .rows-of .ensures)) (c .before .before .loop .inv .1) in placed m
 
 add-next : tie.Need-add-next Inv-loop μ-loop
-add-next c = let t = c .before .before .before .before .before .before .table .ensures in let e = c .before .before .before .before .before .rows-of .ensures in let m = at-row _ (row 0 0 (Mark 0)) _ _ (c .before .before .before .loop-test .taken) (in-table _ t e) (c .before .before .before .before .loop .inv .1) in let s = spans m (c .before .given-of .ensures) in search needs
+add-next c = let m = at-row _ (row 0 0 (Mark 0)) _ _ (c .before .before .loop-test .taken) (in-table _ (c .before .before .before .before .before .table .ensures) (c .before .before .before .before .rows-of .ensures)) (c .before .before .before .loop .inv .1) in let w = c .takes .ensures in omega (arith, in-given m w, c .before .before .before .before .before .before .before .before .good)
 
 sub-put : tie.Need-sub-put Inv-loop μ-loop
-sub-put c = let t = c .before .before .before .before .before .before .table .ensures in let e = c .before .before .before .before .before .rows-of .ensures in let m = at-row _ (row 0 0 (Mark 0)) _ _ (c .before .before .before .loop-test .taken) (in-table _ t e) (c .before .before .before .before .loop .inv .1) in let s = spans m (c .before .given-of .ensures) in search needs
+sub-put c = search needs
 
 part-put-start : tie.Need-part-put-start Inv-loop μ-loop
-part-put-start c = let t = c .before .before .before .before .before .before .table .ensures in let e = c .before .before .before .before .before .rows-of .ensures in let m = at-row _ (row 0 0 (Mark 0)) _ _ (c .before .before .before .loop-test .taken) (in-table _ t e) (c .before .before .before .before .loop .inv .1) in let s = spans m (c .before .given-of .ensures) in search needs
+part-put-start c = search needs
 
 part-put-end : tie.Need-part-put-end Inv-loop μ-loop
-part-put-end c = let t = c .before .before .before .before .before .before .table .ensures in let e = c .before .before .before .before .before .rows-of .ensures in let m = at-row _ (row 0 0 (Mark 0)) _ _ (c .before .before .before .loop-test .taken) (in-table _ t e) (c .before .before .before .before .loop .inv .1) in let s = spans m (c .before .given-of .ensures) in search needs
+part-put-end c = let m = at-row _ (row 0 0 (Mark 0)) _ _ (c .before .before .loop-test .taken) (in-table _ (c .before .before .before .before .before .table .ensures) (c .before .before .before .before .rows-of .ensures)) (c .before .before .before .loop .inv .1) in let w = c .takes .ensures in in-given m w
 
 amount-at-requires : tie.Need-amount-at-requires Inv-loop μ-loop
 amount-at-requires c κs = search needs
 
 sub-put-2 : tie.Need-sub-put-2 Inv-loop μ-loop
-sub-put-2 c = let t = c .before .before .before .before .before .before .before .before .table .ensures in let e = c .before .before .before .before .before .before .before .rows-of .ensures in let m = at-row _ (row 0 0 (Mark 0)) _ _ (c .before .before .before .before .before .loop-test .taken) (in-table _ t e) (c .before .before .before .before .before .before .loop .inv .1) in let s = ends m in let o = m .room in search needs
+sub-put-2 c = let m = at-row _ (row 0 0 (Mark 0)) _ _ (c .before .before .before .before .loop-test .taken) (in-table _ (c .before .before .before .before .before .before .before .table .ensures) (c .before .before .before .before .before .before .rows-of .ensures)) (c .before .before .before .before .before .loop .inv .1) in ends m .0
 
 part-put-start-2 : tie.Need-part-put-start-2 Inv-loop μ-loop
-part-put-start-2 c = let t = c .before .before .before .before .before .before .before .before .table .ensures in let e = c .before .before .before .before .before .before .before .rows-of .ensures in let m = at-row _ (row 0 0 (Mark 0)) _ _ (c .before .before .before .before .before .loop-test .taken) (in-table _ t e) (c .before .before .before .before .before .before .loop .inv .1) in let s = ends m in let o = m .room in search needs
+part-put-start-2 c = let m = at-row _ (row 0 0 (Mark 0)) _ _ (c .before .before .before .before .loop-test .taken) (in-table _ (c .before .before .before .before .before .before .before .table .ensures) (c .before .before .before .before .before .before .rows-of .ensures)) (c .before .before .before .before .before .loop .inv .1) in ends m .0
 
 part-put-end-2 : tie.Need-part-put-end-2 Inv-loop μ-loop
-part-put-end-2 c = let t = c .before .before .before .before .before .before .before .before .table .ensures in let e = c .before .before .before .before .before .before .before .rows-of .ensures in let m = at-row _ (row 0 0 (Mark 0)) _ _ (c .before .before .before .before .before .loop-test .taken) (in-table _ t e) (c .before .before .before .before .before .before .loop .inv .1) in let s = ends m in let o = m .room in search needs
+part-put-end-2 c = let m = at-row _ (row 0 0 (Mark 0)) _ _ (c .before .before .before .before .loop-test .taken) (in-table _ (c .before .before .before .before .before .before .before .table .ensures) (c .before .before .before .before .before .before .rows-of .ensures)) (c .before .before .before .before .before .loop .inv .1) in omega (arith, ends m .1, m .room)
 
 put-requires : tie.Need-put-requires Inv-loop μ-loop
-put-requires c κs = let t = c .before .before .before .before .before .before .before .before .before .table .ensures in let e = c .before .before .before .before .before .before .before .before .rows-of .ensures in let m = at-row _ (row 0 0 (Mark 0)) _ _ (c .before .before .before .before .before .before .loop-test .taken) (in-table _ t e) (c .before .before .before .before .before .before .before .loop .inv .1) in fits-part m (c .before .before .before .before .given-of .ensures) (c .before .amount-at .result)
+put-requires c κs = let m = at-row _ (row 0 0 (Mark 0)) _ _ (c .before .before .before .before .before .loop-test .taken) (in-table _ (c .before .before .before .before .before .before .before .before .table .ensures) (c .before .before .before .before .before .before .before .rows-of .ensures)) (c .before .before .before .before .before .before .loop .inv .1) in let w = c .before .before .before .takes .ensures in fits-part m w (c .before .amount-at .result)
 
 enum-told : tie.Need-enum-told Inv-loop μ-loop
 enum-told c = search needs
 
 used-after-requires : tie.Need-used-after-requires Inv-loop μ-loop
-used-after-requires c κs = let t = c .before .before .before .before .before .before .before .before .before .before .before .before .before .before .table .ensures in let e = c .before .before .before .before .before .before .before .before .before .before .before .before .before .rows-of .ensures in let m = at-row _ (row 0 0 (Mark 0)) _ _ (c .before .before .before .before .before .before .before .before .before .before .before .loop-test .taken) (in-table _ t e) (c .before .before .before .before .before .before .before .before .before .before .before .before .loop .inv .1) in ends m .2
+used-after-requires c κs = search needs
 
 add-i : tie.Need-add-i Inv-loop μ-loop
 add-i c = search needs
@@ -86,7 +80,9 @@ loop-less : tie.Need-loop-less Inv-loop μ-loop
 loop-less c = search needs
 
 loop-again : tie.Need-loop-again Inv-loop μ-loop
-loop-again c = let t = c .before .before .before .before .before .before .before .before .before .before .before .before .before .before .before .table .ensures in let e = c .before .before .before .before .before .before .before .before .before .before .before .before .before .before .rows-of .ensures in let m = at-row _ (row 0 0 (Mark 0)) _ _ (c .before .before .before .before .before .before .before .before .before .before .before .before .loop-test .taken) (in-table _ t e) (c .before .before .before .before .before .before .before .before .before .before .before .before .before .loop .inv .1) in (search needs, step m (c .before .before .before .before .before .before .before .before .before .before .given-of .ensures) (c .before .before .before .before .before .before .before .amount-at .ensures) (c .before .before .before .before .before .put .ensures .0) (c .before .enum-told .given .1) refl (c .used-after .ensures) (c .before .before .before .before .before .put .ensures .1 (c .before .enum-told .given .1)))
+loop-again c =
+    let m = at-row _ (row 0 0 (Mark 0)) _ _ (c .before .before .before .before .before .before .before .before .before .before .before .loop-test .taken) (in-table _ (c .before .before .before .before .before .before .before .before .before .before .before .before .before .before .table .ensures) (c .before .before .before .before .before .before .before .before .before .before .before .before .before .rows-of .ensures)) (c .before .before .before .before .before .before .before .before .before .before .before .before .loop .inv .1) in let w = c .before .before .before .before .before .before .before .before .before .takes .ensures in
+    (search needs, step m w (c .before .before .before .before .before .before .before .amount-at .ensures) (c .before .before .before .before .before .put .ensures .0) (c .before .enum-told .given .1) refl (c .used-after .ensures) (c .before .before .before .before .before .put .ensures .1 (c .before .enum-told .given .1)))
 
 enum-told-2 : tie.Need-enum-told-2 Inv-loop μ-loop
 enum-told-2 c = search needs
@@ -98,13 +94,21 @@ same-length : tie.Need-same-length Inv-loop μ-loop
 same-length c = search needs
 
 returns : tie.Need-returns Inv-loop μ-loop
-returns c = let t = c .before .before .before .before .before .before .before .before .before .before .before .before .before .before .before .table .ensures in let e = c .before .before .before .before .before .before .before .before .before .before .before .before .before .before .rows-of .ensures in let m = at-row _ (row 0 0 (Mark 0)) _ _ (c .before .before .before .before .before .before .before .before .before .before .before .before .loop-test .taken) (in-table _ t e) (c .before .before .before .before .before .before .before .before .before .before .before .before .before .loop .inv .1) in let q = refuses m (c .before .before .before .before .before .before .before .before .before .before .given-of .ensures) (c .before .before .before .before .before .before .before .amount-at .ensures) (c .before .before .before .before .before .put .ensures .0) (c .before .enum-told2 .given .1) (c .behind .ensures) in (q ∙ ap (λ (l : List Field). makingAnswer l (c .before .before .before .before .before .before .before .before .before .before .before .before .before .before .before .before .before .before .args .given .now) (c .before .before .before .before .before .before .before .before .before .before .before .before .before .before .before .before .before .before .args .first ∷ c .before .before .before .before .before .before .before .before .before .before .before .before .before .before .before .before .before .before .args .second ∷ [])) (rows-here _ t e), λ h. not-both _ (c .behind .ensures ∙ ap (movedBy (heldBehind _)) (c .before .enum-told2 .given .1)) h)
+returns c =
+    let m = at-row _ (row 0 0 (Mark 0)) _ _ (c .before .before .before .before .before .before .before .before .before .before .before .loop-test .taken) (in-table _ (c .before .before .before .before .before .before .before .before .before .before .before .before .before .before .table .ensures) (c .before .before .before .before .before .before .before .before .before .before .before .before .before .rows-of .ensures)) (c .before .before .before .before .before .before .before .before .before .before .before .before .loop .inv .1) in let w = c .before .before .before .before .before .before .before .before .before .takes .ensures in
+    let a = c .before .before .before .before .before .before .before .before .before .before .before .before .before .before .before .before .before .args in
+    let q = refuses m w (c .before .before .before .before .before .before .before .amount-at .ensures) (c .before .before .before .before .before .put .ensures .0) (c .before .enum-told2 .given .1) (c .behind .ensures) in
+    (q ∙ ap (λ (l : List Field). makingAnswer l (a .given .now) (a .first ∷ a .second ∷ [])) (rows-here _ (c .before .before .before .before .before .before .before .before .before .before .before .before .before .before .table .ensures) (c .before .before .before .before .before .before .before .before .before .before .before .before .before .rows-of .ensures)), λ h. not-both _ (c .behind .ensures ∙ ap (movedBy (heldBehind _)) (c .before .enum-told2 .given .1)) h)
 
 same-length-2 : tie.Need-same-length-2 Inv-loop μ-loop
 same-length-2 c = search needs
 
 returns-2 : tie.Need-returns-2 Inv-loop μ-loop
-returns-2 c = let t = c .before .before .before .table .ensures in let e = c .before .before .rows-of .ensures in let q = at-end _ _ _ (c .before .loop .inv .0) (c .loop-test .left) (c .before .loop .inv .1) in (q .0 ∙ ap (λ (l : List Field). makingAnswer l (c .before .before .before .before .before .before .args .given .now) (c .before .before .before .before .before .before .args .first ∷ c .before .before .before .before .before .before .args .second ∷ [])) (rows-here _ t e), λ h. q .1 ∙ ap (λ (l : List Field). madeOf l (c .before .before .before .before .before .before .args .given .now) (c .before .before .before .before .before .before .args .first ∷ c .before .before .before .before .before .before .args .second ∷ [])) (rows-here _ t e))
+returns-2 c =
+    let a = c .before .before .before .before .before .before .args in
+    let here = rows-here _ (c .before .before .before .table .ensures) (c .before .before .rows-of .ensures) in
+    let q = at-end _ _ _ (c .before .loop .inv .0) (c .loop-test .left) (c .before .loop .inv .1) in
+    (q .0 ∙ ap (λ (l : List Field). makingAnswer l (a .given .now) (a .first ∷ a .second ∷ [])) here, λ h. q .1 ∙ ap (λ (l : List Field). madeOf l (a .given .now) (a .first ∷ a .second ∷ [])) here)
 
 pub make-rows-spec : {M : Type 1} → statement M
 make-rows-spec =
@@ -117,9 +121,7 @@ make-rows-spec =
     loop-holds
     mul-f
     array-copy-out-f
-    sub-given-of
-    given-of-requires
-    sub-next
+    takes-requires
     add-next
     sub-put
     part-put-start

@@ -1,6 +1,8 @@
 -- `fields::making::put_bytes` meets its contract. Assumes nothing.
-use mathlib.Core.Path.{sym}
+use mathlib.Core.Path.{sym, ap, _∙_}
 use borrow.Author.Needs.{needs}
+use lib.ListN.{length}
+use Rattle.fields.proofs.Parts.{given-whole}
 use Rattle.fields.proofs.making.put_bytes.Statement.{statement}
 use Rattle.fields.proofs.making.put_bytes.Tie as tie
 
@@ -35,40 +37,9 @@ enum-told-4 : tie.Need-enum-told-4
 enum-told-4 c = search needs
 
 copy-all-requires-2 : tie.Need-copy-all-requires-2
-copy-all-requires-2 c κs = rw (c .before .enum-told4 .given .1) at (c .before .before .before .before .before .pre .1)
-
-enum-told-5 : tie.Need-enum-told-5
-enum-told-5 c = search needs
-
-copy-all-requires-3 : tie.Need-copy-all-requires-3
-copy-all-requires-3 c κs = rw (c .before .enum-told5 .given .1) at (c .before .before .before .before .before .pre .1)
-
-enum-told-6 : tie.Need-enum-told-6
-enum-told-6 c = search needs
-
-enum-told-7 : tie.Need-enum-told-7
-enum-told-7 c = search needs
-
-copy-all-requires-4 : tie.Need-copy-all-requires-4
-copy-all-requires-4 c κs = rw (c .before .enum-told7 .given .1) at (c .before .before .before .before .before .pre .1)
-
-enum-told-8 : tie.Need-enum-told-8
-enum-told-8 c = search needs
-
-copy-all-requires-5 : tie.Need-copy-all-requires-5
-copy-all-requires-5 c κs = rw (c .before .enum-told8 .given .1) at (c .before .before .before .before .before .pre .1)
-
-enum-told-9 : tie.Need-enum-told-9
-enum-told-9 c = search needs
-
-copy-all-requires-6 : tie.Need-copy-all-requires-6
-copy-all-requires-6 c κs = rw (c .before .enum-told9 .given .1) at (c .before .before .before .before .before .pre .1)
-
-enum-told-10 : tie.Need-enum-told-10
-enum-told-10 c = search needs
-
-copy-all-requires-7 : tie.Need-copy-all-requires-7
-copy-all-requires-7 c κs = rw (c .before .enum-told10 .given .1) at (c .before .before .before .before .before .pre .1)
+copy-all-requires-2 c κs =
+    let a = c .before .before .before .before .args in
+    ap length (given-whole (a .kind) (c .before .match .keys6) (length (a .out .now)) 0 (a .given .now)) ∙ c .before .before .before .before .pre .1
 
 same-length : tie.Need-same-length
 same-length c = search needs
@@ -94,44 +65,16 @@ same-length-4 c = search needs
 returns-4 : tie.Need-returns-4
 returns-4 c = rw (c .before .before .before .before .enum-told3 .given .1) (c .before .before .put-blanks .ensures)
 
+returns-5 : tie.Need-returns-5
+returns-5 c = let e = rw (c .enum-told4 .given .1) at (c .before .before .before .before .pre .0) in cc
+
 same-length-5 : tie.Need-same-length-5
 same-length-5 c = search needs
 
-returns-5 : tie.Need-returns-5
-returns-5 c = search needs
-
-same-length-6 : tie.Need-same-length-6
-same-length-6 c = search needs
-
 returns-6 : tie.Need-returns-6
-returns-6 c = search needs
-
-returns-7 : tie.Need-returns-7
-returns-7 c = let e = rw (c .enum-told6 .given .1) at (c .before .before .before .before .pre .0) in cc
-
-same-length-7 : tie.Need-same-length-7
-same-length-7 c = search needs
-
-returns-8 : tie.Need-returns-8
-returns-8 c = search needs
-
-same-length-8 : tie.Need-same-length-8
-same-length-8 c = search needs
-
-returns-9 : tie.Need-returns-9
-returns-9 c = search needs
-
-same-length-9 : tie.Need-same-length-9
-same-length-9 c = search needs
-
-returns-10 : tie.Need-returns-10
-returns-10 c = search needs
-
-same-length-10 : tie.Need-same-length-10
-same-length-10 c = search needs
-
-returns-11 : tie.Need-returns-11
-returns-11 c = search needs
+returns-6 c =
+    let a = c .before .before .before .before .before .before .before .args in
+    c .before .before .copy-all2 .ensures ∙ given-whole (a .kind) (c .before .before .before .before .match .keys6) (length (a .out .now)) 0 (a .given .now)
 
 pub put-bytes-spec : {M : Type 1} → statement M
 put-bytes-spec =
@@ -148,17 +91,6 @@ put-bytes-spec =
     put-blanks-requires
     enum-told-4
     copy-all-requires-2
-    enum-told-5
-    copy-all-requires-3
-    enum-told-6
-    enum-told-7
-    copy-all-requires-4
-    enum-told-8
-    copy-all-requires-5
-    enum-told-9
-    copy-all-requires-6
-    enum-told-10
-    copy-all-requires-7
     same-length
     returns
     same-length-2
@@ -167,16 +99,6 @@ put-bytes-spec =
     returns-3
     same-length-4
     returns-4
-    same-length-5
     returns-5
-    same-length-6
-    returns-6
-    returns-7
-    same-length-7
-    returns-8
-    same-length-8
-    returns-9
-    same-length-9
-    returns-10
-    same-length-10
-    returns-11)
+    same-length-5
+    returns-6)

@@ -1,8 +1,8 @@
--- `fields::making::copy_all` meets its contract. Assumes nothing.
+-- `fields::pieces::copy_all` meets its contract. Assumes nothing.
 use borrow.Author.Needs.{needs}
 use Rattle.fields.proofs.Makes.{copied}
-use Rattle.fields.proofs.making.copy_all.Statement.{statement}
-use Rattle.fields.proofs.making.copy_all.Tie as tie
+use Rattle.fields.proofs.pieces.copy_all.Statement.{statement}
+use Rattle.fields.proofs.pieces.copy_all.Tie as tie
 
 copy-requires : tie.Need-copy-requires
 copy-requires c κs = search needs
