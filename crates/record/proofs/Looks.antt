@@ -10,7 +10,7 @@ use borrow.Author.Tests.{eqb-true, eq-eqb}
 use lib.Bits.{bitOr}
 use lib.Dec.{eqb}
 use lib.ListN.{length, getD, take, drop, length-drop, drop-of-length-le}
-use lib.Seq.{drop-cons, drop-drop, take-take, take-add, length-take-le}
+use lib.Seq.{take-all, drop-cons, drop-drop, take-take, take-add, length-take-le}
 use Rattle.answer.specs.declared.Reason.the-variants.{NoDigit, NoText, FixedDiffers, UnknownCode}
 use Rattle.answer.specs.declared.Answer.{Answer}
 use Rattle.answer.specs.declared.Answer.the-variants.{Accepted, Refused}
@@ -100,13 +100,18 @@ module _ (a b c d e f : List ℕ) (six : (length a ≡ 16) × (length b ≡ 16) 
   rows-end h q = rw (none a (six .0) h, none b (six .1) h, none c (six .2) h, none d (six .3) h, none e (six .4) h, none f (six .5) h, and-true) at q
 
 -- a part of 16 to 32 bytes is its first sixteen and its last
-pub two-rows : (ok : ℕ → Bool) (bs : List ℕ) → 16 ≤ length bs → length bs ≤ 32
-    → (all ok (take 16 bs) && all ok (take (length bs - (length bs - 16)) (drop (length bs - 16) bs))) ≡ all ok bs
+pub last-sixteen : (bs : List ℕ) → 16 ≤ length bs
+    → (take (length bs - (length bs - 16)) (drop (length bs - 16) bs) ≡ drop (length bs - 16) bs) × (length (drop (length bs - 16) bs) ≡ 16)
+last-sixteen bs h =
+    let n : length (drop (length bs - 16) bs) ≡ 16 = length-drop (length bs - 16) bs ∙ omega arith in
+    (take-all (length bs - (length bs - 16)) (drop (length bs - 16) bs) (omega arith), n)
+
+pub two-rows : (ok : ℕ → Bool) (bs : List ℕ) → 16 ≤ length bs → length bs ≤ 32 → (all ok (take 16 bs) && all ok (drop (length bs - 16) bs)) ≡ all ok bs
 two-rows ok bs h k = go (all ok (take 16 bs)) refl
   where
-    go : (t : Bool) → all ok (take 16 bs) ≡ t → (t && all ok (take (length bs - (length bs - 16)) (drop (length bs - 16) bs))) ≡ all ok bs
+    go : (t : Bool) → all ok (take 16 bs) ≡ t → (t && all ok (drop (length bs - 16) bs)) ≡ all ok bs
     go false e = row-fails ok bs 0 16 (sym e) refl
-    go true e = last-row ok bs 16 16 h (omega arith) e refl
+    go true e = last-row ok bs 16 16 h (omega arith) e (ap (all ok) (sym (last-sixteen bs h .0)))
 
 pub places-length : (rec : List ℕ) → length rec ≡ recordLength → (first last : ℕ) → last ≤ 150 → length (places first last rec) ≡ last - (first - 1)
 places-length rec n first last h = length-take-le (last - (first - 1)) (drop (first - 1) rec) (omega (arith, length-drop (first - 1) rec))

@@ -1,11 +1,13 @@
 -- Laws of the walk along the table: a loop at row i, by what is known of the rows from i up to `to`. Assumes nothing.
 use Prim.Native.Nat.{ℕ, _+_, _<_, _≤_}
+use mathlib.Core.Bool.{true, and-eq-true-iff}
 use mathlib.Core.List.{List}
 use mathlib.Core.Path.{_≡_, refl, sym, _∙_, ap}
 use native.Mathlib.Nat.{le-antisymm}
 use native.Mathlib.Numerals.{add-one}
 use native.Mathlib.Omega.{arith}
-use lib.Dec.{lit≤}
+use borrow.Author.Tests.{ltb-true}
+use lib.Dec.{lit≤, leb, ltb}
 use lib.ListN.{length, getD}
 use lib.Seq.{slice, slice-empty, slice-cons}
 use Rattle.answer.specs.declared.Answer.{Answer}
@@ -13,12 +15,16 @@ use Rattle.answer.specs.declared.Answer.the-variants.{Accepted, Refused}
 use Rattle.answer.specs.declared.Reason.{Reason}
 use Rattle.answer.specs.Orders.{_then_, first}
 use Rattle.layout.specs.declared.Field.{Field}
+use Rattle.layout.specs.declared.Named.{Named}
+use Rattle.layout.specs.declared.Named.the-variants.{Is, Other}
 use Rattle.layout.specs.declared.Record.{Record}
 use Rattle.layout.specs.declared.Record.the-variants.{Header, Payment, Trailer}
 use Rattle.layout.specs.declared.Rows.{Rows}
 use Rattle.layout.specs.Layouts.{layoutOf, table, noField, rowAt, rowsOf}
 use Rattle.layout.proofs.Layouts.{Lies, row-lies, rows-are}
+use Rattle.decimal.proofs.Finite.{never}
 use Rattle.record.specs.Records.{fieldAnswer, bodyAnswer}
+use Rattle.record.specs.Values.{hasRow}
 
 -- The rows of any table: the row accepts, the row refuses, there is no row left.
 module _ {A : Type 0} (question : A → Answer) (rows : List A) (d : A) (i to : ℕ) where
@@ -62,6 +68,11 @@ module _ (which : Record) {rows : Rows} {copy : List Field} (t : copy ≡ table)
   pub walked : (rec : List ℕ) → first (fieldAnswer rec) (slice (rows .from) (rows .to) copy) ≡ bodyAnswer which rec
   walked rec = ap (first (fieldAnswer rec)) rows-here
 
-pub row-shown : (which : Record) {rows : Rows} {f : Field} (i : ℕ) → rows ≡ rowsOf which → f ≡ rowAt i → i < rows .to → Lies f
+row-shown : (which : Record) {rows : Rows} {f : Field} (i : ℕ) → rows ≡ rowsOf which → f ≡ rowAt i → i < rows .to → Lies f
 unfolding rowAt
 row-shown which i e q h = rw q (row-placed which refl e i noField h)
+
+pub row-of-named : (n : Named) {f : Field} (i : ℕ) → hasRow n i ≡ true → f ≡ rowAt i → Lies f
+row-of-named (Is r) i h q =
+    row-shown r i refl q (ltb-true i (rowsOf r .to) (and-eq-true-iff (leb (rowsOf r .from) i) (ltb i (rowsOf r .to)) .0 h .1))
+row-of-named Other i h q = never h

@@ -1,6 +1,6 @@
 -- What an accepted record shows. Assumes nothing.
 use Prim.Native.Nat.{ℕ}
-use mathlib.Core.Bool.{cond, _&&_}
+use mathlib.Core.Bool.{Bool, false, cond, _&&_}
 use mathlib.Core.List.{List, []}
 use mathlib.Core.Path.{_≡_}
 use lib.Dec.{leb, ltb}
@@ -87,9 +87,12 @@ paysOf (decoded.Refused why place) = pays.Nothing
 
 -- A field by its row: the empty part for a refused record, for another record's row and for a row past the table.
 
+abbrev pub hasRow : Named → ℕ → Bool
+hasRow (Is r) row = leb (rowsOf r .from) row && ltb row (rowsOf r .to)
+hasRow Other row = false
+
 abbrev pub fieldIn : Named → ℕ → List ℕ → List ℕ
-fieldIn (Is r) row rec = cond (leb (rowsOf r .from) row && ltb row (rowsOf r .to)) (partOf (rowAt row) rec) []
-fieldIn Other row rec = []
+fieldIn named row rec = cond (hasRow named row) (partOf (rowAt row) rec) []
 
 abbrev pub shownField : ℕ → List ℕ → List ℕ
 shownField row rec = kept (recordAnswer rec) (fieldIn (namedBy (getD rec 0 0)) row rec) []

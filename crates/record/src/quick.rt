@@ -1,12 +1,16 @@
 // A quick look at a G: what it pays, where all its fields hold. What is wrong, and where, the walk says.
-ghost use Prim.Native.Nat.{_≤_};
+ghost use Prim.Native.Nat.{_-_, _≤_};
 ghost use mathlib.Core.Bool.{true, cond, _&&_};
 ghost use mathlib.Core.Logic.{_⊎_};
 ghost use mathlib.Core.Path.{_≡_};
-ghost use lib.ListN.{length};
+ghost use lib.ListN.{length, take, drop};
 ghost use Rattle.decimal.specs.Bytes.{isOf, all};
+ghost use Rattle.decimal.specs.Numbers.{lowNumberOf};
+ghost use Rattle.calendar.specs.Dates.{dateOf};
+ghost use Rattle.barcode.specs.Codes as codes;
 ghost use Rattle.layout.specs.Layouts.{recordLength, namedBy};
 ghost use Rattle.layout.proofs.Layouts.{Lies};
+ghost use Rattle.record.specs.Records.{partOf};
 ghost use Rattle.record.specs.Looks.{rowsHold, spanOf, isPlain, isCoded, IsDated, LooksPaid, SureOf};
 ghost use Rattle.record.specs.Values.{decodeOf, paysOf};
 use crate::Payment;
@@ -55,6 +59,20 @@ fn rows_hold(a: &[u8], b: &[u8], c: &[u8], d: &[u8], e: &[u8], f: &[u8]) -> bool
     flags == 0
 }
 
+fn first_row(part: &[u8]) -> &[u8]
+    requires { ⌜ 16 ≤ length (now part) ⌝ }
+    ensures { λ r. ⌜ (now r ≡ take 16 (now (part .entry))) × (length (now r) ≡ 16) ⌝ }
+{
+    &part[0..16]
+}
+
+fn last_row(part: &[u8]) -> &[u8]
+    requires { ⌜ 16 ≤ length (now part) ⌝ }
+    ensures { λ r. ⌜ (now r ≡ drop (length (now (part .entry)) - 16) (now (part .entry))) × (length (now r) ≡ 16) ⌝ }
+{
+    &part[part.len() - 16..]
+}
+
 // Two texts and digits. Each part has from 16 to 32 bytes: its first sixteen and its last are all of it.
 fn parts_hold(text: &[u8], other: &[u8], digits: &[u8]) -> bool
     requires { ⌜ (16 ≤ length (now text)) × (length (now text) ≤ 32) ⌝ }
@@ -62,16 +80,13 @@ fn parts_hold(text: &[u8], other: &[u8], digits: &[u8]) -> bool
     requires { ⌜ (16 ≤ length (now digits)) × (length (now digits) ≤ 32) ⌝ }
     ensures { λ r. ⌜ r ≡ (all (isOf Class.Text) (now (text .entry)) && (all (isOf Class.Text) (now (other .entry)) && all (isOf Class.Digit) (now (digits .entry)))) ⌝ }
 {
-    let n = text.len();
-    let m = other.len();
-    let k = digits.len();
     rows_hold(
-        &text[0..16],
-        &text[n - 16..n],
-        &other[0..16],
-        &other[m - 16..m],
-        &digits[0..16],
-        &digits[k - 16..k],
+        first_row(text),
+        last_row(text),
+        first_row(other),
+        last_row(other),
+        first_row(digits),
+        last_row(digits),
     )
 }
 
@@ -147,6 +162,30 @@ fn looks_like_payment(rec: &[u8]) -> bool
     is_coded(rec)
 }
 
+fn number_of(rec: &[u8], f: Field) -> u64
+    requires { ⌜ length (now rec) ≡ recordLength ⌝ }
+    requires { ⌜ Lies f ⌝ }
+    ensures { λ r. ⌜ r ≡ lowNumberOf (partOf f (now (rec .entry))) ⌝ }
+{
+    decimal::low_number(walk::part_of(rec, f))
+}
+
+fn date_of(rec: &[u8], f: Field) -> Dated
+    requires { ⌜ length (now rec) ≡ recordLength ⌝ }
+    requires { ⌜ Lies f ⌝ }
+    ensures { λ r. ⌜ r ≡ dateOf (partOf f (now (rec .entry))) ⌝ }
+{
+    calendar::read_date(walk::part_of(rec, f))
+}
+
+fn barcode_of(rec: &[u8], f: Field) -> Barcoded
+    requires { ⌜ length (now rec) ≡ recordLength ⌝ }
+    requires { ⌜ Lies f ⌝ }
+    ensures { λ r. ⌜ r ≡ codes.decodeOf (partOf f (now (rec .entry))) ⌝ }
+{
+    barcode::decode(walk::part_of(rec, f))
+}
+
 // What it pays; nothing where the look is not sure.
 pub(crate) fn pays(rec: &[u8]) -> Pays
     ensures { λ r. ⌜ (r ≡ Pays.Nothing) ⊎ (r ≡ paysOf (decodeOf (now (rec .entry)))) ⌝ }
@@ -161,7 +200,7 @@ pub(crate) fn pays(rec: &[u8]) -> Pays
         return Pays::Nothing;
     }
     match barcode::pays(walk::part_of(rec, g::BARCODE)) {
-        Payee::To(issuer) => Pays::To(issuer, decimal::low_number(walk::part_of(rec, g::RECEIVED))),
+        Payee::To(issuer) => Pays::To(issuer, number_of(rec, g::RECEIVED)),
         Payee::Nobody => Pays::Nothing,
     }
 }
@@ -176,20 +215,20 @@ pub(crate) fn payment(rec: &[u8]) -> Sure
     if !looks_like_payment(rec) {
         return Sure::Not;
     }
-    let Dated::On(paid) = calendar::read_date(walk::part_of(rec, g::PAID)) else {
+    let Dated::On(paid) = date_of(rec, g::PAID) else {
         return Sure::Not;
     };
-    let Dated::On(credited) = calendar::read_date(walk::part_of(rec, g::CREDITED)) else {
+    let Dated::On(credited) = date_of(rec, g::CREDITED) else {
         return Sure::Not;
     };
-    match barcode::decode(walk::part_of(rec, g::BARCODE)) {
+    match barcode_of(rec, g::BARCODE) {
         Barcoded::Read(barcode) => Sure::Of(Payment {
             paid,
             credited,
             barcode,
-            received: decimal::low_number(walk::part_of(rec, g::RECEIVED)),
-            tariff: decimal::low_number(walk::part_of(rec, g::TARIFF)),
-            number: decimal::low_number(walk::part_of(rec, g::NUMBER)),
+            received: number_of(rec, g::RECEIVED),
+            tariff: number_of(rec, g::TARIFF),
+            number: number_of(rec, g::NUMBER),
         }),
         Barcoded::Refused(_, _) => Sure::Not,
     }

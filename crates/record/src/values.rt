@@ -8,7 +8,7 @@ ghost use Rattle.barcode.specs.Codes.{fieldsOf};
 ghost use Rattle.layout.specs.Layouts.{recordLength, namedBy};
 ghost use Rattle.layout.proofs.Layouts.{Lies};
 ghost use Rattle.record.specs.Records.{partOf};
-ghost use Rattle.record.specs.Values.{dayOf, headerOf, paymentOf, trailerOf, shownOf, decodeOf, paysOf, fieldIn, shownField};
+ghost use Rattle.record.specs.Values.{dayOf, headerOf, paymentOf, trailerOf, shownOf, decodeOf, paysOf, fieldIn, shownField, hasRow};
 use crate::Decoded;
 use crate::Header;
 use crate::Payment;
@@ -150,22 +150,26 @@ pub fn paid(rec: &[u8]) -> Pays
     }
 }
 
+fn has_row(named: Named, row: usize) -> bool
+    ensures { λ r. ⌜ r ≡ hasRow named row ⌝ }
+{
+    match named {
+        Named::Is(which) => {
+            let rows = layout::rows_of(which);
+            rows.from <= row && row < rows.to
+        }
+        Named::Other => false,
+    }
+}
+
 fn named_part(rec: &[u8], row: usize) -> &[u8]
     requires { ⌜ length (now rec) ≡ recordLength ⌝ }
     ensures { λ r. ⌜ now r ≡ fieldIn (namedBy (getD (now (rec .entry)) 0 0)) row (now (rec .entry)) ⌝ }
 {
-    match layout::named_by(rec[0]) {
-        Named::Is(which) => {
-            let rows = layout::rows_of(which);
-            if row < rows.from {
-                return &rec[0..0];
-            }
-            if rows.to <= row {
-                return &rec[0..0];
-            }
-            walk::part_of(rec, layout::row(row))
-        }
-        Named::Other => &rec[0..0],
+    if has_row(layout::named_by(rec[0]), row) {
+        walk::part_of(rec, layout::row(row))
+    } else {
+        &rec[0..0]
     }
 }
 

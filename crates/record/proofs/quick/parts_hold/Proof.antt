@@ -6,68 +6,23 @@ use borrow.Author.Needs.{needs}
 use Rattle.record.proofs.quick.parts_hold.Statement.{statement}
 use Rattle.record.proofs.quick.parts_hold.Tie as tie
 
-sub-rows-hold : tie.Need-sub-rows-hold
-sub-rows-hold c = search needs
+first-row-requires : tie.Need-first-row-requires
+first-row-requires c κs = search needs
 
-part-rows-hold-start : tie.Need-part-rows-hold-start
-part-rows-hold-start c = search needs
+last-row-requires : tie.Need-last-row-requires
+last-row-requires c κs = search needs
 
-part-rows-hold-end : tie.Need-part-rows-hold-end
-part-rows-hold-end c = search needs
+first-row-requires-2 : tie.Need-first-row-requires-2
+first-row-requires-2 c κs = search needs
 
-sub-rows-hold-2 : tie.Need-sub-rows-hold-2
-sub-rows-hold-2 c = search needs
+last-row-requires-2 : tie.Need-last-row-requires-2
+last-row-requires-2 c κs = search needs
 
-sub-rows-hold-3 : tie.Need-sub-rows-hold-3
-sub-rows-hold-3 c = search needs
+first-row-requires-3 : tie.Need-first-row-requires-3
+first-row-requires-3 c κs = search needs
 
-part-rows-hold-start-2 : tie.Need-part-rows-hold-start-2
-part-rows-hold-start-2 c = search needs
-
-part-rows-hold-end-2 : tie.Need-part-rows-hold-end-2
-part-rows-hold-end-2 c = search needs
-
-sub-rows-hold-4 : tie.Need-sub-rows-hold-4
-sub-rows-hold-4 c = search needs
-
-part-rows-hold-start-3 : tie.Need-part-rows-hold-start-3
-part-rows-hold-start-3 c = search needs
-
-part-rows-hold-end-3 : tie.Need-part-rows-hold-end-3
-part-rows-hold-end-3 c = search needs
-
-sub-rows-hold-5 : tie.Need-sub-rows-hold-5
-sub-rows-hold-5 c = search needs
-
-sub-rows-hold-6 : tie.Need-sub-rows-hold-6
-sub-rows-hold-6 c = search needs
-
-part-rows-hold-start-4 : tie.Need-part-rows-hold-start-4
-part-rows-hold-start-4 c = search needs
-
-part-rows-hold-end-4 : tie.Need-part-rows-hold-end-4
-part-rows-hold-end-4 c = search needs
-
-sub-rows-hold-7 : tie.Need-sub-rows-hold-7
-sub-rows-hold-7 c = search needs
-
-part-rows-hold-start-5 : tie.Need-part-rows-hold-start-5
-part-rows-hold-start-5 c = search needs
-
-part-rows-hold-end-5 : tie.Need-part-rows-hold-end-5
-part-rows-hold-end-5 c = search needs
-
-sub-rows-hold-8 : tie.Need-sub-rows-hold-8
-sub-rows-hold-8 c = search needs
-
-sub-rows-hold-9 : tie.Need-sub-rows-hold-9
-sub-rows-hold-9 c = search needs
-
-part-rows-hold-start-6 : tie.Need-part-rows-hold-start-6
-part-rows-hold-start-6 c = search needs
-
-part-rows-hold-end-6 : tie.Need-part-rows-hold-end-6
-part-rows-hold-end-6 c = search needs
+last-row-requires-3 : tie.Need-last-row-requires-3
+last-row-requires-3 c κs = search needs
 
 rows-hold-requires : tie.Need-rows-hold-requires
 rows-hold-requires c κs = search needs
@@ -76,33 +31,18 @@ returns : tie.Need-returns
 returns c =
     let a = c .before .before .before .before .before .before .before .before .before .before .args in
     let p = c .before .before .before .before .before .before .before .before .before .before .pre in
-    rw (← two-rows (isOf Text) (a .text .now) (p .0 .0) (p .0 .1), ← two-rows (isOf Text) (a .other .now) (p .1 .0 .0) (p .1 .0 .1), ← two-rows (isOf Digit) (a .digits .now) (p .1 .1 .0) (p .1 .1 .1))
+    rw (← two-rows (isOf Text) (a .text .now) (p .0 .0) (p .0 .1), ← two-rows (isOf Text) (a .other .now) (p .1 .0 .0) (p .1 .0 .1), ← two-rows (isOf Digit) (a .digits .now) (p .1 .1 .0) (p .1 .1 .1), ← c .before .before .before .before .before .before .first-row .ensures .0, ← c .before .before .before .before .before .last-row .ensures .0, ← c .before .before .before .before .first-row2 .ensures .0, ← c .before .before .before .last-row2 .ensures .0, ← c .before .before .first-row3 .ensures .0, ← c .before .last-row3 .ensures .0)
     (c .rows-hold .ensures)
 
 pub parts-hold-spec : {M : Type 1} → statement M
 parts-hold-spec =
     tie.close
     (tie.spec
-    sub-rows-hold
-    part-rows-hold-start
-    part-rows-hold-end
-    sub-rows-hold-2
-    sub-rows-hold-3
-    part-rows-hold-start-2
-    part-rows-hold-end-2
-    sub-rows-hold-4
-    part-rows-hold-start-3
-    part-rows-hold-end-3
-    sub-rows-hold-5
-    sub-rows-hold-6
-    part-rows-hold-start-4
-    part-rows-hold-end-4
-    sub-rows-hold-7
-    part-rows-hold-start-5
-    part-rows-hold-end-5
-    sub-rows-hold-8
-    sub-rows-hold-9
-    part-rows-hold-start-6
-    part-rows-hold-end-6
+    first-row-requires
+    last-row-requires
+    first-row-requires-2
+    last-row-requires-2
+    first-row-requires-3
+    last-row-requires-3
     rows-hold-requires
     returns)

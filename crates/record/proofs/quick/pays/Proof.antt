@@ -2,7 +2,6 @@
 use mathlib.Core.Logic.{inl, inr}
 use mathlib.Core.Path.{refl, sym, ap, _∙_}
 use borrow.Author.Tests.{not-false}
-use Rattle.decimal.specs.Numbers.{lowNumberOf}
 use Rattle.barcode.specs.Codes.{payeeOf}
 use Rattle.barcode.proofs.OnePass.{paid-accepts, paid-issuer}
 use Rattle.layout.specs.Layouts.{rowAt, table, layoutOf, barcodeRow}
@@ -36,11 +35,8 @@ pays-requires c κs = search needs
 enum-known-issuer : tie.Need-enum-known-issuer
 enum-known-issuer c = search needs
 
-part-of-requires-2 : tie.Need-part-of-requires-2
-part-of-requires-2 c κs = search needs
-
-low-number-requires : tie.Need-low-number-requires
-low-number-requires c κs = search needs
+number-of-requires : tie.Need-number-of-requires
+number-of-requires c κs = search needs
 
 enum-told : tie.Need-enum-told
 enum-told c = search needs
@@ -48,11 +44,10 @@ enum-told c = search needs
 returns-4 : tie.Need-returns-4
 unfolding rowAt table layoutOf
 returns-4 c =
-    let rec = c .before .before .before .before .before .before .before .before .before .before .before .before .before .args .rec .now in
+    let rec = c .before .before .before .before .before .before .before .before .before .before .before .before .args .rec .now in
     let part = partOf (rowAt barcodeRow) rec in
-    let to = sym (c .before .before .before .issuer .given .1) ∙ c .before .before .before .before .before .pays .ensures ∙ ap payeeOf (c .before .before .before .before .before .before .part-of .ensures) in
-    inr (pays-it rec (c .before .before .before .before .before .before .before .before .before .before .before .if1 .left) (c .before .before .before .before .before .before .before .before .before .before .looks-like-payment .ensures (not-false _ (c .before .before .before .before .before .before .before .before .before .if2 .left))) (c .before .before .before .before .before .before .before .before .is-dated .ensures (not-false _ (c .before .before .before .before .before .before .before .if3 .left))) (sym (paid-accepts part to)) (paid-issuer part to)
-    (c .low-number .ensures ∙ ap lowNumberOf (c .before .part-of2 .ensures)))
+    let to = sym (c .before .before .issuer .given .1) ∙ c .before .before .before .before .pays .ensures ∙ ap payeeOf (c .before .before .before .before .before .part-of .ensures) in
+    inr (pays-it rec (c .before .before .before .before .before .before .before .before .before .before .if1 .left) (c .before .before .before .before .before .before .before .before .before .looks-like-payment .ensures (not-false _ (c .before .before .before .before .before .before .before .before .if2 .left))) (c .before .before .before .before .before .before .before .is-dated .ensures (not-false _ (c .before .before .before .before .before .before .if3 .left))) (sym (paid-accepts part to)) (paid-issuer part to) (c .number-of .ensures))
 
 returns-5 : tie.Need-returns-5
 returns-5 c = inl refl
@@ -69,8 +64,7 @@ pays-spec =
     part-of-requires
     pays-requires
     enum-known-issuer
-    part-of-requires-2
-    low-number-requires
+    number-of-requires
     enum-told
     returns-4
     returns-5)
