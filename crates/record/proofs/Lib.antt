@@ -1,3 +1,4 @@
+pub mod Exact
 pub mod Looks
 pub mod Shown
 pub mod Walks

@@ -14,8 +14,6 @@ use Rattle.answer.specs.Orders.{asked}
 use Rattle.answer.proofs.Orders.{asked-accepts, then-accepts}
 use Rattle.decimal.specs.Numbers.{heldOf, numberOf}
 use Rattle.decimal.proofs.Numbers.{nineteen-are-held}
-use Rattle.barcode.specs.declared.Fields.{Fields}
-use Rattle.barcode.specs.Codes.{fieldsOf, readOf}
 use Rattle.layout.specs.declared.Field.{Field}
 use Rattle.layout.specs.declared.Named.{Named}
 use Rattle.layout.specs.declared.Named.the-variants.{Is, Other}
@@ -46,12 +44,6 @@ part-length f rec l n =
 pub number-held : (f : Field) (rec : List ℕ) {r : ℕ} → Lies f → f .last ≤ f .first + 18 → length rec ≡ recordLength → r ≡ heldOf (numberOf (partOf f rec))
     → r ≡ numberOf (partOf f rec)
 number-held f rec l w n e = e ∙ nineteen-are-held (partOf f rec) (omega (arith, part-length f rec l n, l .start))
-
-pub code-read : (f : Field) (rec : List ℕ) {r : Fields} → Lies f → f .last ≡ f .first + 43 → length rec ≡ recordLength → r ≡ readOf (partOf f rec)
-    → r ≡ fieldsOf (partOf f rec)
-code-read f rec l w n e =
-    let k : length (partOf f rec) ≡ 44 = part-length f rec l n ∙ omega (arith, w, l .start) in
-    e ∙ rw (eq-eqb (length (partOf f rec)) 44 k)
 
 pub decode-answers : DecodeAnswers
 decode-answers rec = go (recordAnswer rec) (namedBy (getD rec 0 0)) refl (accepted-is rec)

@@ -1,24 +1,23 @@
 -- What the quick look at a G asks beside its barcode: neighbouring fields of one class at once. Only the quick look cites it; what a record
 -- is asked stands in Records.antt and in the room kinds. Assumes nothing.
 use Prim.Native.Nat.{ℕ}
-use mathlib.Core.Bool.{Bool, true, _&&_}
+use mathlib.Core.Bool.{Bool, true, false, _&&_}
 use mathlib.Core.List.{List}
-use mathlib.Core.Path.{_≡_}
 use lib.ListN.{getD}
-use Rattle.answer.specs.declared.Answer.the-variants.{Accepted}
 use Rattle.decimal.specs.declared.Class.the-variants.{Digit, Blank, Text}
 use Rattle.decimal.specs.Bytes.{isOf, all}
 use Rattle.decimal.specs.Places.{places}
-use Rattle.kinds.specs.Kinds.{isCapture, isForm, kindAnswer}
+use Rattle.calendar.specs.Dates.{dateOf, isOne}
+use Rattle.kinds.specs.Kinds.{isCapture, isForm}
 use Rattle.layout.specs.declared.Field.{Field}
-use Rattle.layout.specs.declared.Kind.the-variants.{Date}
-use Rattle.layout.specs.declared.Named.the-variants.{Is}
-use Rattle.layout.specs.declared.Record.the-variants.{Payment}
+use Rattle.layout.specs.declared.Named.{Named}
+use Rattle.layout.specs.declared.Named.the-variants.{Is, Other}
+use Rattle.layout.specs.declared.Record.the-variants.{Header, Payment, Trailer}
 use Rattle.layout.specs.Layouts.{namedBy, rowAt, accountRow, paidRow, creditedRow, receivedRow, numberRow, branchRow, captureRow, authenticationRow, formRow, paymentBlankRow}
 use Rattle.record.specs.declared.Decoded.{Decoded}
 use Rattle.record.specs.declared.Decoded.the-variants as decoded
-use Rattle.record.specs.declared.quick.Sure.{Sure}
-use Rattle.record.specs.declared.quick.Sure.the-variants.{Of, Not}
+use Rattle.record.specs.declared.quick.Seen.{Seen}
+use Rattle.record.specs.declared.quick.Seen.the-variants as seen
 use Rattle.record.specs.Records.{partOf}
 
 -- from the first place of a field to the last of another
@@ -40,13 +39,22 @@ rowsHold a b c d e f =
 unfoldable pub isCoded : List ℕ → Bool
 isCoded rec = isCapture (getD (partOf (rowAt captureRow) rec) 0 0) && isForm (getD (partOf (rowAt formRow) rec) 0 0)
 
-abbrev pub IsDated : List ℕ → Type 0
-IsDated rec = (kindAnswer Date (partOf (rowAt paidRow) rec) ≡ Accepted) × (kindAnswer Date (partOf (rowAt creditedRow) rec) ≡ Accepted)
+abbrev pub isPayment : Named → Bool
+isPayment (Is Header) = false
+isPayment (Is Payment) = true
+isPayment (Is Trailer) = false
+isPayment Other = false
 
-abbrev pub LooksPaid : List ℕ → Type 0
-LooksPaid rec = (namedBy (getD rec 0 0) ≡ Is Payment) × (isPlain rec ≡ true) × (isCoded rec ≡ true)
+-- all but the dates and the barcode
+abbrev pub looksPaid : List ℕ → Bool
+looksPaid rec = isPayment (namedBy (getD rec 0 0)) && (isPlain rec && isCoded rec)
 
--- what it is sure of is decoded so
-abbrev pub SureOf : Sure → Decoded → Type 0
-SureOf (Of payment) d = decoded.Payment payment ≡ d
-SureOf Not d = Unit {0}
+abbrev pub isDated : List ℕ → Bool
+isDated rec = isOne (dateOf (partOf (rowAt paidRow) rec)) && isOne (dateOf (partOf (rowAt creditedRow) rec))
+
+-- an accepted payment is seen, and nothing else
+abbrev pub seenOf : Decoded → Seen
+seenOf (decoded.Header h) = seen.Other
+seenOf (decoded.Payment p) = seen.Paid p
+seenOf (decoded.Trailer t) = seen.Other
+seenOf (decoded.Refused why place) = seen.Other

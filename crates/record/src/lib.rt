@@ -11,9 +11,9 @@ use answer::Reason;
 use barcode::Fields;
 use barcode::Issuer;
 use calendar::Date;
+pub use quick::paid;
 pub use values::decode;
 pub use values::field;
-pub use values::paid;
 pub use walk::check;
 
 #[repr(C)]

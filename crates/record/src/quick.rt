@@ -1,7 +1,6 @@
-// A quick look at a G: what it pays, where all its fields hold. What is wrong, and where, the walk says.
+// A quick look at a G, exact: it sees an accepted one, and nothing else. What is wrong with another, and where, the walk says.
 ghost use Prim.Native.Nat.{_-_, _≤_};
-ghost use mathlib.Core.Bool.{true, cond, _&&_};
-ghost use mathlib.Core.Logic.{_⊎_};
+ghost use mathlib.Core.Bool.{cond, _&&_};
 ghost use mathlib.Core.Path.{_≡_};
 ghost use lib.ListN.{length, take, drop};
 ghost use Rattle.decimal.specs.Bytes.{isOf, all};
@@ -11,7 +10,7 @@ ghost use Rattle.barcode.specs.Codes as codes;
 ghost use Rattle.layout.specs.Layouts.{recordLength, namedBy};
 ghost use Rattle.layout.proofs.Layouts.{Lies};
 ghost use Rattle.record.specs.Records.{partOf};
-ghost use Rattle.record.specs.Looks.{rowsHold, spanOf, isPlain, isCoded, IsDated, LooksPaid, SureOf};
+ghost use Rattle.record.specs.Looks.{rowsHold, spanOf, isPlain, isCoded, isDated, isPayment, looksPaid, seenOf};
 ghost use Rattle.record.specs.Values.{decodeOf, paysOf};
 use crate::Payment;
 use crate::Pays;
@@ -25,10 +24,10 @@ use layout::Named;
 use layout::Record;
 use layout::g;
 
-// A payment, where the look is sure of one.
-pub(crate) enum Sure {
-    Of(Payment),
-    Not,
+// An accepted payment, or anything else.
+pub(crate) enum Seen {
+    Paid(Payment),
+    Other,
 }
 
 fn flag(class: Class, b: u8) -> u8
@@ -127,7 +126,7 @@ fn is_coded(rec: &[u8]) -> bool
 
 fn is_dated(rec: &[u8]) -> bool
     requires { ⌜ length (now rec) ≡ recordLength ⌝ }
-    ensures { λ r. ⌜ (r ≡ true → IsDated (now (rec .entry))) ⌝ }
+    ensures { λ r. ⌜ r ≡ isDated (now (rec .entry)) ⌝ }
 {
     if !calendar::spells_date(walk::part_of(rec, g::PAID)) {
         return false;
@@ -136,7 +135,7 @@ fn is_dated(rec: &[u8]) -> bool
 }
 
 fn is_payment(mark: u8) -> bool
-    ensures { λ r. ⌜ (r ≡ true → namedBy mark ≡ Named.Is Record.Payment) ⌝ }
+    ensures { λ r. ⌜ r ≡ isPayment (namedBy mark) ⌝ }
 {
     match layout::named_by(mark) {
         Named::Is(which) => match which {
@@ -151,7 +150,7 @@ fn is_payment(mark: u8) -> bool
 // All fields but the dates and the barcode.
 fn looks_like_payment(rec: &[u8]) -> bool
     requires { ⌜ length (now rec) ≡ recordLength ⌝ }
-    ensures { λ r. ⌜ (r ≡ true → LooksPaid (now (rec .entry))) ⌝ }
+    ensures { λ r. ⌜ r ≡ looksPaid (now (rec .entry)) ⌝ }
 {
     if !is_payment(rec[0]) {
         return false;
@@ -186,9 +185,9 @@ fn barcode_of(rec: &[u8], f: Field) -> Barcoded
     barcode::decode(walk::part_of(rec, f))
 }
 
-// What it pays; nothing where the look is not sure.
-pub(crate) fn pays(rec: &[u8]) -> Pays
-    ensures { λ r. ⌜ (r ≡ Pays.Nothing) ⊎ (r ≡ paysOf (decodeOf (now (rec .entry)))) ⌝ }
+// Only what a session needs of a payment; decoding the rest of it would cost as much again.
+pub fn paid(rec: &[u8]) -> Pays
+    ensures { λ r. ⌜ r ≡ paysOf (decodeOf (now (rec .entry))) ⌝ }
 {
     if rec.len() != layout::LENGTH {
         return Pays::Nothing;
@@ -205,24 +204,24 @@ pub(crate) fn pays(rec: &[u8]) -> Pays
     }
 }
 
-// All that it shows, where the look is sure.
-pub(crate) fn payment(rec: &[u8]) -> Sure
-    ensures { λ r. ⌜ SureOf r (decodeOf (now (rec .entry))) ⌝ }
+// All that a payment shows.
+pub(crate) fn payment(rec: &[u8]) -> Seen
+    ensures { λ r. ⌜ r ≡ seenOf (decodeOf (now (rec .entry))) ⌝ }
 {
     if rec.len() != layout::LENGTH {
-        return Sure::Not;
+        return Seen::Other;
     }
     if !looks_like_payment(rec) {
-        return Sure::Not;
+        return Seen::Other;
     }
     let Dated::On(paid) = date_of(rec, g::PAID) else {
-        return Sure::Not;
+        return Seen::Other;
     };
     let Dated::On(credited) = date_of(rec, g::CREDITED) else {
-        return Sure::Not;
+        return Seen::Other;
     };
     match barcode_of(rec, g::BARCODE) {
-        Barcoded::Read(barcode) => Sure::Of(Payment {
+        Barcoded::Read(barcode) => Seen::Paid(Payment {
             paid,
             credited,
             barcode,
@@ -230,6 +229,6 @@ pub(crate) fn payment(rec: &[u8]) -> Sure
             tariff: number_of(rec, g::TARIFF),
             number: number_of(rec, g::NUMBER),
         }),
-        Barcoded::Refused(_, _) => Sure::Not,
+        Barcoded::Refused(_, _) => Seen::Other,
     }
 }

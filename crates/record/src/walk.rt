@@ -73,7 +73,7 @@ pub(crate) fn walked(rec: &[u8]) -> Answer
 pub fn check(rec: &[u8]) -> Answer
     ensures { λ r. ⌜ r ≡ recordAnswer (now (rec .entry)) ⌝ }
 {
-    match quick::pays(rec) {
+    match quick::paid(rec) {
         Pays::To(_, _) => Answer::Accepted,
         Pays::Nothing => walked(rec),
     }

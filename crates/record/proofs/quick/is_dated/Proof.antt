@@ -2,11 +2,9 @@
 use Prim.Native.Nat.{ℕ}
 use mathlib.Core.List.{List}
 use mathlib.Core.Path.{sym, ap, _∙_}
-use borrow.Author.Tests.{not-false}
+use borrow.Author.Tests.{not-true, not-false}
 use Rattle.calendar.specs.Dates.{dateOf, isOne}
 use Rattle.layout.specs.Layouts.{rowAt, table, layoutOf}
-use Rattle.decimal.proofs.Finite.{never}
-use Rattle.record.proofs.Looks.{spelled-accepted}
 use borrow.Author.Needs.{needs}
 use Rattle.record.proofs.quick.is_dated.Statement.{statement}
 use Rattle.record.proofs.quick.is_dated.Tie as tie
@@ -18,7 +16,8 @@ spells-date-requires : tie.Need-spells-date-requires
 spells-date-requires c κs = search needs
 
 returns : tie.Need-returns
-returns c = never
+unfolding rowAt table layoutOf
+returns c = rw (sym (ap (λ (l : List ℕ). isOne (dateOf l)) (c .before .before .part-of .ensures)) ∙ sym (c .before .spells-date .ensures) ∙ not-true _ (c .if1 .taken))
 
 part-of-requires-2 : tie.Need-part-of-requires-2
 part-of-requires-2 c κs = search needs
@@ -29,10 +28,7 @@ spells-date-requires-2 c κs = search needs
 returns-2 : tie.Need-returns-2
 unfolding rowAt table layoutOf
 returns-2 c =
-    λ e. (
-      spelled-accepted _ (sym (ap (λ (l : List ℕ). isOne (dateOf l)) (c .before .before .before .before .part-of .ensures)) ∙ sym (c .before .before .before .spells-date .ensures) ∙ not-false _ (c .before .before .if1 .left)),
-      spelled-accepted _ (sym (ap (λ (l : List ℕ). isOne (dateOf l)) (c .before .part-of2 .ensures)) ∙ sym (c .spells-date2 .ensures) ∙ e),
-    )
+    rw (sym (ap (λ (l : List ℕ). isOne (dateOf l)) (c .before .before .before .before .part-of .ensures)) ∙ sym (c .before .before .before .spells-date .ensures) ∙ not-false _ (c .before .before .if1 .left)) (c .spells-date2 .ensures ∙ ap (λ (l : List ℕ). isOne (dateOf l)) (c .before .part-of2 .ensures))
 
 pub is-dated-spec : {M : Type 1} → statement M
 is-dated-spec =

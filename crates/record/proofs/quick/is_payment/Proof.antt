@@ -1,8 +1,6 @@
 -- `record::quick::is_payment` meets its contract. Assumes nothing.
 use borrow.Author.Needs.{needs}
-use mathlib.Core.Path.{sym, ap, _∙_}
-use Rattle.layout.specs.declared.Named.the-variants.{Is}
-use Rattle.decimal.proofs.Finite.{never}
+use mathlib.Core.Path.{sym, _∙_}
 use Rattle.record.proofs.quick.is_payment.Statement.{statement}
 use Rattle.record.proofs.quick.is_payment.Tie as tie
 
@@ -25,16 +23,16 @@ enum-told-4 : tie.Need-enum-told-4
 enum-told-4 c = search needs
 
 returns : tie.Need-returns
-returns c = never
+returns c = rw (sym (c .before .before .before .before .before .named-by .ensures) ∙ c .before .before .before .which .given .1, c .enum-told .given .1)
 
 returns-2 : tie.Need-returns-2
-returns-2 c = λ e. sym (c .before .before .before .before .before .named-by .ensures) ∙ c .before .before .before .which .given .1 ∙ ap Is (c .enum-told2 .given .1)
+returns-2 c = rw (sym (c .before .before .before .before .before .named-by .ensures) ∙ c .before .before .before .which .given .1, c .enum-told2 .given .1)
 
 returns-3 : tie.Need-returns-3
-returns-3 c = never
+returns-3 c = rw (sym (c .before .before .before .before .before .named-by .ensures) ∙ c .before .before .before .which .given .1, c .enum-told3 .given .1)
 
 returns-4 : tie.Need-returns-4
-returns-4 c = never
+returns-4 c = rw (sym (c .before .before .named-by .ensures) ∙ c .enum-told4 .given .1)
 
 pub is-payment-spec : {M : Type 1} → statement M
 is-payment-spec =

@@ -1,7 +1,6 @@
 -- `record::quick::looks_like_payment` meets its contract. Assumes nothing.
 use mathlib.Core.Path.{sym, _∙_}
-use borrow.Author.Tests.{not-false}
-use Rattle.decimal.proofs.Finite.{never}
+use borrow.Author.Tests.{not-true, not-false}
 use borrow.Author.Needs.{needs}
 use Rattle.record.proofs.quick.looks_like_payment.Statement.{statement}
 use Rattle.record.proofs.quick.looks_like_payment.Tie as tie
@@ -13,24 +12,20 @@ is-payment-requires : tie.Need-is-payment-requires
 is-payment-requires c κs = search needs
 
 returns : tie.Need-returns
-returns c = never
+returns c = rw (sym (c .before .is-payment .ensures) ∙ not-true _ (c .if1 .taken))
 
 is-plain-requires : tie.Need-is-plain-requires
 is-plain-requires c κs = search needs
 
 returns-2 : tie.Need-returns-2
-returns-2 c = never
+returns-2 c = rw (sym (c .before .before .before .is-payment .ensures) ∙ not-false _ (c .before .before .if1 .left), sym (c .before .is-plain .ensures) ∙ not-true _ (c .if2 .taken))
 
 is-coded-requires : tie.Need-is-coded-requires
 is-coded-requires c κs = search needs
 
 returns-3 : tie.Need-returns-3
 returns-3 c =
-    λ e. (
-      c .before .before .before .before .is-payment .ensures (not-false _ (c .before .before .before .if1 .left)),
-      sym (c .before .before .is-plain .ensures) ∙ not-false _ (c .before .if2 .left),
-      sym (c .is-coded .ensures) ∙ e,
-    )
+    rw (sym (c .before .before .before .before .is-payment .ensures) ∙ not-false _ (c .before .before .before .if1 .left), sym (c .before .before .is-plain .ensures) ∙ not-false _ (c .before .if2 .left)) (c .is-coded .ensures)
 
 pub looks-like-payment-spec : {M : Type 1} → statement M
 looks-like-payment-spec =

@@ -1,23 +1,22 @@
 -- `record::quick::payment` meets its contract. Assumes nothing.
 use mathlib.Core.Path.{sym, _∙_}
-use borrow.Author.Tests.{not-false}
+use borrow.Author.Tests.{not-true, not-false}
 use Rattle.barcode.proofs.OnePass.{read-tells}
-use Rattle.kinds.proofs.KindLaws.{date-accepted}
 use Rattle.layout.specs.Layouts.{rowAt, table, layoutOf, barcodeRow}
 use Rattle.record.specs.Records.{partOf}
-use Rattle.record.proofs.Looks.{shows-it}
+use Rattle.record.proofs.Exact.{not-sized, not-looking, no-payment-date, no-credit-date, both-dates, no-code, shows-it}
 use borrow.Author.Needs.{needs}
 use Rattle.record.proofs.quick.payment.Statement.{statement}
 use Rattle.record.proofs.quick.payment.Tie as tie
 
 returns : tie.Need-returns
-returns c = search needs
+returns c = not-sized (c .before .before .args .rec .now) (c .if1 .taken) .1
 
 looks-like-payment-requires : tie.Need-looks-like-payment-requires
 looks-like-payment-requires c κs = search needs
 
 returns-2 : tie.Need-returns-2
-returns-2 c = search needs
+returns-2 c = not-looking (c .before .before .before .before .args .rec .now) (c .before .before .if1 .left) (sym (c .before .looks-like-payment .ensures) ∙ not-true _ (c .if2 .taken)) .1
 
 date-of-requires : tie.Need-date-of-requires
 date-of-requires c κs = search needs
@@ -29,7 +28,8 @@ enum-told : tie.Need-enum-told
 enum-told c = search needs
 
 returns-3 : tie.Need-returns-3
-returns-3 c = search needs
+unfolding rowAt table layoutOf
+returns-3 c = no-payment-date (c .before .before .before .before .before .before .before .args .rec .now) (c .before .before .before .before .before .if1 .left) (sym (c .before .before .date-of .ensures) ∙ c .enum-told .given .1) .1
 
 date-of-requires-2 : tie.Need-date-of-requires-2
 date-of-requires-2 c κs = search needs
@@ -41,7 +41,8 @@ enum-told-2 : tie.Need-enum-told-2
 enum-told-2 c = search needs
 
 returns-4 : tie.Need-returns-4
-returns-4 c = search needs
+unfolding rowAt table layoutOf
+returns-4 c = no-credit-date (c .before .before .before .before .before .before .before .before .before .before .before .args .rec .now) (c .before .before .before .before .before .before .before .before .before .if1 .left) (sym (c .before .before .date-of2 .ensures) ∙ c .enum-told2 .given .1) .1
 
 barcode-of-requires : tie.Need-barcode-of-requires
 barcode-of-requires c κs = search needs
@@ -69,11 +70,12 @@ returns-5 c =
     let paid = sym (c .before .before .before .before .before .before .before .before .before .before .before .before .before .before .date-of .ensures) ∙ c .before .before .before .before .before .before .before .before .before .before .before .before .paid .given .1 in
     let credited = sym (c .before .before .before .before .before .before .before .before .before .before .date-of2 .ensures) ∙ c .before .before .before .before .before .before .before .before .credited .given .1 in
     let told = read-tells part (sym (c .before .before .before .before .barcode .given .1) ∙ c .before .before .before .before .before .before .barcode-of .ensures) in
-    let looks = c .before .before .before .before .before .before .before .before .before .before .before .before .before .before .before .before .looks-like-payment .ensures (not-false _ (c .before .before .before .before .before .before .before .before .before .before .before .before .before .before .before .if2 .left)) in
-    shows-it rec (c .before .before .before .before .before .before .before .before .before .before .before .before .before .before .before .before .before .if1 .left) looks (sym (date-accepted _ _ paid), sym (date-accepted _ _ credited)) (told .0) paid credited (told .1) (c .before .before .number-of .ensures) (c .before .number-of2 .ensures) (c .number-of3 .ensures)
+    let looks = sym (c .before .before .before .before .before .before .before .before .before .before .before .before .before .before .before .before .looks-like-payment .ensures) ∙ not-false _ (c .before .before .before .before .before .before .before .before .before .before .before .before .before .before .before .if2 .left) in
+    shows-it rec (c .before .before .before .before .before .before .before .before .before .before .before .before .before .before .before .before .before .if1 .left) looks (both-dates rec (c .before .before .before .before .before .before .before .before .before .before .before .before .before .before .before .before .before .if1 .left) paid credited) (told .0) paid credited (told .1) (c .before .before .number-of .ensures) (c .before .number-of2 .ensures) (c .number-of3 .ensures)
 
 returns-6 : tie.Need-returns-6
-returns-6 c = search needs
+unfolding rowAt table layoutOf
+returns-6 c = no-code (c .before .before .before .before .before .before .before .before .before .before .before .before .before .before .before .args .rec .now) (c .before .before .before .before .before .before .before .before .before .before .before .before .before .if1 .left) (sym (c .enum-told3 .given .1) ∙ c .before .before .barcode-of .ensures) .1
 
 pub payment-spec : {M : Type 1} → statement M
 payment-spec =

@@ -1,6 +1,6 @@
 -- `record::values::decode` meets its contract. Assumes nothing.
 use mathlib.Core.Path.{sym, _∙_}
-use Rattle.record.proofs.Looks.{sure-shown}
+use Rattle.record.proofs.Exact.{seen-shown, other-shown}
 use Rattle.record.proofs.Shown.{accepted-is}
 use borrow.Author.Needs.{needs}
 use Rattle.record.proofs.values.decode.Statement.{statement}
@@ -22,13 +22,15 @@ enum-told-2 : tie.Need-enum-told-2
 enum-told-2 c = search needs
 
 shown-requires : tie.Need-shown-requires
-shown-requires c κs = accepted-is _ (sym (c .before .before .walked .ensures) ∙ c .enum-told2 .given .1) .0
+shown-requires c κs =
+    let a = sym (c .before .before .walked .ensures) ∙ c .enum-told2 .given .1 in
+    (accepted-is _ a .0, other-shown (c .before .before .before .before .before .before .before .args .rec .now) (sym (c .before .before .before .enum-told .given .1) ∙ c .before .before .before .before .before .payment .ensures) a)
 
 enum-known-why : tie.Need-enum-known-why
 enum-known-why c = search needs
 
 returns : tie.Need-returns
-returns c = sure-shown _ (c .before .before .before .payment .ensures) (c .before .payment2 .given .1)
+returns c = seen-shown _ (sym (c .before .payment2 .given .1) ∙ c .before .before .before .payment .ensures)
 
 returns-2 : tie.Need-returns-2
 returns-2 c = rw (sym (c .before .before .before .walked .ensures) ∙ c .before .enum-told2 .given .1) (c .shown .ensures)

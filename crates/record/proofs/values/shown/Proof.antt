@@ -1,6 +1,8 @@
 -- `record::values::shown` meets its contract. Assumes nothing.
-use mathlib.Core.Path.{sym, _∙_}
+use mathlib.Core.Path.{sym, ap, _∙_}
 use borrow.Author.Needs.{needs}
+use Rattle.decimal.proofs.Finite.{never}
+use Rattle.record.specs.Looks.{isPayment}
 use Rattle.record.proofs.values.shown.Statement.{statement}
 use Rattle.record.proofs.values.shown.Tie as tie
 
@@ -22,9 +24,6 @@ read-header-requires c κs = search needs
 enum-told-2 : tie.Need-enum-told-2
 enum-told-2 c = search needs
 
-read-payment-requires : tie.Need-read-payment-requires
-read-payment-requires c κs = search needs
-
 enum-told-3 : tie.Need-enum-told-3
 enum-told-3 c = search needs
 
@@ -38,7 +37,7 @@ returns : tie.Need-returns
 returns c = rw (sym (c .before .before .before .before .before .before .named-by .ensures) ∙ c .before .before .before .before .which .given .1, c .before .enum-told .given .1, c .read-header .ensures)
 
 returns-2 : tie.Need-returns-2
-returns-2 c = rw (sym (c .before .before .before .before .before .before .named-by .ensures) ∙ c .before .before .before .before .which .given .1, c .before .enum-told2 .given .1, c .read-payment .ensures)
+returns-2 c = never (sym (c .before .before .before .before .before .before .before .before .pre .1) ∙ ap isPayment (sym (c .before .before .before .before .before .named-by .ensures) ∙ c .before .before .before .which .given .1) ∙ rw (c .enum-told2 .given .1))
 
 returns-3 : tie.Need-returns-3
 returns-3 c = rw (sym (c .before .before .before .before .before .before .named-by .ensures) ∙ c .before .before .before .before .which .given .1, c .before .enum-told3 .given .1, c .read-trailer .ensures)
@@ -56,7 +55,6 @@ shown-spec =
     enum-told
     read-header-requires
     enum-told-2
-    read-payment-requires
     enum-told-3
     read-trailer-requires
     enum-told-4

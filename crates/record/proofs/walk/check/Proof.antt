@@ -1,11 +1,12 @@
 -- `record::walk::check` meets its contract. Assumes nothing.
+use mathlib.Core.Path.{sym, _∙_}
 use borrow.Author.Needs.{needs}
-use Rattle.record.proofs.Looks.{sure-accepted}
+use Rattle.record.proofs.Exact.{paid-accepted}
 use Rattle.record.proofs.walk.check.Statement.{statement}
 use Rattle.record.proofs.walk.check.Tie as tie
 
-pays-requires : tie.Need-pays-requires
-pays-requires c κs = search needs
+paid-requires : tie.Need-paid-requires
+paid-requires c κs = search needs
 
 enum-told : tie.Need-enum-told
 enum-told c = search needs
@@ -17,11 +18,11 @@ walked-requires : tie.Need-walked-requires
 walked-requires c κs = search needs
 
 returns : tie.Need-returns
-returns c = sure-accepted (c .before .before .before .before .args .rec .now) (c .before .before .pays .ensures) (c .enum-told .given .1)
+returns c = paid-accepted (c .before .before .before .before .args .rec .now) (sym (c .enum-told .given .1) ∙ c .before .before .paid .ensures)
 
 returns-2 : tie.Need-returns-2
 returns-2 c = search needs
 
 pub check-spec : {M : Type 1} → statement M
 check-spec =
-    tie.close (tie.spec pays-requires enum-told enum-told-2 walked-requires returns returns-2)
+    tie.close (tie.spec paid-requires enum-told enum-told-2 walked-requires returns returns-2)

@@ -1,0 +1,317 @@
+-- The quick look is exact: it sees an accepted G, and nothing else. Assumes nothing.
+use Prim.Native.Nat.{ℕ, _+_, _-_, _≤_}
+use mathlib.Core.Bool.{Bool, true, false, cond, _&&_, _||_, and-eq-true-iff}
+use mathlib.Core.List.{List, [], _∷_, _++_}
+use mathlib.Core.Logic.{_↔_}
+use mathlib.Core.Path.{_≡_, refl, sym, ap, _∙_}
+use native.Mathlib.Omega.{arith}
+use borrow.Author.Tests.{eqb-true, eq-eqb, leb-true, le-leb}
+use lib.Dec.{eqb, leb}
+use lib.ListN.{length, getD, take, drop, length-drop}
+use lib.Seq.{drop-drop, take-take, take-add, length-take-le}
+use Rattle.answer.specs.declared.Reason.{Reason}
+use Rattle.answer.specs.declared.Reason.the-variants.{NoDigit, NoText, FixedDiffers, NoDate, UnknownCode}
+use Rattle.answer.specs.declared.Answer.{Answer}
+use Rattle.answer.specs.declared.Answer.the-variants.{Accepted, Refused}
+use Rattle.answer.specs.Orders.{asked, _then_, behind}
+use Rattle.answer.proofs.Orders.{asked-accepts, then-accepts, first-accepts, moved-accepts}
+use Rattle.decimal.specs.declared.Class.the-variants.{Digit, Blank, Text}
+use Rattle.decimal.specs.Bytes.{within, isOf, all, eachIs}
+use Rattle.decimal.proofs.Bytes.{all-joins, all-of-part, each-accepts}
+use Rattle.decimal.specs.Numbers.{numberOf, lowNumberOf}
+use Rattle.decimal.proofs.Finite.{never}
+use Rattle.decimal.proofs.Numbers.{low-of-digits}
+use Rattle.calendar.specs.declared.Date.{Date}
+use Rattle.calendar.specs.declared.Dated.{Dated}
+use Rattle.calendar.specs.declared.Dated.the-variants as days
+use Rattle.calendar.specs.Dates.{dateOf, isOne}
+use Rattle.barcode.specs.declared.Fields.{Fields}
+use Rattle.barcode.specs.declared.Issuer.{Issuer}
+use Rattle.barcode.specs.declared.Payee.the-variants.{Nobody}
+use Rattle.barcode.specs.declared.Decoded.the-variants as read
+use Rattle.barcode.specs.Codes as codes
+use Rattle.barcode.specs.Codes.{barcodeAnswer, issuerOf, payeeOf, fieldsOf}
+use Rattle.barcode.proofs.OnePass.{unequal}
+use Rattle.kinds.proofs.KindLaws.{date-accepted}
+use Rattle.kinds.specs.Kinds.{same, isCapture, isForm, kindAnswer}
+use Rattle.layout.specs.declared.Field.{Field}
+use Rattle.layout.specs.declared.Kind.the-variants as kind
+use Rattle.layout.specs.declared.Named.{Named}
+use Rattle.layout.specs.declared.Named.the-variants.{Is, Other}
+use Rattle.layout.specs.declared.Record.the-variants.{Header, Payment, Trailer}
+use Rattle.layout.specs.Layouts.{recordLength, namedBy, layoutOf, rowAt, table, accountRow, barcodeRow, receivedRow, numberRow, branchRow, captureRow, authenticationRow, formRow, paymentBlankRow, paidRow, creditedRow, tariffRow}
+use Rattle.record.specs.declared.Decoded.{Decoded}
+use Rattle.record.specs.declared.Decoded.the-variants as decoded
+use Rattle.record.specs.declared.Payment.{Payment as Shows}
+use Rattle.record.specs.declared.quick.Seen.the-variants.{Paid, Other as Unpaid}
+use Rattle.record.specs.declared.Pays.the-variants.{To, Nothing}
+use Rattle.record.specs.Looks.{spanOf, isPlain, isCoded, isDated, isPayment, looksPaid, seenOf}
+use Rattle.record.specs.Records.{partOf, fieldAnswer, bodyAnswer, recordAnswer}
+use Rattle.record.specs.Values.{shownOf, unlessRefused, decodeOf, paysOf}
+use Rattle.record.proofs.Shown.{accepted-is, named-is}
+use Rattle.record.proofs.Looks.{places-length}
+
+-- a part of a part
+inner : (ok : ℕ → Bool) (rec : List ℕ) (k n j m : ℕ) → j + m ≤ n → all ok (take n (drop k rec)) ≡ true → all ok (take m (drop (k + j) rec)) ≡ true
+inner ok rec k n j m h t =
+    let xs = drop k rec in
+    let s : j + (n - j) ≡ n = omega arith in
+    let split : take n xs ≡ take j xs ++ take (n - j) (drop j xs) = ap (λ (c : ℕ). take c xs) (sym s) ∙ take-add j (n - j) xs in
+    let both =
+    and-eq-true-iff (all ok (take j xs)) (all ok (take (n - j) (drop j xs))) .0 (sym (all-joins ok (take j xs) (take (n - j) (drop j xs))) ∙ ap (all ok) (sym split) ∙ t) in
+    let right : all ok (take (n - j) (drop (k + j) rec)) ≡ true = rw (drop-drop j k rec) at (both .1) in
+    ap (all ok) (sym (take-take m (n - j) (drop (k + j) rec) (omega arith))) ∙ all-of-part ok 0 m (take (n - j) (drop (k + j) rec)) right
+
+named-payment : (b : ℕ) → namedBy b ≡ Is Payment → b ≡ 71
+unfolding namedBy
+named-payment b e = go (eqb b 65) (eqb b 71) (eqb b 90) refl e
+  where
+    go : (t u v : Bool) → eqb b 71 ≡ u → _≡_ {A = Named} (cond t (Is Header) (cond u (Is Payment) (cond v (Is Trailer) Other))) (Is Payment) → b ≡ 71
+    go true u v f q = let z : _≡_ {A = ℕ} 0 1 = cc in absurd (omega arith)
+    go false true v f q = eqb-true b 71 f
+    go false false true f q = let z : _≡_ {A = ℕ} 0 1 = cc in absurd (omega arith)
+    go false false false f q = let z : _≡_ {A = ℕ} 0 1 = cc in absurd (omega arith)
+
+-- Kinds, and what is right of their bytes.
+
+text : (bs : List ℕ) → (kindAnswer kind.Text bs ≡ Accepted) ↔ (all (isOf Text) bs ≡ true)
+unfolding kindAnswer
+text bs = each-accepts (isOf Text) NoText 1 bs
+
+money : (bs : List ℕ) → (kindAnswer kind.Money bs ≡ Accepted) ↔ (all (isOf Digit) bs ≡ true)
+unfolding kindAnswer
+money bs = each-accepts (isOf Digit) NoDigit 1 bs
+
+digits : (bs : List ℕ) → (kindAnswer kind.Digits bs ≡ Accepted) ↔ (all (isOf Digit) bs ≡ true)
+unfolding kindAnswer
+digits bs = each-accepts (isOf Digit) NoDigit 1 bs
+
+blank : (bs : List ℕ) → (kindAnswer kind.Blank bs ≡ Accepted) ↔ (all (isOf Blank) bs ≡ true)
+unfolding kindAnswer
+blank bs = asked-accepts (all (isOf Blank) bs) FixedDiffers 1
+
+capture : (bs : List ℕ) → (kindAnswer kind.Capture bs ≡ Accepted) ↔ (isCapture (getD bs 0 0) ≡ true)
+unfolding kindAnswer
+capture bs = asked-accepts (isCapture (getD bs 0 0)) UnknownCode 1
+
+form : (bs : List ℕ) → (kindAnswer kind.Form bs ≡ Accepted) ↔ (isForm (getD bs 0 0) ≡ true)
+unfolding kindAnswer
+form bs = asked-accepts (isForm (getD bs 0 0)) UnknownCode 1
+
+code : (bs : List ℕ) → (kindAnswer kind.Barcode bs ≡ Accepted) ↔ (barcodeAnswer bs ≡ Accepted)
+unfolding kindAnswer
+code bs = (λ e. e, λ e. e)
+
+date : (bs : List ℕ) → (kindAnswer kind.Date bs ≡ Accepted) ↔ (isOne (dateOf bs) ≡ true)
+unfolding kindAnswer
+date bs = (
+  λ e. asked-accepts (isOne (dateOf bs)) NoDate 1 .0 (then-accepts (eachIs (isOf Digit) NoDigit 1 bs) (asked (isOne (dateOf bs)) NoDate 1) .0 e .1),
+  go (dateOf bs) refl,
+)
+  where
+    go : (d : Dated) → dateOf bs ≡ d → isOne (dateOf bs) ≡ true → kindAnswer kind.Date bs ≡ Accepted
+    go (days.On d) f t = sym (date-accepted bs d f)
+    go days.NoDate f t = never (sym (ap isOne f) ∙ t)
+
+-- a capture is text
+captured : (b : ℕ) → isCapture b ≡ true → isOf Text b ≡ true
+unfolding isCapture isOf
+captured b t = go (leb 49 b) (leb b 54) (leb 97 b) (leb b 102) refl refl refl refl t
+  where
+    text-byte : 32 ≤ b → b ≤ 126 → (within 32 126 b || within 160 255 b) ≡ true
+    text-byte h k = rw (le-leb 32 b h, le-leb b 126 k)
+
+    go : (p q r s : Bool) → leb 49 b ≡ p → leb b 54 ≡ q → leb 97 b ≡ r → leb b 102 ≡ s → ((p && q) || (r && s)) ≡ true → (within 32 126 b || within 160 255 b) ≡ true
+    go true true r s ep eq er es t = text-byte (omega (arith, leb-true 49 b ep)) (omega (arith, leb-true b 54 eq))
+    go true false true true ep eq er es t = text-byte (omega (arith, leb-true 97 b er)) (omega (arith, leb-true b 102 es))
+    go true false true false ep eq er es t = never t
+    go true false false s ep eq er es t = never t
+    go false q true true ep eq er es t = text-byte (omega (arith, leb-true 97 b er)) (omega (arith, leb-true b 102 es))
+    go false q true false ep eq er es t = never t
+    go false q false s ep eq er es t = never t
+
+mark : (rec : List ℕ) → length rec ≡ recordLength → getD rec 0 0 ≡ 71 → kindAnswer (kind.Mark 71) (take 1 (drop 0 rec)) ≡ Accepted
+unfolding kindAnswer
+mark [] n e = absurd (omega arith)
+mark (b ∷ rec) n e = asked-accepts (same (b ∷ []) (71 ∷ [])) FixedDiffers 1 .1 (and-eq-true-iff (eqb b 71) true .1 (eq-eqb b 71 e, refl))
+
+-- neighbouring parts
+joined : (ok : ℕ → Bool) (rec : List ℕ) (k i j : ℕ) → all ok (take i (drop k rec)) ≡ true → all ok (take j (drop (k + i) rec)) ≡ true
+    → all ok (take (i + j) (drop k rec)) ≡ true
+joined ok rec k i j t u =
+    let later : all ok (take j (drop i (drop k rec))) ≡ true = rw (drop-drop i k rec) u in
+    rw (take-add i j (drop k rec), all-joins ok (take i (drop k rec)) (take j (drop i (drop k rec))))
+    (and-eq-true-iff (all ok (take i (drop k rec))) (all ok (take j (drop i (drop k rec)))) .1 (t, later))
+
+one-byte : (bs : List ℕ) → length bs ≡ 1 → isOf Text (getD bs 0 0) ≡ true → all (isOf Text) bs ≡ true
+one-byte [] n t = absurd (omega arith)
+one-byte (b ∷ []) n t = and-eq-true-iff (isOf Text b) true .1 (t, refl)
+one-byte (b ∷ c ∷ bs) n t = absurd (omega arith)
+
+-- What the look asks of a G, and what its fields are asked.
+module _ (rec : List ℕ) where
+  field-accepts : (f : Field) → (fieldAnswer rec f ≡ Accepted) ↔ (kindAnswer (f .kind) (partOf f rec) ≡ Accepted)
+  unfolding fieldAnswer
+  field-accepts f = moved-accepts (behind (f .first - 1)) (kindAnswer (f .kind) (partOf f rec))
+
+  abbrev Plain : Type 0
+  Plain = (all (isOf Text) (take 20 (drop 1 rec)) ≡ true) × (all (isOf Text) (take 32 (drop 108 rec)) ≡ true) × (all (isOf Digit) (take 27 (drop 81 rec)) ≡ true) × (all (isOf Blank) (take 9 (drop 141 rec)) ≡ true)
+
+  plain : (isPlain rec ≡ true) ↔ Plain
+  unfolding isPlain rowAt table layoutOf
+  plain =
+      let account = all (isOf Text) (partOf (rowAt accountRow) rec) in
+      let behind = all (isOf Text) (spanOf (rowAt branchRow) (rowAt authenticationRow) rec) in
+      let numbers = all (isOf Digit) (spanOf (rowAt receivedRow) (rowAt numberRow) rec) in
+      let rest = all (isOf Blank) (partOf (rowAt paymentBlankRow) rec) in
+      let whole = and-eq-true-iff (account && (behind && numbers)) rest in
+      let parts = and-eq-true-iff account (behind && numbers) in
+      let later = and-eq-true-iff behind numbers in (
+        λ t. (parts .0 (whole .0 t .0) .0, later .0 (parts .0 (whole .0 t .0) .1) .0, later .0 (parts .0 (whole .0 t .0) .1) .1, whole .0 t .1),
+        λ p. whole .1 (parts .1 (p .0, later .1 (p .1, p .2)), p .3),
+      )
+
+  coded : (isCoded rec ≡ true) ↔ ((isCapture (getD (take 1 (drop 116 rec)) 0 0) ≡ true) × (isForm (getD (take 1 (drop 140 rec)) 0 0) ≡ true))
+  unfolding isCoded rowAt table layoutOf
+  coded = and-eq-true-iff (isCapture (getD (partOf (rowAt captureRow) rec) 0 0)) (isForm (getD (partOf (rowAt formRow) rec) 0 0))
+
+  dated : (isDated rec ≡ true) ↔ ((isOne (dateOf (partOf (rowAt paidRow) rec)) ≡ true) × (isOne (dateOf (partOf (rowAt creditedRow) rec)) ≡ true))
+  dated = and-eq-true-iff (isOne (dateOf (partOf (rowAt paidRow) rec))) (isOne (dateOf (partOf (rowAt creditedRow) rec)))
+
+  abbrev Right : Type 0
+  Right = (isPlain rec ≡ true) × (isCoded rec ≡ true) × (isDated rec ≡ true) × (barcodeAnswer (partOf (rowAt barcodeRow) rec) ≡ Accepted)
+
+  module _ (n : length rec ≡ recordLength) where
+    holds : namedBy (getD rec 0 0) ≡ Is Payment → Right → bodyAnswer Payment rec ≡ Accepted
+    unfolding layoutOf rowAt table
+    holds named right =
+        let p = plain .0 (right .0) in
+        let c = coded .0 (right .1) in
+        let d = dated .0 (right .2) in
+        let is : (f : Field) → kindAnswer (f .kind) (partOf f rec) ≡ Accepted → fieldAnswer rec f ≡ Accepted = λ f. field-accepts f .1 in
+        first-accepts (fieldAnswer rec) (layoutOf Payment) .1
+        (is _ (mark rec n (named-payment (getD rec 0 0) named)), (is _ (text _ .1 (p .0)), (is _ (date _ .1 (d .0)), (is _ (date _ .1 (d .1)), (is _ (code _ .1 (right .3)), (is _ (money _ .1 (inner (isOf Digit) rec 81 27 0 12 (omega arith) (p .2))), (is _ (money _ .1 (inner (isOf Digit) rec 81 27 12 7 (omega arith) (p .2))), (is _ (digits _ .1 (inner (isOf Digit) rec 81 27 19 8 (omega arith) (p .2))), (is _ (text _ .1 (inner (isOf Text) rec 108 32 0 8 (omega arith) (p .1))), (is _ (capture _ .1 (c .0)), (is _ (text _ .1 (inner (isOf Text) rec 108 32 9 23 (omega arith) (p .1))), (is _ (form _ .1 (c .1)), (is _ (blank _ .1 (p .3)), tt)))))))))))))
+
+    seen : bodyAnswer Payment rec ≡ Accepted → Right
+    unfolding layoutOf rowAt table
+    seen e =
+        let each = first-accepts (fieldAnswer rec) (layoutOf Payment) .0 e in
+        let is : (f : Field) → fieldAnswer rec f ≡ Accepted → kindAnswer (f .kind) (partOf f rec) ≡ Accepted = λ f. field-accepts f .0 in
+        let account = text _ .0 (is _ (each .1 .0)) in
+        let paid = date _ .0 (is _ (each .1 .1 .0)) in
+        let credited = date _ .0 (is _ (each .1 .1 .1 .0)) in
+        let code = code _ .0 (is _ (each .1 .1 .1 .1 .0)) in
+        let received = money _ .0 (is _ (each .1 .1 .1 .1 .1 .0)) in
+        let tariff = money _ .0 (is _ (each .1 .1 .1 .1 .1 .1 .0)) in
+        let number = digits _ .0 (is _ (each .1 .1 .1 .1 .1 .1 .1 .0)) in
+        let branch = text _ .0 (is _ (each .1 .1 .1 .1 .1 .1 .1 .1 .0)) in
+        let taken = capture _ .0 (is _ (each .1 .1 .1 .1 .1 .1 .1 .1 .1 .0)) in
+        let authentication = text _ .0 (is _ (each .1 .1 .1 .1 .1 .1 .1 .1 .1 .1 .0)) in
+        let form = form _ .0 (is _ (each .1 .1 .1 .1 .1 .1 .1 .1 .1 .1 .1 .0)) in
+        let rest = blank _ .0 (is _ (each .1 .1 .1 .1 .1 .1 .1 .1 .1 .1 .1 .1 .0)) in
+        let between = one-byte (take 1 (drop 116 rec)) (places-length rec n 117 117 (omega arith)) (captured _ taken) in
+        let texts = joined (isOf Text) rec 108 9 23 (joined (isOf Text) rec 108 8 1 branch between) authentication in
+        let numbers = joined (isOf Digit) rec 81 19 8 (joined (isOf Digit) rec 81 12 7 received tariff) number in
+        (plain .1 (account, texts, numbers, rest), coded .1 (taken, form), dated .1 (paid, credited), code)
+
+-- An accepted payment, or anything else.
+
+payment-named : (m : Named) → isPayment m ≡ true → m ≡ Is Payment
+payment-named (Is Header) t = never t
+payment-named (Is Payment) t = refl
+payment-named (Is Trailer) t = never t
+payment-named Other t = never t
+
+abbrev Unseen : List ℕ → Type 0
+Unseen rec = (Nothing ≡ paysOf (decodeOf rec)) × (Unpaid ≡ seenOf (decodeOf rec))
+
+unseen : (rec : List ℕ) → (recordAnswer rec ≡ Accepted → isPayment (namedBy (getD rec 0 0)) ≡ true → ⊥) → Unseen rec
+unseen rec h = go (recordAnswer rec) (namedBy (getD rec 0 0)) h
+  where
+    go : (a : Answer) (m : Named) → (a ≡ Accepted → isPayment m ≡ true → ⊥)
+        → (Nothing ≡ paysOf (unlessRefused a (shownOf m rec))) × (Unpaid ≡ seenOf (unlessRefused a (shownOf m rec)))
+    go (Refused why place) m h = (refl, refl)
+    go Accepted (Is Header) h = (refl, refl)
+    go Accepted (Is Payment) h = absurd (h refl refl)
+    go Accepted (Is Trailer) h = (refl, refl)
+    go Accepted Other h = (refl, refl)
+
+pub not-sized : (rec : List ℕ) → (length rec ≡ recordLength → ⊥) → Unseen rec
+not-sized rec h = unseen rec (λ a p. h (accepted-is rec a .0))
+
+module _ (rec : List ℕ) (n : length rec ≡ recordLength) where
+  right-when : recordAnswer rec ≡ Accepted → isPayment (namedBy (getD rec 0 0)) ≡ true → Right rec
+  right-when a p = seen rec n (sym (named-is Payment rec n (payment-named _ p)) ∙ a)
+
+  pub not-looking : looksPaid rec ≡ false → Unseen rec
+  not-looking f =
+      unseen rec (λ a p. let r = right-when a p in unequal (and-eq-true-iff (isPayment (namedBy (getD rec 0 0))) (isPlain rec && isCoded rec) .1 (p, and-eq-true-iff (isPlain rec) (isCoded rec) .1 (r .0, r .1))) f)
+
+  pub not-dated : isDated rec ≡ false → Unseen rec
+  not-dated f = unseen rec (λ a p. unequal (right-when a p .2) f)
+
+  pub no-payment-date : dateOf (partOf (rowAt paidRow) rec) ≡ days.NoDate → Unseen rec
+  no-payment-date e = unseen rec (λ a p. unequal (dated rec .0 (right-when a p .2) .0) (ap isOne e))
+
+  pub no-credit-date : dateOf (partOf (rowAt creditedRow) rec) ≡ days.NoDate → Unseen rec
+  no-credit-date e = unseen rec (λ a p. unequal (dated rec .0 (right-when a p .2) .1) (ap isOne e))
+
+  pub both-dates : {p c : Date} → dateOf (partOf (rowAt paidRow) rec) ≡ days.On p → dateOf (partOf (rowAt creditedRow) rec) ≡ days.On c → isDated rec ≡ true
+  both-dates e f = dated rec .1 (ap isOne e, ap isOne f)
+
+  pub no-payee : Nobody ≡ payeeOf (partOf (rowAt barcodeRow) rec) → Unseen rec
+  no-payee e = unseen rec (λ a p. let k = rw (right-when a p .3) at e in let z : _≡_ {A = ℕ} 0 1 = cc in omega arith)
+
+  pub no-code : {why : Reason} {place : ℕ} → read.Refused why place ≡ codes.decodeOf (partOf (rowAt barcodeRow) rec) → Unseen rec
+  no-code e = unseen rec (λ a p. let k = rw (right-when a p .3) at e in let z : _≡_ {A = ℕ} 0 1 = cc in omega arith)
+
+  module _ (looks : looksPaid rec ≡ true) (dates : isDated rec ≡ true) (right : barcodeAnswer (partOf (rowAt barcodeRow) rec) ≡ Accepted) where
+    looked : (namedBy (getD rec 0 0) ≡ Is Payment) × (isPlain rec ≡ true) × (isCoded rec ≡ true)
+    looked =
+        let both = and-eq-true-iff (isPayment (namedBy (getD rec 0 0))) (isPlain rec && isCoded rec) .0 looks in
+        let more = and-eq-true-iff (isPlain rec) (isCoded rec) .0 (both .1) in
+        (payment-named _ (both .0), more .0, more .1)
+
+    accepted : recordAnswer rec ≡ Accepted
+    accepted = named-is Payment rec n (looked .0) ∙ holds rec n (looked .0) (looked .1, looked .2, dates, right)
+
+    -- a stretch of the digits behind the barcode
+    low : (j m : ℕ) → j + m ≤ 27 → m ≤ 19 → {c : ℕ} → c ≡ lowNumberOf (take m (drop (81 + j) rec)) → c ≡ numberOf (take m (drop (81 + j) rec))
+    low j m h w e =
+        let l : length (take m (drop (81 + j) rec)) ≡ m = length-take-le m (drop (81 + j) rec) (omega (arith, length-drop (81 + j) rec)) in
+        e ∙ low-of-digits (take m (drop (81 + j) rec)) (inner (isOf Digit) rec 81 27 j m (omega arith) (plain rec .0 (looked .1) .2)) (omega arith)
+
+    pub pays-it : {i : Issuer} {c : ℕ} → i ≡ issuerOf (partOf (rowAt barcodeRow) rec) → c ≡ lowNumberOf (partOf (rowAt receivedRow) rec) → To i c ≡ paysOf (decodeOf rec)
+    unfolding rowAt table layoutOf
+    pays-it ei ec = rw (accepted, looked .0, ei, low 0 12 (omega arith) (omega arith) ec)
+
+    pub shows-it : {p c : Date} {f : Fields} {r t n : ℕ} → dateOf (partOf (rowAt paidRow) rec) ≡ days.On p → dateOf (partOf (rowAt creditedRow) rec) ≡ days.On c
+        → f ≡ fieldsOf (partOf (rowAt barcodeRow) rec) → r ≡ lowNumberOf (partOf (rowAt receivedRow) rec) → t ≡ lowNumberOf (partOf (rowAt tariffRow) rec)
+        → n ≡ lowNumberOf (partOf (rowAt numberRow) rec)
+        → Paid (record { paid = p; credited = c; barcode = f; received = r; tariff = t; number = n }) ≡ seenOf (decodeOf rec)
+    unfolding rowAt table layoutOf
+    shows-it ep ec ef er et en = rw (accepted, looked .0, ep, ec, ef, low 0 12 (omega arith) (omega arith) er, low 12 7 (omega arith) (omega arith) et, low 19 8 (omega arith) (omega arith) en)
+
+-- What is seen was accepted.
+
+pub paid-accepted : (rec : List ℕ) {i : Issuer} {c : ℕ} → To i c ≡ paysOf (decodeOf rec) → Accepted ≡ recordAnswer rec
+paid-accepted rec {i} {c} e = go (recordAnswer rec) e
+  where
+    go : (a : Answer) → To i c ≡ paysOf (unlessRefused a (shownOf (namedBy (getD rec 0 0)) rec)) → Accepted ≡ a
+    go Accepted e = refl
+    go (Refused why place) e = let z : _≡_ {A = ℕ} 0 1 = cc in absurd (omega arith)
+
+pub seen-shown : (d : Decoded) {p : Shows} → Paid p ≡ seenOf d → decoded.Payment p ≡ d
+seen-shown (decoded.Header h) e = let z : _≡_ {A = ℕ} 0 1 = cc in absurd (omega arith)
+seen-shown (decoded.Payment q) e = cc
+seen-shown (decoded.Trailer t) e = let z : _≡_ {A = ℕ} 0 1 = cc in absurd (omega arith)
+seen-shown (decoded.Refused why place) e = let z : _≡_ {A = ℕ} 0 1 = cc in absurd (omega arith)
+
+pub other-shown : (rec : List ℕ) → Unpaid ≡ seenOf (decodeOf rec) → recordAnswer rec ≡ Accepted → isPayment (namedBy (getD rec 0 0)) ≡ false
+other-shown rec e a = go (namedBy (getD rec 0 0)) (rw a at e)
+  where
+    go : (m : Named) → Unpaid ≡ seenOf (shownOf m rec) → isPayment m ≡ false
+    go (Is Header) e = refl
+    go (Is Payment) e = let z : _≡_ {A = ℕ} 0 1 = cc in absurd (omega arith)
+    go (Is Trailer) e = refl
+    go Other e = refl

@@ -1,0 +1,72 @@
+-- `record::quick::paid` meets its contract. Assumes nothing.
+use mathlib.Core.Path.{sym, ap, _∙_}
+use borrow.Author.Tests.{not-true, not-false}
+use Rattle.barcode.specs.Codes.{payeeOf}
+use Rattle.barcode.proofs.OnePass.{paid-accepts, paid-issuer}
+use Rattle.layout.specs.Layouts.{rowAt, table, layoutOf, barcodeRow}
+use Rattle.record.specs.Records.{partOf}
+use Rattle.record.proofs.Exact.{not-sized, not-looking, not-dated, no-payee, pays-it}
+use borrow.Author.Needs.{needs}
+use Rattle.record.proofs.quick.paid.Statement.{statement}
+use Rattle.record.proofs.quick.paid.Tie as tie
+
+returns : tie.Need-returns
+returns c = not-sized (c .before .before .args .rec .now) (c .if1 .taken) .0
+
+looks-like-payment-requires : tie.Need-looks-like-payment-requires
+looks-like-payment-requires c κs = search needs
+
+returns-2 : tie.Need-returns-2
+returns-2 c = not-looking (c .before .before .before .before .args .rec .now) (c .before .before .if1 .left) (sym (c .before .looks-like-payment .ensures) ∙ not-true _ (c .if2 .taken)) .0
+
+is-dated-requires : tie.Need-is-dated-requires
+is-dated-requires c κs = search needs
+
+returns-3 : tie.Need-returns-3
+returns-3 c = not-dated (c .before .before .before .before .before .before .args .rec .now) (c .before .before .before .before .if1 .left) (sym (c .before .is-dated .ensures) ∙ not-true _ (c .if3 .taken)) .0
+
+part-of-requires : tie.Need-part-of-requires
+part-of-requires c κs = search needs
+
+pays-requires : tie.Need-pays-requires
+pays-requires c κs = search needs
+
+enum-known-issuer : tie.Need-enum-known-issuer
+enum-known-issuer c = search needs
+
+number-of-requires : tie.Need-number-of-requires
+number-of-requires c κs = search needs
+
+enum-told : tie.Need-enum-told
+enum-told c = search needs
+
+returns-4 : tie.Need-returns-4
+unfolding rowAt table layoutOf
+returns-4 c =
+    let rec = c .before .before .before .before .before .before .before .before .before .before .before .before .args .rec .now in
+    let part = partOf (rowAt barcodeRow) rec in
+    let to = sym (c .before .before .issuer .given .1) ∙ c .before .before .before .before .pays .ensures ∙ ap payeeOf (c .before .before .before .before .before .part-of .ensures) in
+    let looks = sym (c .before .before .before .before .before .before .before .before .before .looks-like-payment .ensures) ∙ not-false _ (c .before .before .before .before .before .before .before .before .if2 .left) in
+    let dates = sym (c .before .before .before .before .before .before .before .is-dated .ensures) ∙ not-false _ (c .before .before .before .before .before .before .if3 .left) in
+    pays-it rec (c .before .before .before .before .before .before .before .before .before .before .if1 .left) looks dates (sym (paid-accepts part to)) (paid-issuer part to) (c .number-of .ensures)
+
+returns-5 : tie.Need-returns-5
+unfolding rowAt table layoutOf
+returns-5 c = no-payee (c .before .before .before .before .before .before .before .before .before .before .args .rec .now) (c .before .before .before .before .before .before .before .before .if1 .left) (sym (c .enum-told .given .1) ∙ c .before .before .pays .ensures ∙ ap payeeOf (c .before .before .before .part-of .ensures)) .0
+
+pub paid-spec : {M : Type 1} → statement M
+paid-spec =
+    tie.close
+    (tie.spec
+    returns
+    looks-like-payment-requires
+    returns-2
+    is-dated-requires
+    returns-3
+    part-of-requires
+    pays-requires
+    enum-known-issuer
+    number-of-requires
+    enum-told
+    returns-4
+    returns-5)
