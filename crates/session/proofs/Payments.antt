@@ -1,6 +1,6 @@
 -- A payment that is posted in place, with no session handed over. Assumes nothing.
 use Prim.Native.Nat.{ℕ, _+_, _-_, _≤_, _<_, min}
-use mathlib.Core.Bool.{true}
+use mathlib.Core.Bool.{Bool, true}
 use mathlib.Core.List.{List}
 use mathlib.Core.Path.{_≡_, refl, sym, ap, _∙_}
 use native.Mathlib.Omega.{arith}
@@ -23,17 +23,24 @@ use Rattle.record.specs.declared.Decoded.the-variants as decoded
 use Rattle.record.specs.Records.{recordAnswer}
 use Rattle.record.specs.Values.{shownOf, unlessRefused, decodeOf, paysOf}
 use Rattle.file.specs.declared.Taken.{Taken}
-use Rattle.file.specs.Files.{takenOf, fileAnswer}
+use Rattle.file.specs.declared.File.{File}
+use Rattle.file.specs.Files.{takenOf, fileAnswer, fileWith}
 use Rattle.board.specs.declared.Lane.{Lane}
 use Rattle.board.specs.declared.Entry.{Entry}
 use Rattle.board.specs.declared.Posted.{Posted}
+use Rattle.board.specs.declared.Slot.{Slot}
+use Rattle.board.specs.declared.Tally.{Tally}
 use Rattle.board.specs.Lanes.{paymentOf}
-use Rattle.board.specs.Boards.{lanesOf, indexOf, slotAt, entryOf, postAnswer}
+use Rattle.board.specs.Boards.{lanesOf, indexOf, slotAt, slotAnswer, entryOf, postAnswer}
 use Rattle.board.proofs.Slots.{put-back}
 use Rattle.session.specs.declared.Session.{Session}
+use Rattle.session.specs.declared.running.Due.{Due}
+use Rattle.session.specs.declared.running.Due.the-variants as due
+use Rattle.session.specs.declared.running.Filled.{Filled}
+use Rattle.session.specs.declared.running.Filled.the-variants as filled
 use Rattle.session.specs.declared.running.Paid.{Paid}
 use Rattle.session.specs.Sessions.{paidBy, takeAnswer, takeOf, follows}
-use Rattle.session.specs.Runs.{closedBy, withPaid, PaidOf}
+use Rattle.session.specs.Runs.{closedBy, withPaid, PaidOf, Dues, DueAt, FilledOf}
 use Rattle.session.proofs.Steps.{posted-board, taken-file}
 use Rattle.session.proofs.Runs.{piece-part, piece-first, run-goes}
 
@@ -55,26 +62,24 @@ module _ (rec : List ℕ) {p : Payment} (is : decodeOf rec ≡ decoded.Payment p
   payment-long = passed _ _ _ (shown-payment (recordAnswer rec) (namedBy (getD rec 0 0)) rec is .0) .0
 
   -- an open session, a file and a slot that take it
-  module _ (s : Session) (opened : s .opened ≡ true) {t : Taken} (took : t ≡ takenOf (s .file) (p .received)) (fits : t .answer ≡ answer.Accepted)
+  module _ (s : Session) (opened : s .opened ≡ true) (fits : fileAnswer (s .file) (p .received) ≡ answer.Accepted)
       {place : ℕ} (found : place ≡ indexOf (p .barcode .issuer) (lanesOf (s .work))) {e : Entry} (entered : e ≡ entryOf (slotAt (s .work) place) (paidBy p))
       (posts : e .answer ≡ answer.Accepted) where
     pub pays-in : takeAnswer s rec ≡ answer.Accepted
     pays-in =
-        let f : fileAnswer (s .file) (p .received) ≡ answer.Accepted = sym (ap (λ (x : Taken). x .answer) took) ∙ fits in
         let b : postAnswer (s .work) (paidBy p) ≡ answer.Accepted =
         sym (ap (λ (x : Posted). x .answer) (put-back (s .work) (paidBy p) place e found entered)) ∙ posts in
-        rw (is, payment-long, payment-named, opened, f, b)
+        rw (is, payment-long, payment-named, opened, fits, b)
 
     pub pays-on : _≡_ {A = Session}
         (record {
           shown = s .shown;
           work = record { lanes = set (s .work .lanes) place (e .slot .lane); used = e .slot .used; total = e .slot .total };
           opened = s .opened;
-          file = t .file;
+          file = fileWith (s .file) (p .received);
         })
         (follows s (decodeOf rec))
-    pays-on =
-        rw (is, taken-file (s .file) (p .received) took fits, posted-board (s .work) (paidBy p) (put-back (s .work) (paidBy p) place e found entered) posts)
+    pays-on = rw (is, posted-board (s .work) (paidBy p) (put-back (s .work) (paidBy p) place e found entered) posts)
 
 -- what pays is a payment
 record PaysTo (d : Decoded) (i : Issuer) (x : ℕ) : Type 0 where
@@ -89,36 +94,57 @@ pays-to (decoded.Payment p) e = record { what = p; is = refl; to = cc; received 
 pays-to (decoded.Trailer t) e = let z : _≡_ {A = ℕ} 0 1 = cc in absurd (omega arith)
 pays-to (decoded.Refused why place) e = let z : _≡_ {A = ℕ} 0 1 = cc in absurd (omega arith)
 
+-- what was read, and a file that took it
+pub due-to : {opened : Bool} {file : File} {bytes : List ℕ} {at end : ℕ} → opened ≡ true → at < length bytes → end ≡ at + min recordLength (length bytes - at)
+    → {d : Pays} {i : Issuer} {x : ℕ} → d ≡ paysOf (decodeOf (take (end - at) (drop at bytes))) → d ≡ pays.To i x
+    → {t : Taken} → t ≡ takenOf file x → t .answer ≡ answer.Accepted → {l : Lane} → l ≡ paymentOf i x → Dues opened file bytes at l (t .file) end
+due-to {file = file} {bytes} {at} {end} going inside cut read told {t} took fits paid =
+    let payment = pays-to (decodeOf (take (end - at) (drop at bytes))) (sym read ∙ told) in
+    let took′ : t ≡ takenOf file (payment .what .received) = rw (payment .received) took in
+    record {
+      going = going;
+      inside = inside;
+      cut = cut;
+      what = payment .what;
+      is = payment .is;
+      pays = paid ∙ rw (payment .to, payment .received);
+      fits = sym (ap (λ (x : Taken). x .answer) took′) ∙ fits;
+      grows = taken-file file (payment .what .received) took′ fits;
+    }
+
+pub due-told : {opened : Bool} {file next : File} {bytes : List ℕ} {at end : ℕ} {paid : Lane} {r : Due} → DueAt opened file bytes at r → r ≡ due.To paid next end
+    → Dues opened file bytes at paid next end
+due-told h e = rw e at h
+
+-- a slot that took a payment
+pub filled-with : (s : Slot) (p : Lane) {e : Entry} → e ≡ entryOf s p → e .answer ≡ answer.Accepted
+    → FilledOf s p (filled.With (e .slot .lane) (e .slot .used) (e .slot .total))
+filled-with s p entered posts = let a : slotAnswer s p ≡ answer.Accepted = sym (ap (λ (x : Entry). x .answer) entered) ∙ posts in rw (entered, a)
+
+pub filled-told : (s : Slot) (paid : Lane) {lane : Lane} {used : ℕ} {total : Tally} {r : Filled} → FilledOf s paid r → r ≡ filled.With lane used total
+    → FilledOf s paid (filled.With lane used total)
+filled-told s paid h e = rw e at h
+
 -- one payment more in place: the run goes on behind it
-module _ (self : Session) (bytes : List ℕ) (b : Paid) (inv : PaidOf self bytes b) (inside : b .at < length bytes)
-    {end : ℕ} (cut : end ≡ b .at + min recordLength (length bytes - b .at)) (far : b .at < end) (near : end ≤ length bytes) where
-  pub paid-more : self .opened ≡ true
-      → {d : Pays} {i : Issuer} {x : ℕ} → d ≡ paysOf (decodeOf (take (end - b .at) (drop (b .at) bytes))) → d ≡ pays.To i x
-      → {t : Taken} → t ≡ takenOf (b .file) x → t .answer ≡ answer.Accepted
-      → {l : Lane} {place : ℕ} {e : Entry} → l ≡ paymentOf i x → place ≡ indexOf (l .issuer) (lanesOf (b .work))
-      → e ≡ entryOf (slotAt (b .work) place) l → e .answer ≡ answer.Accepted
-      → PaidOf self bytes (record {
-        work = record { lanes = set (b .work .lanes) place (e .slot .lane); used = e .slot .used; total = e .slot .total };
-        file = t .file;
-        records = b .records + 1;
-        at = end;
-      })
-  paid-more opened {d} {i} {x} read told {t} took fits {l} {place} {e} paid found entered posts =
-      let s = withPaid self b in
-      let piece = take (end - b .at) (drop (b .at) bytes) in
-      let payment = pays-to (decodeOf piece) (sym read ∙ told) in
-      let p = payment .what in
-      let is = payment .is in
-      let same : l ≡ paidBy p = paid ∙ rw (payment .to, payment .received) in
-      let took′ : t ≡ takenOf (b .file) (p .received) = took ∙ ap (takenOf (b .file)) (sym (payment .received)) in
-      let found′ : place ≡ indexOf (p .barcode .issuer) (lanesOf (b .work)) = rw same at found in
-      let entered′ : e ≡ entryOf (slotAt (b .work) place) (paidBy p) = rw same at entered in
-      let accepts : takeAnswer s piece ≡ answer.Accepted = pays-in piece is s opened took′ fits found′ entered′ posts in
-      let next = pays-on piece is s opened took′ fits found′ entered′ posts ∙ ap (λ (a : Answer). kept a (follows s (decodeOf piece)) s) (sym accepts) in
-      let first : getD piece 0 0 ≡ getD bytes (b .at) 0 = ap (λ (x : List ℕ). getD x 0 0) (piece-part bytes (b .at) inside cut) ∙ piece-first bytes (b .at) inside cut in
-      let none : closedBy (namedBy (getD bytes (b .at) 0)) ≡ 0 = ap (λ (x : ℕ). closedBy (namedBy x)) (sym first) ∙ ap closedBy (payment-named piece is) in
-      record {
-        within = near;
-        few = omega (arith, inv .few);
-        rest = rw next (run-goes self s bytes (b .at) (b .records) 0 (inv .rest) inside cut {t = takeOf s piece} refl accepts (sym none));
-      }
+pub paid-more : (self : Session) (bytes : List ℕ) (b : Paid) → PaidOf self bytes b → {paid : Lane} {next : File} {end : ℕ}
+    → Dues (self .opened) (b .file) bytes (b .at) paid next end
+    → {place : ℕ} → place ≡ indexOf (paid .issuer) (lanesOf (b .work)) → {lane : Lane} {used : ℕ} {total : Tally}
+    → FilledOf (slotAt (b .work) place) paid (filled.With lane used total)
+    → PaidOf self bytes (record { work = record { lanes = set (b .work .lanes) place lane; used = used; total = total }; file = next; records = b .records + 1; at = end })
+paid-more self bytes b inv {paid} {next} {end} owed {place} found {lane} {used} {total} entered =
+    let s = withPaid self b in
+    let p = owed .what in
+    let piece = take (end - b .at) (drop (b .at) bytes) in
+    let e : Entry = record { answer = answer.Accepted; slot = record { at = place; lane = lane; used = used; total = total } } in
+    let found′ : place ≡ indexOf (p .barcode .issuer) (lanesOf (b .work)) = rw (owed .pays) at found in
+    let entered′ : e ≡ entryOf (slotAt (b .work) place) (paidBy p) = rw (owed .pays) at (sym entered) in
+    let accepts : takeAnswer s piece ≡ answer.Accepted = pays-in piece (owed .is) s (owed .going) (owed .fits) found′ entered′ refl in
+    let next′ = pays-on piece (owed .is) s (owed .going) (owed .fits) found′ entered′ refl ∙ ap (λ (a : Answer). kept a (follows s (decodeOf piece)) s) (sym accepts) in
+    let first : getD piece 0 0 ≡ getD bytes (b .at) 0 =
+    ap (λ (x : List ℕ). getD x 0 0) (piece-part bytes (b .at) (owed .inside) (owed .cut)) ∙ piece-first bytes (b .at) (owed .inside) (owed .cut) in
+    let none : closedBy (namedBy (getD bytes (b .at) 0)) ≡ 0 = ap (λ (x : ℕ). closedBy (namedBy x)) (sym first) ∙ ap closedBy (payment-named piece (owed .is)) in
+    record {
+      within = omega (arith, owed .cut, owed .inside);
+      few = omega (arith, inv .few, owed .cut, owed .inside);
+      rest = rw (owed .grows, next′) (run-goes self s bytes (b .at) (b .records) 0 (inv .rest) (owed .inside) (owed .cut) {t = takeOf s piece} refl accepts (sym none));
+    }

@@ -1,6 +1,6 @@
 -- Many records of one lent slice, taken one by one until the first refusal. Assumes nothing.
-use Prim.Native.Nat.{ℕ, zero, suc, _+_, _≤_, _<_, min}
-use mathlib.Core.Bool.{true}
+use Prim.Native.Nat.{ℕ, zero, suc, _+_, _-_, _≤_, _<_, min}
+use mathlib.Core.Bool.{Bool, true}
 use mathlib.Core.List.{List, [], _∷_}
 use mathlib.Core.Logic.{_⊎_}
 use mathlib.Core.Path.{_≡_}
@@ -11,14 +11,24 @@ use Rattle.layout.specs.declared.Named.{Named}
 use Rattle.layout.specs.declared.Named.the-variants.{Is, Other}
 use Rattle.layout.specs.declared.Record.the-variants.{Header, Payment, Trailer}
 use Rattle.layout.specs.Layouts.{recordLength, namedBy}
+use Rattle.record.specs.declared.Payment as record-payment
+use Rattle.record.specs.declared.Decoded.the-variants as decoded
 use Rattle.record.specs.Values.{decodeOf}
+use Rattle.file.specs.declared.File.{File}
+use Rattle.file.specs.Files.{fileAnswer, fileWith}
 use Rattle.barcode.specs.declared.Issuer.{Issuer}
 use Rattle.board.specs.declared.Lane.{Lane}
+use Rattle.board.specs.declared.Slot.{Slot}
 use Rattle.board.specs.Lanes.{mostLanes, isOf}
+use Rattle.board.specs.Boards.{entryOf}
 use Rattle.session.specs.declared.Session.{Session}
 use Rattle.session.specs.declared.Ran.{Ran}
+use Rattle.session.specs.declared.running.Due.{Due}
+use Rattle.session.specs.declared.running.Due.the-variants.{To, Nothing}
+use Rattle.session.specs.declared.running.Filled.{Filled}
+use Rattle.session.specs.declared.running.Filled.the-variants as filled
 use Rattle.session.specs.declared.running.Paid.{Paid}
-use Rattle.session.specs.Sessions.{takeAnswer, follows}
+use Rattle.session.specs.Sessions.{paidBy, takeAnswer, follows}
 
 -- records follow each other with nothing between them; a short last piece is a record of wrong length
 abbrev pub piecesUpTo : ℕ → List ℕ → List (List ℕ)
@@ -66,6 +76,28 @@ pub record PaidOf (s : Session) (bytes : List ℕ) (p : Paid) : Type 0 where
   pub within : p .at ≤ length bytes
   pub few : p .records ≤ p .at
   pub rest : after (p .records) 0 (runOf (withPaid s p) (drop (p .at) bytes)) ≡ runOf s bytes
+
+-- a payment that an open file takes: its record stands at an index and ends behind it
+pub record Dues (opened : Bool) (file : File) (bytes : List ℕ) (at : ℕ) (paid : Lane) (next : File) (end : ℕ) : Type 0 where
+  pub going : opened ≡ true
+  pub inside : at < length bytes
+  pub cut : end ≡ at + min recordLength (length bytes - at)
+  pub what : record-payment.Payment
+  pub is : decodeOf (take (end - at) (drop at bytes)) ≡ decoded.Payment what
+  pub pays : paid ≡ paidBy what
+  pub fits : fileAnswer file (what .received) ≡ Accepted
+  pub grows : next ≡ fileWith file (what .received)
+
+-- nothing is said where no such payment was found: the session then takes the record
+abbrev pub DueAt : Bool → File → List ℕ → ℕ → Due → Type 0
+DueAt opened file bytes at (To paid next end) = Dues opened file bytes at paid next end
+DueAt opened file bytes at Nothing = Unit {0}
+
+-- a payment that a slot takes, with what it leaves there
+abbrev pub FilledOf : Slot → Lane → Filled → Type 0
+FilledOf s paid (filled.With lane used total) =
+    entryOf s paid ≡ record { answer = Accepted; slot = record { at = s .at; lane = lane; used = used; total = total } }
+FilledOf s paid filled.Refused = Unit {0}
 
 -- a search for an issuer's lane: over at once where the lane that was seen last is its own, else over all that are in use
 abbrev pub Starts : Issuer → ℕ → Lane → ℕ → ℕ → ℕ → Type 0

@@ -3,7 +3,7 @@ ghost use mathlib.Core.Path.{_≡_};
 ghost use Prim.Native.Nat.{_+_, _-_, _%_, _<_, _≤_, min};
 ghost use Rattle.layout.specs.Layouts.{recordLength};
 ghost use Rattle.board.specs.Lanes.{mostLanes, paymentOf};
-ghost use Rattle.session.specs.Runs.{closedBy, runOf, PaidOf, Starts};
+ghost use Rattle.session.specs.Runs.{closedBy, runOf, PaidOf, DueAt, FilledOf, Starts};
 use crate::Ran;
 use crate::Session;
 use answer::Answer;
@@ -23,6 +23,18 @@ struct Paid {
     file: File,
     records: u64,
     at: usize,
+}
+
+// A payment that the open file takes: what it pays to a lane, the file with it, and the index behind its record.
+enum Due {
+    To(Lane, File, usize),
+    Nothing,
+}
+
+// What a payment leaves where it is posted: its lane, the lanes in use and the total.
+enum Filled {
+    With(Lane, usize, Tally),
+    Refused,
 }
 
 // The places where a lane is searched, up to `to` and without it.
@@ -68,6 +80,29 @@ fn paid_to(issuer: Issuer, received: u64) -> Lane
     }
 }
 
+// The payment that stands at an index.
+fn due_at(opened: bool, file: File, bytes: &[u8], at: usize) -> Due
+    ensures { λ r. ⌜ DueAt opened file (now (bytes .entry)) at r ⌝ }
+{
+    if !opened {
+        return Due::Nothing;
+    }
+    if bytes.len() <= at {
+        return Due::Nothing;
+    }
+    let end = piece_end(at, bytes.len());
+    let Pays::To(issuer, received) = record::paid(&bytes[at..end]) else {
+        return Due::Nothing;
+    };
+    let taken = file.take(received);
+    let answer = taken.answer;
+    let Answer::Accepted = answer else {
+        return Due::Nothing;
+    };
+    let next = taken.file;
+    Due::To(paid_to(issuer, received), next, end)
+}
+
 // All of them where a board put together by hand says more.
 fn lanes_in_use(used: usize) -> usize
     ensures { λ r. ⌜ r ≡ min used mostLanes ⌝ }
@@ -109,6 +144,25 @@ fn search_for(issuer: Issuer, guess: usize, seen: Lane, used: usize) -> Search
     }
 }
 
+fn fill(place: usize, lane: Lane, used: usize, total: Tally, payment: Lane) -> Filled
+    ensures { λ r. ⌜ FilledOf (record { at = place; lane = lane; used = used; total = total }) payment r ⌝ }
+{
+    let slot = Slot {
+        at: place,
+        lane,
+        used,
+        total,
+    };
+    let entry = slot.post(payment);
+    let answer = entry.answer;
+    let Answer::Accepted = answer else {
+        return Filled::Refused;
+    };
+    let lane = entry.slot.lane;
+    let total = entry.slot.total;
+    Filled::With(lane, entry.slot.used, total)
+}
+
 impl Session {
     // The accepted payments at the front, up to the first other record. No board is copied for them: each is posted in place.
     fn pay_on(self, bytes: &[u8]) -> Paid
@@ -120,31 +174,16 @@ impl Session {
         let mut at: usize = 0;
         // Where lanes were seen last. Of lanes that are not moved, a place once found stays the one that a search finds.
         let mut marks = [0u8; 256];
-        while at < bytes.len() {
-            if !self.opened {
-                break;
-            }
-            let end = piece_end(at, bytes.len());
-            let Pays::To(payee, received) = record::paid(&bytes[at..end]) else {
+        loop {
+            let Due::To(payment, next, end) = due_at(self.opened, file, bytes, at) else {
                 break;
             };
-            let taken = file.take(received);
-            let answer = taken.answer;
-            let Answer::Accepted = answer else {
-                break;
-            };
-            let payment = paid_to(payee, received);
-            let issuer = payment.issuer;
-            let used = work.used;
-            let mark = mark_of(issuer.number);
+            let mark = mark_of(payment.issuer.number);
             let guess = seen_at(marks[mark]);
-            let seen = work.lanes[guess];
-            let search = search_for(issuer, guess, seen, used);
-            let most = search.to;
+            let search = search_for(payment.issuer, guess, work.lanes[guess], work.used);
             let mut place = search.from;
-            while place < most {
-                let lane = work.lanes[place];
-                if lane.is_of(issuer) {
+            while place < search.to {
+                if work.lanes[place].is_of(payment.issuer) {
                     break;
                 }
                 place += 1;
@@ -152,27 +191,20 @@ impl Session {
             if Self::LANES <= place {
                 break;
             }
-            let lane = work.lanes[place];
-            let total = work.total;
-            let slot = Slot {
-                at: place,
-                lane,
-                used,
-                total,
-            };
-            let entry = slot.post(payment);
-            let answer = entry.answer;
-            let Answer::Accepted = answer else {
+            let Filled::With(lane, used, total) = fill(
+                place,
+                work.lanes[place],
+                work.used,
+                work.total,
+                payment,
+            ) else {
                 break;
             };
-            let after = entry.slot;
-            let lane = after.lane;
-            let total = after.total;
             work.lanes[place] = lane;
-            work.used = after.used;
+            work.used = used;
             work.total = total;
             marks[mark] = place as u8;
-            file = taken.file;
+            file = next;
             records += 1;
             at = end;
         }
