@@ -33,7 +33,8 @@ pub fn is_of(class: Class, b: u8) -> bool
     }
 }
 
-fn flag(class: Class, b: u8) -> u8
+// 0 for a byte of the class, else 1: many are joined by one `or`.
+pub fn flag(class: Class, b: u8) -> u8
     ensures { λ r. ⌜ r ≡ cond (isOf class b) 0 1 ⌝ }
 {
     if is_of(class, b) { 0 } else { 1 }

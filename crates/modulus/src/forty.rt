@@ -18,20 +18,11 @@ struct Added {
     eleven: u16,
 }
 
-fn flag(b: u8) -> u8
-    ensures { λ r. ⌜ r ≡ cond (isOf Class.Digit b) 0 1 ⌝ }
-{
-    if decimal::is_of(Class::Digit, b) {
-        0
-    } else {
-        1
-    }
-}
-
 fn flag_of(x: u8, y: u8, z: u8) -> u8
     ensures { λ r. ⌜ r ≡ cond (isOf Class.Digit x && (isOf Class.Digit y && isOf Class.Digit z)) 0 1 ⌝ }
 {
-    flag(x) | (flag(y) | flag(z))
+    decimal::flag(Class::Digit, x)
+        | (decimal::flag(Class::Digit, y) | decimal::flag(Class::Digit, z))
 }
 
 // The low half of a byte is what a digit counts.

@@ -24,6 +24,7 @@ one-outcome =
       answer·Answer·place = λ w κs given g r r′ left left′. value w _ _ _ _ _ left;
       answer·Answer·behind = λ w κs given g r r′ left left′. value w _ _ _ _ _ left;
       decimal·is_of = λ w κs given g r r′ left left′. value w _ _ _ _ _ left;
+      decimal·flag = λ w κs given g r r′ left left′. value w _ _ _ _ _ left;
       decimal·all_of = λ w κs given g r r′ left left′. value w _ _ _ _ _ left;
       decimal·first_not = λ w κs given g r r′ left left′. value w _ _ _ _ _ left;
       decimal·value = λ w κs given g r r′ left left′. value w _ _ _ _ _ left;

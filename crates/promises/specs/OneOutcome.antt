@@ -12,6 +12,7 @@ use Rattle.answer.proofs.Answer.number as answer·Answer·number
 use Rattle.answer.proofs.Answer.place as answer·Answer·place
 use Rattle.answer.proofs.Answer.behind as answer·Answer·behind
 use Rattle.decimal.proofs.is_of as decimal·is_of
+use Rattle.decimal.proofs.flag as decimal·flag
 use Rattle.decimal.proofs.all_of as decimal·all_of
 use Rattle.decimal.proofs.first_not as decimal·first_not
 use Rattle.decimal.proofs.value as decimal·value
@@ -128,6 +129,7 @@ pub record OneOutcome : Type 2 where
   pub answer·Answer·place : One answer·Answer·place.ended (λ M. answer·Answer·place.clauses)
   pub answer·Answer·behind : One answer·Answer·behind.ended (λ M. answer·Answer·behind.clauses)
   pub decimal·is_of : One decimal·is_of.ended (λ M. decimal·is_of.clauses)
+  pub decimal·flag : One decimal·flag.ended (λ M. decimal·flag.clauses)
   pub decimal·all_of : One decimal·all_of.ended (λ M. decimal·all_of.clauses)
   pub decimal·first_not : One decimal·first_not.ended (λ M. decimal·first_not.clauses)
   pub decimal·value : One decimal·value.ended (λ M. decimal·value.clauses)

@@ -30,18 +30,12 @@ pub(crate) enum Seen {
     Other,
 }
 
-fn flag(class: Class, b: u8) -> u8
-    ensures { λ r. ⌜ r ≡ cond (isOf class b) 0 1 ⌝ }
-{
-    if decimal::is_of(class, b) { 0 } else { 1 }
-}
-
 fn flag_of(a: u8, b: u8, c: u8, d: u8, e: u8, f: u8) -> u8
     ensures { λ r. ⌜ r ≡ cond ((isOf Class.Text a && isOf Class.Text b) && ((isOf Class.Text c && isOf Class.Text d) && (isOf Class.Digit e && isOf Class.Digit f))) 0 1 ⌝ }
 {
-    (flag(Class::Text, a) | flag(Class::Text, b))
-        | ((flag(Class::Text, c) | flag(Class::Text, d))
-            | (flag(Class::Digit, e) | flag(Class::Digit, f)))
+    (decimal::flag(Class::Text, a) | decimal::flag(Class::Text, b))
+        | ((decimal::flag(Class::Text, c) | decimal::flag(Class::Text, d))
+            | (decimal::flag(Class::Digit, e) | decimal::flag(Class::Digit, f)))
 }
 
 // Rows of sixteen bytes under one flag, four of text and two of digits, with no early end: such a loop is made wide by the compiler.
@@ -161,6 +155,7 @@ fn looks_like_payment(rec: &[u8]) -> bool
     is_coded(rec)
 }
 
+// Of bytes that were found to be digits, their number.
 fn number_of(rec: &[u8], f: Field) -> u64
     requires { ⌜ length (now rec) ≡ recordLength ⌝ }
     requires { ⌜ Lies f ⌝ }

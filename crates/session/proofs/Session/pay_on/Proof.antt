@@ -4,7 +4,6 @@ use mathlib.Core.Logic.{⊎-elim}
 use mathlib.Core.Path.{_≡_, refl, sym, _∙_}
 use native.Mathlib.Omega.{arith}
 use borrow.Author.Needs.{needs}
-use borrow.Author.Tests.{not-false}
 use lib.ListN.{length, length-map, length-set}
 use Rattle.board.specs.Boards.{lanesOf, indexOf, slotAt}
 use Rattle.board.specs.Lanes.{mostLanes}
