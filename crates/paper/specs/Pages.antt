@@ -85,14 +85,16 @@ abbrev pub lanesLines : ℕ → List Lane → List ℕ
 lanesLines k [] = []
 lanesLines k (l ∷ ls) = laneLines k l ++ lanesLines (suc k) ls
 
+abbrev pub sumsLines : Board → List ℕ
+sumsLines b = numberLine lanesWord (length (lanesOf b)) ++ tallyLines (b .total)
+
 unfoldable pub headLines : Answer → ℕ → ℕ → Board → List ℕ
 headLines answer records files b =
     numberLine answerWord (answerNumber answer)
     ++ (numberLine placeWord (answerPlace answer)
     ++ (numberLine recordWord records
     ++ (numberLine filesWord files
-    ++ (numberLine lanesWord (length (lanesOf b))
-    ++ tallyLines (b .total)))))
+    ++ sumsLines b)))
 
 -- the page: records and files accepted, and the board shown, with a lane for each in use
 abbrev pub pageOf : Answer → ℕ → ℕ → Board → List ℕ

@@ -7,7 +7,7 @@ ghost use Rattle.board.specs.Boards.{lanesOf};
 ghost use Rattle.decimal.specs.Places.{widthOf};
 ghost use Rattle.barcode.specs.Codes.{issuer};
 ghost use Rattle.paper.specs.Plain.{needed, shown, mostDigits};
-ghost use Rattle.paper.specs.Pages.{numberLine, issuerLine, tallyLines, laneLines, lanesLines, headLines, pageOf, mostHead, mostLane, pageLength, printedOf, bytesWith, Wrote};
+ghost use Rattle.paper.specs.Pages.{numberLine, issuerLine, tallyLines, laneLines, lanesLines, sumsLines, headLines, pageOf, mostHead, mostLane, pageLength, printedOf, bytesWith, Wrote};
 use answer::Answer;
 use answer::Reason;
 use barcode::Issuer;
@@ -137,6 +137,15 @@ fn put_lanes(board: Board, out: &mut [u8], at: usize) -> usize
     next
 }
 
+fn put_sums(board: Board, out: &mut [u8], at: usize) -> usize
+    requires { ⌜ at + 87 ≤ length (now out) ⌝ }
+    ensures { λ r. ⌜ Wrote 87 at (sumsLines board) (now (out .entry)) r (now (out .exit)) ⌝ }
+{
+    let next = put_line(b"lanes=", in_use(board) as u64, out, at);
+    let total = board.total;
+    put_tally(total, out, next)
+}
+
 fn put_head(answer: Answer, records: u64, files: u64, board: Board, out: &mut [u8]) -> usize
     requires { ⌜ mostHead ≤ length (now out) ⌝ }
     ensures { λ r. ⌜ Wrote mostHead 0 (headLines answer records files board) (now (out .entry)) r (now (out .exit)) ⌝ }
@@ -145,9 +154,7 @@ fn put_head(answer: Answer, records: u64, files: u64, board: Board, out: &mut [u
     let next = put_line(b"place=", answer.place() as u64, out, next);
     let next = put_line(b"record=", records, out, next);
     let next = put_line(b"files=", files, out, next);
-    let next = put_line(b"lanes=", in_use(board) as u64, out, next);
-    let total = board.total;
-    put_tally(total, out, next)
+    put_sums(board, out, next)
 }
 
 // The page of a board shown, written from the buffer's start; the rest of the buffer stays as it was.

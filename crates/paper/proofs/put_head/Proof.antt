@@ -39,17 +39,8 @@ slice-aggregate-put-line-4 c = search needs
 put-line-requires-4 : tie.Need-put-line-requires-4
 put-line-requires-4 c κs = search needs
 
-slice-aggregate-put-line-5 : tie.Need-slice-aggregate-put-line-5
-slice-aggregate-put-line-5 c = search needs
-
-in-use-requires : tie.Need-in-use-requires
-in-use-requires c κs = search needs
-
-put-line-requires-5 : tie.Need-put-line-requires-5
-put-line-requires-5 c κs = search needs
-
-put-tally-requires : tie.Need-put-tally-requires
-put-tally-requires c κs = search needs
+put-sums-requires : tie.Need-put-sums-requires
+put-sums-requires c κs = search needs
 
 same-length : tie.Need-same-length
 same-length c = search needs
@@ -57,13 +48,10 @@ same-length c = search needs
 returns : tie.Need-returns
 unfolding headLines
 returns c =
-    let room = c .before .before .before .before .before .before .before .before .before .before .before .before .before .before .before .before .before .before .before .before .before .before .before .before .before .before .before .before .before .before .before .before .before .before .pre in
-    let answer = rw (c .before .before .before .before .before .before .before .before .before .before .before .before .before .before .before .before .before .before .before .before .before .before .before .before .before .before .before .before .before .before .before .number .ensures) at (c .before .before .before .before .before .before .before .before .before .before .before .before .before .before .before .before .before .before .before .before .before .before .before .before .before .before .before .before .before .put-line .ensures) in
-    let place = rw (c .before .before .before .before .before .before .before .before .before .before .before .before .before .before .before .before .before .before .before .before .before .before .before .before .before .place .ensures) at (c .before .before .before .before .before .before .before .before .before .before .before .before .before .before .before .before .before .before .before .before .before .before .before .put-line2 .ensures) in
-    let records = c .before .before .before .before .before .before .before .before .before .before .before .before .before .before .before .before .before .before .put-line3 .ensures in
-    let files = c .before .before .before .before .before .before .before .before .before .before .before .before .before .put-line4 .ensures in
-    let lanes = rw (c .before .before .before .before .before .before .before .before .before .in-use .ensures .0) at (c .before .before .before .before .before .before .before .put-line5 .ensures) in
-    wrote-then (omega arith) answer (wrote-then (omega arith) place (wrote-then (omega arith) records (wrote-then (omega arith) files (wrote-then (omega arith) lanes (c .before .before .put-tally .ensures)))))
+    let room = c .before .before .before .before .before .before .before .before .before .before .before .before .before .before .before .before .before .before .before .before .before .before .before .before .before .before .before .pre in
+    let answer = rw (c .before .before .before .before .before .before .before .before .before .before .before .before .before .before .before .before .before .before .before .before .before .before .before .before .number .ensures) at (c .before .before .before .before .before .before .before .before .before .before .before .before .before .before .before .before .before .before .before .before .before .before .put-line .ensures) in
+    let place = rw (c .before .before .before .before .before .before .before .before .before .before .before .before .before .before .before .before .before .before .place .ensures) at (c .before .before .before .before .before .before .before .before .before .before .before .before .before .before .before .before .put-line2 .ensures) in
+    wrote-then (omega arith) answer (wrote-then (omega arith) place (wrote-then (omega arith) (c .before .before .before .before .before .before .before .before .before .before .before .put-line3 .ensures) (wrote-then (omega arith) (c .before .before .before .before .before .before .put-line4 .ensures) (c .before .before .put-sums .ensures))))
 
 pub put-head-spec : {M : Type 1} → statement M
 put-head-spec =
@@ -80,9 +68,6 @@ put-head-spec =
     put-line-requires-3
     slice-aggregate-put-line-4
     put-line-requires-4
-    slice-aggregate-put-line-5
-    in-use-requires
-    put-line-requires-5
-    put-tally-requires
+    put-sums-requires
     same-length
     returns)
