@@ -4,8 +4,9 @@
  * the board of each insurer's payments and centavos. The specification's rules are not repeated here.
  *
  * Every function takes every input: a bad line, record or call gets one refusal, a number and a place, and then
- * the session, the writer and the bytes you lent are what they were. Nothing is allocated, nothing is kept
- * between calls, and no function calls back, so all of them may be called from any thread.
+ * the session, the writer and the bytes you lent are what they were. Only hollytrot_session_run, which takes
+ * many records, keeps those before the refused one. Nothing is allocated, nothing is kept between calls, and no
+ * function calls back, so all of them may be called from any thread.
  *
  * What a caller owes:
  *   - `bytes` points to `length` bytes that stay as they are during the call. It is never NULL, not even with
@@ -276,7 +277,7 @@ typedef struct hollytrot_board {
 } hollytrot_board;
 
 /* Sessions: a value of some 4 KB that you hold. Each call hands back the session that follows, which is the
- * given one where a record is refused. */
+ * given one where a record is refused; after a run it is the one behind the records that were accepted. */
 
 /* The board shown, of accepted files only; the working board, with what an open file adds; whether a file is
  * open, and what it has. */

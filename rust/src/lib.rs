@@ -2,6 +2,7 @@
 //!
 //! A safe crate over the proved engine (include/hollytrot.h). Every function takes every input and hands back its
 //! value or one [`Refusal`], which has a number of the specification's table and a place; a refusal changes nothing.
+//! Only [`Session::run`], which takes many records, keeps those before the refused one.
 //! What the engine asks of a C caller, no null and no overlapping buffers, no caller of this crate can get wrong.
 //!
 //! ```

@@ -26,7 +26,7 @@ use Rattle.modulus.proofs.Sums.{check-is-one-digit}
 use Rattle.barcode.specs.declared.Issuer.{Issuer}
 use Rattle.barcode.specs.Codes.{digitAt, product, isSegment, isKind, modulusOf, checked, value, issuerEnd, issuer, free, issuerOf, freeOf, fieldsOf, leadAnswer, frontAnswer, generalCheck, generalRight, barcodeAnswer, decoded}
 use Rattle.barcode.specs.Building.{headOf, tailOf, checkFor, builtOf, numbersAnswer, fieldsAnswer, checkAnswer, buildAnswer, Fit}
-use Rattle.barcode.specs.RoundTrips.{answerOf, DecodedAnswers, FieldsAreItsPlaces, CodeIsItsFields, BuiltIsRead, FieldsWithinRangesBuild, RefusedBuildKeeps}
+use Rattle.barcode.specs.RoundTrips.{answerOf, ShowsItsPlaces, DecodedAnswers, FieldsAreItsPlaces, CodeIsItsFields, BuiltIsRead, FieldsWithinRangesBuild, RefusedBuildKeeps}
 use Rattle.barcode.proofs.Codes.{issuer-end-range}
 use Rattle.barcode.proofs.Building.{fit-of, written-check, code-length}
 
@@ -170,10 +170,12 @@ code-is-its-fields code e =
     )
 
 pub fields-are-its-places : FieldsAreItsPlaces
-fields-are-its-places code e =
+fields-are-its-places code h =
+    let e = sym (decoded-answers code) ∙ h in
     let g = good code e in
     let range = issuer-end-range (digitAt 2 code) in
-    record { amount = part-digits code g 4 11 (omega arith); number = part-digits code g 15 (issuerEnd (digitAt 2 code) - 15) (omega arith); rest = rw e }
+    let shows : ShowsItsPlaces code (fieldsOf code) = record { amount = part-digits code g 4 11 (omega arith); number = part-digits code g 15 (issuerEnd (digitAt 2 code) - 15) (omega arith); rest = rw e } in
+    rw e shows
 
 -- What was built.
 module _ (i : Issuer) (kind amount : ℕ) (rest : List ℕ) (fit : Fit i kind amount rest) (s : isSegment (i .segment) ≡ true) (k : isKind kind ≡ true)

@@ -52,7 +52,7 @@ checkAnswer i kind amount rest = asked (leb (checkFor i kind amount rest) 9) Che
 abbrev pub buildAnswer : ℕ → Issuer → ℕ → ℕ → List ℕ → Answer
 buildAnswer lent i kind amount rest = asked (eqb lent codeLength) WrongLength 0 then fieldsAnswer i kind amount rest then checkAnswer i kind amount rest
 
--- what accepted fields are
+-- what accepted fields have at least: each fits its places
 pub record Fit (i : Issuer) (kind amount : ℕ) (rest : List ℕ) : Type 0 where
   pub segment : i .segment ≤ 9
   pub kinds : kind ≤ 9

@@ -79,13 +79,14 @@ fieldsOf code =
 
 -- The answer.
 
--- what a barcode and a typed line are asked first: 2 over all digits, 3, 4, 5
+-- 3, 4, 5
 unfoldable pub leadAnswer : List ℕ → Answer
 leadAnswer l =
     asked (eqb (digitAt 1 l) product) WrongProduct 1
     then asked (isSegment (digitAt 2 l)) UnknownSegment 2
     then asked (isKind (digitAt 3 l)) UnknownKind 3
 
+-- what a barcode and a typed line are asked first: 2 over all digits, 3, 4, 5
 abbrev pub frontAnswer : List ℕ → Answer
 frontAnswer l = eachIs (isOf Digit) NoDigit 1 l then leadAnswer l
 
@@ -117,10 +118,10 @@ abbrev pub decoded : Answer → Fields → Decoded
 decoded answer.Accepted fields = Read fields
 decoded (answer.Refused why place) fields = Refused why place
 
--- the fields of 44 bytes, checked or not; of other lengths none
 abbrev pub noFields : Fields
 noFields = record { kind = 0; value = 0; issuer = record { segment = 0; number = 0 }; due = NoDate }
 
+-- the fields of 44 bytes, checked or not; of other lengths none
 abbrev pub readOf : List ℕ → Fields
 readOf code = cond (eqb (length code) codeLength) (fieldsOf code) noFields
 

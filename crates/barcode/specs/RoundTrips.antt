@@ -45,7 +45,7 @@ pub record ShowsItsPlaces (code : List ℕ) (f : Fields) : Type 0 where
   pub rest : shownFree code ≡ partAt (free (f .issuer .segment)) code
 
 abbrev pub FieldsAreItsPlaces : Type 0
-FieldsAreItsPlaces = (code : List ℕ) → barcodeAnswer code ≡ answer.Accepted → ShowsItsPlaces code (fieldsOf code)
+FieldsAreItsPlaces = (code : List ℕ) → answerOf (decodeOf code) ≡ answer.Accepted → ShowsItsPlaces code (shownFields (decodeOf code))
 
 -- the fields of an accepted barcode and its free field build the same 44 bytes
 abbrev pub CodeIsItsFields : Type 0

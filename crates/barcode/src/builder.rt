@@ -11,7 +11,7 @@ use answer::Answer;
 use answer::Reason;
 use decimal::Class;
 
-// The free field: as long as its segment asks, and digits; places behind the issuer.
+// The free field's length, the widths of value and issuer, then the free field's digits; places in the barcode.
 fn ask_numbers(issuer: Issuer, value: u64, free: &[u8]) -> Answer
     ensures { λ r. ⌜ r ≡ numbersAnswer issuer value (now (free .entry)) ⌝ }
 {

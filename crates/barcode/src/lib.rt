@@ -206,7 +206,7 @@ fn fields_of(code: &[u8]) -> Fields
     }
 }
 
-// The fields of 44 bytes that were checked before.
+// The fields of 44 bytes, checked or not; of other lengths none.
 pub fn read_fields(code: &[u8]) -> Fields
     ensures { λ r. ⌜ r ≡ readOf (now (code .entry)) ⌝ }
 {

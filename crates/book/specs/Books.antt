@@ -17,7 +17,7 @@ use Rattle.layout.specs.declared.Record.the-variants.{Header, Payment, Trailer}
 use Rattle.layout.specs.Layouts.{recordLength, namedBy}
 use Rattle.record.specs.Records.{recordAnswer}
 use Rattle.record.specs.Values.{paymentOf, trailerOf}
-use Rattle.file.specs.Files.{mostPayments, mostCentavos}
+use Rattle.file.specs.Files.{mostPayments, mostCentavos, countPlace, totalPlace}
 use Rattle.board.specs.declared.Lane.{Lane}
 use Rattle.board.specs.Lanes.{sameIssuer}
 use Rattle.board.specs.Boards.{answerAfter}
@@ -87,8 +87,8 @@ asksPayment files f rec =
 -- a Z: 13, the number of the file's records, A and Z included; 14, what its payments received
 abbrev pub asksTrailer : Filed → List ℕ → Answer
 asksTrailer f rec =
-    asked (eqb (trailerOf rec .count) (length (f .payments) + 2)) CountDiffers 2
-    then asked (eqb (trailerOf rec .total) (receivedIn (f .payments))) TotalDiffers 8
+    asked (eqb (trailerOf rec .count) (length (f .payments) + 2)) CountDiffers countPlace
+    then asked (eqb (trailerOf rec .total) (receivedIn (f .payments))) TotalDiffers totalPlace
 
 -- with no file open only A comes so far, and it is asked no more
 abbrev pub asks : List Filed → Option Filed → Named → List ℕ → Answer

@@ -1,0 +1,1 @@
+// Theorems only: the promises of a session, held to a second meaning of its records.

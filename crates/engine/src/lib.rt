@@ -1,4 +1,4 @@
-// The engine for other languages: each public operation as an exported function over the proved one.
+// The engine for other languages: each operation of the specification as an exported function over the proved one.
 // Numbers, slices and structs cross the boundary. An enum and a returned slice do not, so answers cross as
 // number and place, and a part of the caller's bytes as where it starts and how long it is.
 mod barcodes;

@@ -12,8 +12,7 @@ use Rattle.decimal.specs.Places.{widthOf, partAt, gather}
 use Rattle.layout.specs.declared.Field.{Field}
 use Rattle.layout.specs.declared.Kind.the-variants as kind
 use Rattle.layout.specs.declared.Record.{Record}
-use Rattle.layout.specs.Layouts.{recordLength, layoutOf, stretchOf, givenAt, givenLength, widthsOf}
-use Rattle.layout.proofs.Layouts.{Lies}
+use Rattle.layout.specs.Layouts.{recordLength, layoutOf, stretchOf, givenAt, givenLength, widthsOf, InRecord}
 use Rattle.layout.proofs.Tables.{every}
 use Rattle.fields.specs.Making.{takes}
 use Rattle.fields.proofs.Makes.{layout-fits}
@@ -67,13 +66,13 @@ module _ {f : Field} {fs : List Field} {rec out : List ℕ} {at room : ℕ} {who
   pub in-room : at + takes f ≤ length out
   in-room = omega (arith, m .left)
 
-  pub in-field : Lies f → givenAt f .last ≤ f .last
+  pub in-field : InRecord f → givenAt f .last ≤ f .last
   in-field l = omega (arith, given-in (f .kind) (widthOf (stretchOf f)) (fit .0), l .start, l .order)
 
   pub gap : {k : ℕ} → k ≡ at + takes f → length (take (k - at) (drop at out)) ≡ takes f
   gap {k} e = length-gap out at (takes f) k e (rw e in-room)
 
-  pub on : {k : ℕ} {ys : List ℕ} → Lies f → length rec ≡ recordLength → k ≡ at + takes f → ys ≡ partAt (givenAt f) rec
+  pub on : {k : ℕ} {ys : List ℕ} → InRecord f → length rec ≡ recordLength → k ≡ at + takes f → ys ≡ partAt (givenAt f) rec
       → Joining fs rec (take at out ++ (ys ++ drop (k - at) (drop at out))) k room whole
   on {k} {ys} l n ek ey =
       let ly : length ys ≡ takes f = ap length ey ∙ part-length rec l n (in-field l) in

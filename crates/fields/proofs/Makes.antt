@@ -29,8 +29,8 @@ use Rattle.layout.specs.declared.Kind.{Kind}
 use Rattle.layout.specs.declared.Kind.the-variants as kind
 use Rattle.layout.specs.declared.Record.{Record}
 use Rattle.layout.specs.declared.Record.the-variants.{Header, Payment, Trailer}
-use Rattle.layout.specs.Layouts.{recordLength, layoutOf, stretchOf, givenOf, givenAt, givenLength, widthsOf, covers}
-use Rattle.layout.proofs.Layouts.{Lies, Next, next, covers-end, fields-cover}
+use Rattle.layout.specs.Layouts.{recordLength, layoutOf, stretchOf, givenOf, givenAt, givenLength, widthsOf, covers, InRecord}
+use Rattle.layout.proofs.Layouts.{Next, next, covers-end, fields-cover}
 use Rattle.layout.proofs.Tables.{every}
 use Rattle.kinds.specs.Kinds.{kindAnswer}
 use Rattle.kinds.proofs.KindLaws.{kind-place}
@@ -178,7 +178,7 @@ module _ {f : Field} {fs : List Field} {given amounts made : List ℕ} {done at 
       let l = length-take-le (f .last - done) (drop done made) (omega (arith, length-drop done made, m .room, ends .0, ends .1)) in
       l ∙ omega (arith, front)
 
-  pub placed : Lies f
+  pub placed : InRecord f
   placed = record { start = omega (arith, here .here); order = omega (arith, here .here, here .wide); end = ends .1 }
 
   piece-length : length (take (takes f) (drop at given)) ≡ givenOf (f .kind) (widthOf (stretchOf f)) .to - givenOf (f .kind) (widthOf (stretchOf f)) .from

@@ -16,9 +16,8 @@ use Rattle.layout.specs.declared.Field.{Field}
 use Rattle.layout.specs.declared.Given.{Given}
 use Rattle.layout.specs.declared.Kind.{Kind}
 use Rattle.layout.specs.declared.Kind.the-variants as kind
-use Rattle.layout.specs.Layouts.{recordLength, stretchOf, givenOf, givenAt}
+use Rattle.layout.specs.Layouts.{recordLength, stretchOf, givenOf, givenAt, InRecord}
 use Rattle.layout.proofs.Kind.{the-type}
-use Rattle.layout.proofs.Layouts.{Lies}
 use Rattle.fields.specs.Making.{writtenOf, isMoney, takes}
 
 pub given-order : (k : Kind) (w : ℕ) → givenOf k w .from ≤ givenOf k w .to
@@ -37,7 +36,7 @@ given-order kind.Form w = omega arith
 pub takes-are : (f : Field) → 1 ≤ f .first → givenOf (f .kind) (widthOf (stretchOf f)) .to - givenOf (f .kind) (widthOf (stretchOf f)) .from ≡ takes f
 takes-are f h = omega (arith, given-order (f .kind) (widthOf (stretchOf f)))
 
-pub part-length : {f : Field} (rec : List ℕ) → Lies f → length rec ≡ recordLength → givenAt f .last ≤ f .last → length (partAt (givenAt f) rec) ≡ takes f
+pub part-length : {f : Field} (rec : List ℕ) → InRecord f → length rec ≡ recordLength → givenAt f .last ≤ f .last → length (partAt (givenAt f) rec) ≡ takes f
 part-length {f} rec l n h =
     length-take-le (takes f) (drop (givenAt f .first - 1) rec) (omega (arith, length-drop (givenAt f .first - 1) rec, n, h, l .end))
 
@@ -90,7 +89,7 @@ given-in kind.Capture w t = omega arith
 given-in kind.Form w t = omega arith
 
 -- The part of a field that is given, as the code has it.
-module _ {f : Field} (l : Lies f) {g : Given} (e : g ≡ givenOf (f .kind) (f .last - (f .first - 1))) where
+module _ {f : Field} (l : InRecord f) {g : Given} (e : g ≡ givenOf (f .kind) (f .last - (f .first - 1))) where
   pub part-order : g .from ≤ g .to
   part-order = rw e (given-order (f .kind) (widthOf (stretchOf f)))
 

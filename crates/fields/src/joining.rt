@@ -4,8 +4,7 @@ ghost use mathlib.Core.Path.{_≡_};
 ghost use lib.ListN.{length, getD};
 ghost use Rattle.answer.specs.Orders.{kept};
 ghost use Rattle.decimal.specs.Places.{partAt};
-ghost use Rattle.layout.specs.Layouts.{recordLength, namedBy, givenAt, givenLength, joinedOf};
-ghost use Rattle.layout.proofs.Layouts.{Lies};
+ghost use Rattle.layout.specs.Layouts.{recordLength, namedBy, givenAt, givenLength, joinedOf, InRecord};
 ghost use Rattle.fields.specs.Making.{takes};
 ghost use Rattle.fields.specs.Joining.{isGiven, namedJoin, joinAnswer, joinedIn};
 ghost use Rattle.layout.specs.declared.Named.the-variants as named;
@@ -29,7 +28,7 @@ fn is_given(which: Record) -> bool
 
 fn join_field(f: Field, rec: &[u8], out: &mut [u8])
     requires { ⌜ length (now rec) ≡ recordLength ⌝ }
-    requires { ⌜ (Lies f) × (givenAt f .last ≤ f .last) ⌝ }
+    requires { ⌜ (InRecord f) × (givenAt f .last ≤ f .last) ⌝ }
     requires { ⌜ length (now out) ≡ takes f ⌝ }
     ensures { λ _. ⌜ now (out .exit) ≡ partAt (givenAt f) (now (rec .entry)) ⌝ }
 {

@@ -1,13 +1,13 @@
 // What is given of a field.
 ghost use mathlib.Core.Path.{_≡_};
 ghost use lib.ListN.{length};
-ghost use Rattle.layout.proofs.Layouts.{Lies};
+ghost use Rattle.layout.specs.Layouts.{InRecord};
 ghost use Rattle.fields.specs.Making.{takes};
 use layout::Field;
 
 // How many bytes.
 pub(crate) fn takes(f: Field) -> usize
-    requires { ⌜ Lies f ⌝ }
+    requires { ⌜ InRecord f ⌝ }
     ensures { λ r. ⌜ r ≡ takes f ⌝ }
 {
     let kind = f.kind;

@@ -42,10 +42,18 @@ takenOf f received =
 abbrev pub figuresOf : File → Figures
 figuresOf f = record { count = f .taken + 2; total = f .total }
 
+-- where a trailer shows its count and its total
+abbrev pub countPlace : ℕ
+countPlace = 2
+
+abbrev pub totalPlace : ℕ
+totalPlace = 8
+
 -- 13, then 14: a trailer that shows other figures
 unfoldable pub trailerAnswer : File → Figures → Answer
 trailerAnswer f shown =
-    asked (eqb (shown .count) (figuresOf f .count)) CountDiffers 2 then asked (eqb (shown .total) (figuresOf f .total)) TotalDiffers 8
+    asked (eqb (shown .count) (figuresOf f .count)) CountDiffers countPlace
+    then asked (eqb (shown .total) (figuresOf f .total)) TotalDiffers totalPlace
 
 -- 15, then 16: a file put together by hand whose figures have no room in a trailer
 unfoldable pub closingAnswer : File → Answer

@@ -12,7 +12,7 @@ use Rattle.decimal.specs.Places.{gather}
 use Rattle.layout.specs.declared.Field.{Field}
 use Rattle.layout.specs.declared.Record.{Record}
 use Rattle.layout.specs.declared.Record.the-variants.{Header, Payment, Trailer}
-use Rattle.layout.specs.Layouts.{recordLength, namedBy, layoutOf, table, rowsOf, stretchOf, givenLength, covers, FieldsCover, RecordIsItsFields, MarkNames, GivenLengths}
+use Rattle.layout.specs.Layouts.{recordLength, namedBy, InRecord, layoutOf, table, rowsOf, stretchOf, givenLength, covers, FieldsCover, RecordIsItsFields, MarkNames, GivenLengths}
 use Rattle.layout.proofs.Tables.{each}
 
 pub fields-cover : FieldsCover
@@ -47,16 +47,10 @@ pub covers-end : (fs : List Field) (place : ℕ) → covers place fs ≡ true �
 covers-end [] place t = omega (arith, eqb-true place (recordLength + 1) t)
 covers-end (f ∷ fs) place t = let n = next place f fs t in omega (arith, covers-end fs (f .last + 1) (n .rest), n .wide)
 
--- a field's places are places of a record
-pub record Lies (f : Field) : Type 0 where
-  pub start : 1 ≤ f .first
-  pub order : f .first ≤ f .last
-  pub end : f .last ≤ recordLength
-
 lies : Field → Bool
 lies f = leb 1 (f .first) && (leb (f .first) (f .last) && leb (f .last) recordLength)
 
-pub row-lies : (i : ℕ) (d : Field) → i < length table → Lies (getD table i d)
+pub row-lies : (i : ℕ) (d : Field) → i < length table → InRecord (getD table i d)
 unfolding table layoutOf lies
 row-lies i d h =
     let f = getD table i d in

@@ -1,5 +1,5 @@
 -- The layouts of the three records (document 01, "The three records"): one table. Places count from 1. Assumes nothing.
-use Prim.Native.Nat.{ℕ, _+_, _-_}
+use Prim.Native.Nat.{ℕ, _+_, _-_, _≤_}
 use mathlib.Core.Bool.{Bool, true, cond, _&&_}
 use mathlib.Core.List.{List, [], _∷_, _++_, map}
 use mathlib.Core.Path.{_≡_}
@@ -30,6 +30,12 @@ unfoldable pub namedBy : ℕ → Named
 namedBy mark =
     cond (eqb mark (markOf Header)) (Is Header)
     (cond (eqb mark (markOf Payment)) (Is Payment) (cond (eqb mark (markOf Trailer)) (Is Trailer) Other))
+
+-- a field's places are places of a record
+pub record InRecord (f : Field) : Type 0 where
+  pub start : 1 ≤ f .first
+  pub order : f .first ≤ f .last
+  pub end : f .last ≤ recordLength
 
 -- The table.
 

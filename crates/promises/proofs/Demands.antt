@@ -1,10 +1,11 @@
 -- The three demands, from the rooms' proofs. Assumes nothing.
 use Rattle.answer.proofs.Refusals.{numbers-differ, zero-is-accepted}
 use Rattle.answer.proofs.Orders.{then-refuses, first-refuses}
+use Rattle.decimal.proofs.Bytes.{each-refuses}
 use Rattle.barcode.proofs.RoundTrips.{decoded-answers, fields-are-its-places, built-is-read, fields-within-ranges-build, code-is-its-fields}
 use Rattle.line.proofs.RoundTrips.{line-is-boxes-and-code, fields-give-a-line, code-to-line-and-back, line-to-code-and-back, line-is-its-fields}
 use Rattle.layout.proofs.Layouts.{fields-cover, record-is-its-fields, mark-names, given-lengths}
-use Rattle.record.proofs.Shown.{decode-answers}
+use Rattle.record.proofs.Shown.{decode-answers, right-fields-are-accepted, fields-are-their-places}
 use Rattle.fields.proofs.Trips.{fields-make-the-record, made-is-accepted}
 use Rattle.file.proofs.Files.{one-right-trailer}
 use Rattle.board.proofs.Lanes.{past-thirty-two-bits}
@@ -23,6 +24,7 @@ use Rattle.slips.proofs.Samples.{directions-may-differ, borders-hold, segment-m
 use Rattle.book.proofs.Agreement.{session-agrees, answers-are-the-books, next-answer-is-the-books}
 use Rattle.book.proofs.Sessions.{finish-keeps-session, true-trailers-only, only-trailers-show, nothing-shows-before, trailers-show-all, abandon-keeps-board, abandon-drops-file, abandon-nothing, finish-answers}
 use Rattle.book.proofs.Shown.{lanes-are-the-payments, lanes-in-order, each-lane-is-exact, no-issuer-has-two-lanes, sums-are-the-records, totals-are-the-records, within-limits}
+use Rattle.session.proofs.Runs.{run-is-its-takes}
 use Rattle.book.proofs.Runs.{run-is-the-books}
 use Rattle.book.proofs.WholeFiles.{file-accepted, file-posted, fresh-session-accepts, fresh-session-shows}
 use Rattle.book.proofs.WrittenFiles.{closed-file-is-whole, closed-file-is-accepted, fields-write-the-file}
@@ -42,8 +44,11 @@ demand-1 =
       places = refusals-point-at-places;
       order = then-refuses;
       row = first-refuses;
+      boxes = first-refuses;
+      bytes = each-refuses;
       keeps = refusals-change-nothing;
       finishing = finish-keeps-session;
+      running = run-is-its-takes;
     }
 
 pub demand-2 : Demand2
@@ -52,8 +57,8 @@ demand-2 =
       table = (fields-cover, record-is-its-fields, mark-names, given-lengths);
       codes = (decoded-answers, fields-are-its-places, built-is-read);
       lines = (line-is-boxes-and-code, fields-give-a-line);
-      records = (decode-answers, records-show-their-places, made-is-accepted, written-amounts-are-read);
-      allowed = fields-within-ranges-build;
+      records = (decode-answers, records-show-their-places, fields-are-their-places, made-is-accepted, written-amounts-are-read);
+      allowed = (fields-within-ranges-build, right-fields-are-accepted);
       codesBack = code-is-its-fields;
       linesBack = (code-to-line-and-back, line-to-code-and-back, line-is-its-fields);
       recordsBack = (fields-make-the-record, fields-write-the-header, fields-write-the-payment, fields-write-the-trailer);

@@ -5,7 +5,7 @@ use Rattle.promises.specs.Shown.{RefusalsPointAtPlaces, RecordsShowTheir
 
 pub refusals-point-at-places : RefusalsPointAtPlaces
 unfolding rowAt table layoutOf
-refusals-point-at-places = (refl, refl)
+refusals-point-at-places = (refl, refl, refl, refl)
 
 pub records-show-their-places : RecordsShowTheirPlaces
 unfolding rowAt table layoutOf

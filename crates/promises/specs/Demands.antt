@@ -1,11 +1,13 @@
 -- The three demands, each as one statement that gathers the promises of the rooms in the demand's own order. Assumes nothing.
 use Rattle.answer.specs.Refusals.{NumbersDiffer, ZeroIsAccepted}
 use Rattle.answer.specs.Orders.{ThenRefuses, FirstRefuses}
+use Rattle.decimal.specs.Bytes.{EachRefuses}
+use Rattle.decimal.specs.Places.{Stretch}
 use Rattle.barcode.specs.RoundTrips.{DecodedAnswers, FieldsAreItsPlaces, BuiltIsRead, FieldsWithinRangesBuild, CodeIsItsFields}
 use Rattle.line.specs.RoundTrips.{LineIsBoxesAndCode, FieldsGiveALine, CodeToLineAndBack, LineToCodeAndBack, LineIsItsFields}
 use Rattle.layout.specs.declared.Field.{Field}
 use Rattle.layout.specs.Layouts.{FieldsCover, RecordIsItsFields, MarkNames, GivenLengths}
-use Rattle.record.specs.Values.{DecodeAnswers}
+use Rattle.record.specs.Values.{DecodeAnswers, RightFieldsAreAccepted, FieldsAreTheirPlaces}
 use Rattle.fields.specs.Making.{FieldsMakeTheRecord, MadeIsAccepted}
 use Rattle.file.specs.Files.{OneRightTrailer}
 use Rattle.board.specs.Lanes.{PastThirtyTwoBits}
@@ -15,6 +17,7 @@ use Rattle.paper.specs.Plain.{ShownReadsBack}
 use Rattle.slips.specs.Slips.{PassesByChecks, BoxesAreNumbered, OneChangedDigitIsRefused, ExchangeOfNeighbours, OneChangedDigitUnderEleven}
 use Rattle.slips.specs.Samples.{DirectionsMayDiffer, BordersHold, SegmentMaySlip, KindMaySlip}
 use Rattle.book.specs.Promises.{FinishKeepsSession, TrueTrailersOnly, SessionAgrees, AnswersAreTheBooks, NextAnswerIsTheBooks, LanesAreThePayments, LanesInOrder, EachLaneIsExact, NoIssuerHasTwoLanes, SumsAreTheRecords, TotalsAreTheRecords, OnlyTrailersShow, NothingShowsBefore, TrailersShowAll, AbandonKeepsBoard, AbandonDropsFile, AbandonNothing, FinishAnswers, WithinLimits}
+use Rattle.session.specs.Runs.{RunIsItsTakes}
 use Rattle.book.specs.Runs.{RunIsTheBooks}
 use Rattle.book.specs.WholeFiles.{FileAccepted, FilePosted, FreshSessionAccepts, FreshSessionShows}
 use Rattle.book.specs.WrittenFiles.{ClosedFileIsWhole, ClosedFileIsAccepted, FieldsWriteTheFile}
@@ -32,12 +35,16 @@ pub record Demand1 : Type 2 where
   pub numbered : NumbersDiffer
   pub accepted : ZeroIsAccepted
   pub places : RefusalsPointAtPlaces
-  -- by a fixed order: the first refusal of two questions, and of a row of fields
+  -- by a fixed order: the first refusal of two questions, of a row of fields, of the boxes from the lowest on, of bytes from left to right
   pub order : ThenRefuses
   pub row : FirstRefuses Field
+  pub boxes : FirstRefuses Stretch
+  pub bytes : EachRefuses
   -- and then the session, the board and the buffers we lent are what they were
   pub keeps : RefusalsChangeNothing
   pub finishing : FinishKeepsSession
+  -- of a run of many records: what the accepted ones before the refusal left
+  pub running : RunIsItsTakes
 
 -- It agrees with the FEBRABAN layout, version 04.
 pub record Demand2 : Type 0 where
@@ -45,9 +52,9 @@ pub record Demand2 : Type 0 where
   -- Lines, barcodes and records decode to their fields,
   pub codes : DecodedAnswers × FieldsAreItsPlaces × BuiltIsRead
   pub lines : LineIsBoxesAndCode × FieldsGiveALine
-  pub records : DecodeAnswers × RecordsShowTheirPlaces × MadeIsAccepted × WrittenAmountsAreRead
+  pub records : DecodeAnswers × RecordsShowTheirPlaces × FieldsAreTheirPlaces × MadeIsAccepted × WrittenAmountsAreRead
   -- nothing is refused that the layout allows,
-  pub allowed : FieldsWithinRangesBuild
+  pub allowed : FieldsWithinRangesBuild × RightFieldsAreAccepted
   -- and the fields write back the same bytes
   pub codesBack : CodeIsItsFields
   pub linesBack : CodeToLineAndBack × LineToCodeAndBack × LineIsItsFields

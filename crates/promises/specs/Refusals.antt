@@ -41,8 +41,9 @@ module _ (T : Ended) (contract : Contract T) where
       → ent (w .𝓤) (allowed T contract w κs given g r left)
       (fact (w .𝓤) ((answer κs r ≡ Accepted → ⊥) → after κs given r left ≡ before κs given))
 
--- Promise: of every public operation with an answer, and a state or lent bytes to change. `given .0` is the first value given, `given .1 .0` the
--- second, `given .1 .1 .0` the third; so is what is left of each.
+-- Promise: of every public operation with an answer, and a state or lent bytes to change, but a run of many records, where those before the
+-- refused one stand (`RunIsItsTakes`). `given .0` is the first value given, `given .1 .0` the second, `given .1 .1 .0` the third; so is what is
+-- left of each.
 pub record RefusalsChangeNothing : Type 2 where
   -- the buffers we lent
   pub decimal·put_number :

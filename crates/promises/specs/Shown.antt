@@ -8,7 +8,8 @@ use Rattle.decimal.specs.Places.{places}
 use Rattle.calendar.specs.declared.Date.{Date}
 use Rattle.calendar.specs.Dates.{dateOf}
 use Rattle.barcode.specs.Codes.{fieldsOf}
-use Rattle.layout.specs.Layouts.{rowAt, receivedRow, barcodeRow}
+use Rattle.file.specs.Files.{countPlace, totalPlace}
+use Rattle.layout.specs.Layouts.{rowAt, receivedRow, barcodeRow, countRow, totalRow}
 use Rattle.record.specs.Values.{dayOf, headerOf, paymentOf, trailerOf}
 
 abbrev pub numberAt : ℕ → ℕ → List ℕ → ℕ
@@ -17,9 +18,12 @@ numberAt first last rec = numberOf (places first last rec)
 abbrev pub dateAt : ℕ → ℕ → List ℕ → Date
 dateAt first last rec = dayOf (dateOf (places first last rec))
 
--- Promise: refusals 16 to 18 point at the received centavos of a G, and at the issuer, place 16 of its barcode.
+-- Promise: refusals 13 and 14 point at the count and the total of a Z, 16 to 18 at the received centavos of a G, and at the issuer, place 16 of
+-- its barcode.
 abbrev pub RefusalsPointAtPlaces : Type 0
-RefusalsPointAtPlaces = (receivedPlace ≡ rowAt receivedRow .first) × (issuerPlace ≡ rowAt barcodeRow .first - 1 + 16)
+RefusalsPointAtPlaces =
+    (countPlace ≡ rowAt countRow .first) × (totalPlace ≡ rowAt totalRow .first) × (receivedPlace ≡ rowAt receivedRow .first)
+    × (issuerPlace ≡ rowAt barcodeRow .first - 1 + 16)
 
 -- Promise: bank, date and sequence number of an A; dates, barcode, amounts and number of a G; count and total of a Z.
 abbrev pub RecordsShowTheirPlaces : Type 0

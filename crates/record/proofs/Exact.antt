@@ -14,7 +14,7 @@ use Rattle.answer.specs.declared.Reason.the-variants.{NoDigit, NoText, FixedDif
 use Rattle.answer.specs.declared.Answer.{Answer}
 use Rattle.answer.specs.declared.Answer.the-variants.{Accepted, Refused}
 use Rattle.answer.specs.Orders.{asked, _then_, behind}
-use Rattle.answer.proofs.Orders.{asked-accepts, then-accepts, first-accepts, moved-accepts}
+use Rattle.answer.proofs.Orders.{asked-accepts, then-accepts, first-accepts}
 use Rattle.decimal.specs.declared.Class.the-variants.{Digit, Blank, Text}
 use Rattle.decimal.specs.Bytes.{within, isOf, all, eachIs}
 use Rattle.decimal.proofs.Bytes.{all-joins, all-of-part, each-accepts}
@@ -48,7 +48,7 @@ use Rattle.record.specs.declared.Pays.the-variants.{To, Nothing}
 use Rattle.record.specs.Looks.{spanOf, isPlain, isCoded, isDated, isPayment, looksPaid, seenOf}
 use Rattle.record.specs.Records.{partOf, fieldAnswer, bodyAnswer, recordAnswer}
 use Rattle.record.specs.Values.{shownOf, unlessRefused, decodeOf, paysOf}
-use Rattle.record.proofs.Shown.{accepted-is, named-is}
+use Rattle.record.proofs.Shown.{accepted-is, named-is, field-accepts}
 use Rattle.record.proofs.Looks.{places-length}
 
 -- a part of a part
@@ -150,10 +150,6 @@ one-byte (b ∷ c ∷ bs) n t = absurd (omega arith)
 
 -- What the look asks of a G, and what its fields are asked.
 module _ (rec : List ℕ) where
-  field-accepts : (f : Field) → (fieldAnswer rec f ≡ Accepted) ↔ (kindAnswer (f .kind) (partOf f rec) ≡ Accepted)
-  unfolding fieldAnswer
-  field-accepts f = moved-accepts (behind (f .first - 1)) (kindAnswer (f .kind) (partOf f rec))
-
   abbrev Plain : Type 0
   Plain = (all (isOf Text) (take 20 (drop 1 rec)) ≡ true) × (all (isOf Text) (take 32 (drop 108 rec)) ≡ true) × (all (isOf Digit) (take 27 (drop 81 rec)) ≡ true) × (all (isOf Blank) (take 9 (drop 141 rec)) ≡ true)
 
@@ -188,7 +184,7 @@ module _ (rec : List ℕ) where
         let p = plain .0 (right .0) in
         let c = coded .0 (right .1) in
         let d = dated .0 (right .2) in
-        let is : (f : Field) → kindAnswer (f .kind) (partOf f rec) ≡ Accepted → fieldAnswer rec f ≡ Accepted = λ f. field-accepts f .1 in
+        let is : (f : Field) → kindAnswer (f .kind) (partOf f rec) ≡ Accepted → fieldAnswer rec f ≡ Accepted = λ f. field-accepts rec f .1 in
         first-accepts (fieldAnswer rec) (layoutOf Payment) .1
         (is _ (mark rec n (named-payment (getD rec 0 0) named)), (is _ (text _ .1 (p .0)), (is _ (date _ .1 (d .0)), (is _ (date _ .1 (d .1)), (is _ (code _ .1 (right .3)), (is _ (money _ .1 (inner (isOf Digit) rec 81 27 0 12 (omega arith) (p .2))), (is _ (money _ .1 (inner (isOf Digit) rec 81 27 12 7 (omega arith) (p .2))), (is _ (digits _ .1 (inner (isOf Digit) rec 81 27 19 8 (omega arith) (p .2))), (is _ (text _ .1 (inner (isOf Text) rec 108 32 0 8 (omega arith) (p .1))), (is _ (capture _ .1 (c .0)), (is _ (text _ .1 (inner (isOf Text) rec 108 32 9 23 (omega arith) (p .1))), (is _ (form _ .1 (c .1)), (is _ (blank _ .1 (p .3)), tt)))))))))))))
 
@@ -196,7 +192,7 @@ module _ (rec : List ℕ) where
     unfolding layoutOf rowAt table
     seen e =
         let each = first-accepts (fieldAnswer rec) (layoutOf Payment) .0 e in
-        let is : (f : Field) → fieldAnswer rec f ≡ Accepted → kindAnswer (f .kind) (partOf f rec) ≡ Accepted = λ f. field-accepts f .0 in
+        let is : (f : Field) → fieldAnswer rec f ≡ Accepted → kindAnswer (f .kind) (partOf f rec) ≡ Accepted = λ f. field-accepts rec f .0 in
         let account = text _ .0 (is _ (each .1 .0)) in
         let paid = date _ .0 (is _ (each .1 .1 .0)) in
         let credited = date _ .0 (is _ (each .1 .1 .1 .0)) in

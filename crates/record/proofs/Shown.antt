@@ -1,7 +1,8 @@
 -- Laws of what an accepted record shows. Assumes nothing.
 use Prim.Native.Nat.{ℕ, _+_, _-_, _≤_}
-use mathlib.Core.List.{List}
-use mathlib.Core.Path.{_≡_, refl, _∙_}
+use mathlib.Core.List.{List, [], _∷_}
+use mathlib.Core.Logic.{_↔_}
+use mathlib.Core.Path.{_≡_, refl, sym, _∙_}
 use native.Mathlib.Omega.{arith}
 use borrow.Author.Tests.{eq-eqb, eqb-true}
 use lib.Dec.{eqb}
@@ -10,8 +11,8 @@ use lib.Seq.{length-take-le}
 use Rattle.answer.specs.declared.Reason.the-variants.{WrongLength}
 use Rattle.answer.specs.declared.Answer.{Answer}
 use Rattle.answer.specs.declared.Answer.the-variants.{Accepted, Refused}
-use Rattle.answer.specs.Orders.{asked}
-use Rattle.answer.proofs.Orders.{asked-accepts, then-accepts}
+use Rattle.answer.specs.Orders.{asked, Each, behind}
+use Rattle.answer.proofs.Orders.{asked-accepts, then-accepts, first-accepts, moved-accepts}
 use Rattle.decimal.specs.Numbers.{heldOf, numberOf}
 use Rattle.decimal.proofs.Numbers.{nineteen-are-held}
 use Rattle.layout.specs.declared.Field.{Field}
@@ -19,10 +20,10 @@ use Rattle.layout.specs.declared.Named.{Named}
 use Rattle.layout.specs.declared.Named.the-variants.{Is, Other}
 use Rattle.layout.specs.declared.Record.{Record}
 use Rattle.layout.specs.declared.Record.the-variants.{Header, Payment, Trailer}
-use Rattle.layout.specs.Layouts.{recordLength, namedBy}
-use Rattle.layout.proofs.Layouts.{Lies}
-use Rattle.record.specs.Records.{partOf, bodyAnswer, namedAnswer, recordAnswer}
-use Rattle.record.specs.Values.{shownOf, answerOf, unlessRefused, DecodeAnswers}
+use Rattle.layout.specs.Layouts.{recordLength, namedBy, layoutOf, InRecord}
+use Rattle.kinds.specs.Kinds.{kindAnswer}
+use Rattle.record.specs.Records.{partOf, fieldAnswer, bodyAnswer, namedAnswer, recordAnswer}
+use Rattle.record.specs.Values.{shownOf, answerOf, unlessRefused, DecodeAnswers, RightFieldsAreAccepted, FieldsAreTheirPlaces}
 
 -- an accepted record has 150 bytes, and its named layout accepts
 pub accepted-is : (rec : List ℕ) → recordAnswer rec ≡ Accepted
@@ -37,11 +38,11 @@ pub named-is : (r : Record) (rec : List ℕ) → length rec ≡ recordLength →
 unfolding recordAnswer
 named-is r rec n e = rw (eq-eqb (length rec) recordLength n, e)
 
-pub part-length : (f : Field) (rec : List ℕ) → Lies f → length rec ≡ recordLength → length (partOf f rec) ≡ f .last - (f .first - 1)
+pub part-length : (f : Field) (rec : List ℕ) → InRecord f → length rec ≡ recordLength → length (partOf f rec) ≡ f .last - (f .first - 1)
 part-length f rec l n =
     length-take-le (f .last - (f .first - 1)) (drop (f .first - 1) rec) (omega (arith, length-drop (f .first - 1) rec, l .start, l .order, l .end))
 
-pub number-held : (f : Field) (rec : List ℕ) {r : ℕ} → Lies f → f .last ≤ f .first + 18 → length rec ≡ recordLength → r ≡ heldOf (numberOf (partOf f rec))
+pub number-held : (f : Field) (rec : List ℕ) {r : ℕ} → InRecord f → f .last ≤ f .first + 18 → length rec ≡ recordLength → r ≡ heldOf (numberOf (partOf f rec))
     → r ≡ numberOf (partOf f rec)
 number-held f rec l w n e = e ∙ nineteen-are-held (partOf f rec) (omega (arith, part-length f rec l n, l .start))
 
@@ -55,3 +56,23 @@ decode-answers rec = go (recordAnswer rec) (namedBy (getD rec 0 0)) refl (accept
     go Accepted (Is Payment) e h = refl
     go Accepted (Is Trailer) e h = refl
     go Accepted Other e h = h e .1
+
+-- a field of a record is right where its bytes are right by its kind
+pub field-accepts : (rec : List ℕ) (f : Field) → (fieldAnswer rec f ≡ Accepted) ↔ (kindAnswer (f .kind) (partOf f rec) ≡ Accepted)
+unfolding fieldAnswer
+field-accepts rec f = moved-accepts (behind (f .first - 1)) (kindAnswer (f .kind) (partOf f rec))
+
+each-of : {P Q : Field → Type 0} → ((f : Field) → P f → Q f) → (fs : List Field) → Each P fs → Each Q fs
+each-of h [] e = tt
+each-of h (f ∷ fs) e = (h f (e .0), each-of h fs (e .1))
+
+pub right-fields-are-accepted : RightFieldsAreAccepted
+right-fields-are-accepted r rec n e =
+    let body = named-is r rec n e in
+    let each = first-accepts (fieldAnswer rec) (layoutOf r) in (
+      λ a. each-of (λ f. field-accepts rec f .0) (layoutOf r) (each .0 (sym body ∙ a)),
+      λ fs. body ∙ each .1 (each-of (λ f. field-accepts rec f .1) (layoutOf r) fs),
+    )
+
+pub fields-are-their-places : FieldsAreTheirPlaces
+fields-are-their-places rec row a h = rw (a, h)

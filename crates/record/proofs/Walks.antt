@@ -20,8 +20,8 @@ use Rattle.layout.specs.declared.Named.the-variants.{Is, Other}
 use Rattle.layout.specs.declared.Record.{Record}
 use Rattle.layout.specs.declared.Record.the-variants.{Header, Payment, Trailer}
 use Rattle.layout.specs.declared.Rows.{Rows}
-use Rattle.layout.specs.Layouts.{layoutOf, table, noField, rowAt, rowsOf}
-use Rattle.layout.proofs.Layouts.{Lies, row-lies, rows-are}
+use Rattle.layout.specs.Layouts.{layoutOf, table, noField, rowAt, rowsOf, InRecord}
+use Rattle.layout.proofs.Layouts.{row-lies, rows-are}
 use Rattle.decimal.proofs.Finite.{never}
 use Rattle.record.specs.Records.{fieldAnswer, bodyAnswer}
 use Rattle.record.specs.Values.{hasRow}
@@ -57,7 +57,7 @@ module _ (which : Record) {rows : Rows} {copy : List Field} (t : copy ≡ table)
   pub in-table : rows .to ≤ length copy
   in-table = rw (e, t) (rows-end which .1)
 
-  pub row-placed : (i : ℕ) (d : Field) → i < rows .to → Lies (getD copy i d)
+  pub row-placed : (i : ℕ) (d : Field) → i < rows .to → InRecord (getD copy i d)
   row-placed i d h =
       let l : rows .to ≤ length table = rw e (rows-end which .1) in
       rw t (row-lies i d (omega arith))
@@ -68,11 +68,11 @@ module _ (which : Record) {rows : Rows} {copy : List Field} (t : copy ≡ table)
   pub walked : (rec : List ℕ) → first (fieldAnswer rec) (slice (rows .from) (rows .to) copy) ≡ bodyAnswer which rec
   walked rec = ap (first (fieldAnswer rec)) rows-here
 
-row-shown : (which : Record) {rows : Rows} {f : Field} (i : ℕ) → rows ≡ rowsOf which → f ≡ rowAt i → i < rows .to → Lies f
+row-shown : (which : Record) {rows : Rows} {f : Field} (i : ℕ) → rows ≡ rowsOf which → f ≡ rowAt i → i < rows .to → InRecord f
 unfolding rowAt
 row-shown which i e q h = rw q (row-placed which refl e i noField h)
 
-pub row-of-named : (n : Named) {f : Field} (i : ℕ) → hasRow n i ≡ true → f ≡ rowAt i → Lies f
+pub row-of-named : (n : Named) {f : Field} (i : ℕ) → hasRow n i ≡ true → f ≡ rowAt i → InRecord f
 row-of-named (Is r) i h q =
     row-shown r i refl q (ltb-true i (rowsOf r .to) (and-eq-true-iff (leb (rowsOf r .from) i) (ltb i (rowsOf r .to)) .0 h .1))
 row-of-named Other i h q = never h

@@ -1,5 +1,5 @@
--- What the quick look at a G asks beside its barcode: neighbouring fields of one class at once. Only the quick look cites it; what a record
--- is asked stands in Records.antt and in the room kinds. Assumes nothing.
+-- What the quick look at a G asks beside its barcode: neighbouring fields of one class at once. What a record is asked stands in Records.antt and
+-- in the room kinds; here stands how the quick look asks it. Assumes nothing.
 use Prim.Native.Nat.{ℕ}
 use mathlib.Core.Bool.{Bool, true, false, _&&_}
 use mathlib.Core.List.{List}

@@ -1,24 +1,29 @@
 -- What an accepted record shows. Assumes nothing.
 use Prim.Native.Nat.{ℕ}
-use mathlib.Core.Bool.{Bool, false, cond, _&&_}
+use mathlib.Core.Bool.{Bool, true, false, cond, _&&_}
 use mathlib.Core.List.{List, []}
+use mathlib.Core.Logic.{_↔_}
 use mathlib.Core.Path.{_≡_}
 use lib.Dec.{leb, ltb}
-use lib.ListN.{getD}
+use lib.ListN.{length, getD}
 use Rattle.answer.specs.declared.Reason.the-variants.{NotExpected}
 use Rattle.answer.specs.declared.Answer.{Answer}
 use Rattle.answer.specs.declared.Answer.the-variants as answer
-use Rattle.answer.specs.Orders.{kept}
+use Rattle.answer.specs.Orders.{kept, Each}
 use Rattle.decimal.specs.Numbers.{numberOf}
+use Rattle.decimal.specs.Places.{places}
 use Rattle.calendar.specs.declared.Date.{Date}
 use Rattle.calendar.specs.declared.Dated.{Dated}
 use Rattle.calendar.specs.declared.Dated.the-variants.{On, NoDate}
 use Rattle.calendar.specs.Dates.{dateOf}
 use Rattle.barcode.specs.Codes.{fieldsOf}
+use Rattle.kinds.specs.Kinds.{kindAnswer}
+use Rattle.layout.specs.declared.Field.{Field}
 use Rattle.layout.specs.declared.Named.{Named}
 use Rattle.layout.specs.declared.Named.the-variants.{Is, Other}
+use Rattle.layout.specs.declared.Record.{Record}
 use Rattle.layout.specs.declared.Record.the-variants as layout
-use Rattle.layout.specs.Layouts.{rowAt, rowsOf, namedBy, bankRow, fileDateRow, sequenceRow, paidRow, creditedRow, barcodeRow, receivedRow, tariffRow, numberRow, countRow, totalRow}
+use Rattle.layout.specs.Layouts.{recordLength, layoutOf, rowAt, rowsOf, namedBy, bankRow, fileDateRow, sequenceRow, paidRow, creditedRow, barcodeRow, receivedRow, tariffRow, numberRow, countRow, totalRow}
 use Rattle.record.specs.declared.Header.{Header}
 use Rattle.record.specs.declared.Payment.{Payment}
 use Rattle.record.specs.declared.Trailer.{Trailer}
@@ -98,6 +103,18 @@ abbrev pub shownField : ℕ → List ℕ → List ℕ
 shownField row rec = kept (recordAnswer rec) (fieldIn (namedBy (getD rec 0 0)) row rec) []
 
 -- Promises.
+
+-- 150 bytes that their first one names are accepted exactly when each field of that layout is right by its kind
+abbrev pub RightFieldsAreAccepted : Type 0
+RightFieldsAreAccepted =
+    (r : Record) (rec : List ℕ) → length rec ≡ recordLength → namedBy (getD rec 0 0) ≡ Is r
+    → (recordAnswer rec ≡ answer.Accepted) ↔ Each (λ (f : Field). kindAnswer (f .kind) (partOf f rec) ≡ answer.Accepted) (layoutOf r)
+
+-- a field of an accepted record, by its row, is the bytes at the row's places
+abbrev pub FieldsAreTheirPlaces : Type 0
+FieldsAreTheirPlaces =
+    (rec : List ℕ) (row : ℕ) → recordAnswer rec ≡ answer.Accepted → hasRow (namedBy (getD rec 0 0)) row ≡ true
+    → shownField row rec ≡ places (rowAt row .first) (rowAt row .last) rec
 
 -- what is decoded says what was answered: one answer for each input
 abbrev pub DecodeAnswers : Type 0

@@ -7,8 +7,7 @@ ghost use Rattle.decimal.specs.Bytes.{isOf, all};
 ghost use Rattle.decimal.specs.Numbers.{lowNumberOf};
 ghost use Rattle.calendar.specs.Dates.{dateOf};
 ghost use Rattle.barcode.specs.Codes as codes;
-ghost use Rattle.layout.specs.Layouts.{recordLength, namedBy};
-ghost use Rattle.layout.proofs.Layouts.{Lies};
+ghost use Rattle.layout.specs.Layouts.{recordLength, namedBy, InRecord};
 ghost use Rattle.record.specs.Records.{partOf};
 ghost use Rattle.record.specs.Looks.{rowsHold, spanOf, isPlain, isCoded, isDated, isPayment, looksPaid, seenOf};
 ghost use Rattle.record.specs.Values.{decodeOf, paysOf};
@@ -86,7 +85,7 @@ fn parts_hold(text: &[u8], other: &[u8], digits: &[u8]) -> bool
 // The bytes of neighbouring fields.
 fn span(rec: &[u8], from: Field, to: Field) -> &[u8]
     requires { ⌜ length (now rec) ≡ recordLength ⌝ }
-    requires { ⌜ (Lies from) × (Lies to) × (from .first ≤ to .last) ⌝ }
+    requires { ⌜ (InRecord from) × (InRecord to) × (from .first ≤ to .last) ⌝ }
     ensures { λ r. ⌜ now r ≡ spanOf from to (now (rec .entry)) ⌝ }
 {
     let first = from.first;
@@ -158,7 +157,7 @@ fn looks_like_payment(rec: &[u8]) -> bool
 // Of bytes that were found to be digits, their number.
 fn number_of(rec: &[u8], f: Field) -> u64
     requires { ⌜ length (now rec) ≡ recordLength ⌝ }
-    requires { ⌜ Lies f ⌝ }
+    requires { ⌜ InRecord f ⌝ }
     ensures { λ r. ⌜ r ≡ lowNumberOf (partOf f (now (rec .entry))) ⌝ }
 {
     decimal::low_number(walk::part_of(rec, f))
@@ -166,7 +165,7 @@ fn number_of(rec: &[u8], f: Field) -> u64
 
 fn date_of(rec: &[u8], f: Field) -> Dated
     requires { ⌜ length (now rec) ≡ recordLength ⌝ }
-    requires { ⌜ Lies f ⌝ }
+    requires { ⌜ InRecord f ⌝ }
     ensures { λ r. ⌜ r ≡ dateOf (partOf f (now (rec .entry))) ⌝ }
 {
     calendar::read_date(walk::part_of(rec, f))
@@ -174,7 +173,7 @@ fn date_of(rec: &[u8], f: Field) -> Dated
 
 fn barcode_of(rec: &[u8], f: Field) -> Barcoded
     requires { ⌜ length (now rec) ≡ recordLength ⌝ }
-    requires { ⌜ Lies f ⌝ }
+    requires { ⌜ InRecord f ⌝ }
     ensures { λ r. ⌜ r ≡ codes.decodeOf (partOf f (now (rec .entry))) ⌝ }
 {
     barcode::decode(walk::part_of(rec, f))

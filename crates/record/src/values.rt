@@ -5,8 +5,7 @@ ghost use Prim.Native.Nat.{_+_, _≤_};
 ghost use lib.ListN.{length, getD};
 ghost use Rattle.decimal.specs.Numbers.{numberOf};
 ghost use Rattle.calendar.specs.Dates.{dateOf};
-ghost use Rattle.layout.specs.Layouts.{recordLength, namedBy};
-ghost use Rattle.layout.proofs.Layouts.{Lies};
+ghost use Rattle.layout.specs.Layouts.{recordLength, namedBy, InRecord};
 ghost use Rattle.record.specs.Records.{partOf};
 ghost use Rattle.record.specs.Looks.{isPayment};
 ghost use Rattle.record.specs.Values.{dayOf, headerOf, trailerOf, shownOf, decodeOf, fieldIn, shownField, hasRow};
@@ -28,7 +27,7 @@ use layout::z;
 
 fn number_in(rec: &[u8], f: Field) -> u64
     requires { ⌜ length (now rec) ≡ recordLength ⌝ }
-    requires { ⌜ Lies f ⌝ }
+    requires { ⌜ InRecord f ⌝ }
     requires { ⌜ f .last ≤ f .first + 18 ⌝ }
     ensures { λ r. ⌜ r ≡ numberOf (partOf f (now (rec .entry))) ⌝ }
 {
@@ -37,7 +36,7 @@ fn number_in(rec: &[u8], f: Field) -> u64
 
 fn date_in(rec: &[u8], f: Field) -> Date
     requires { ⌜ length (now rec) ≡ recordLength ⌝ }
-    requires { ⌜ Lies f ⌝ }
+    requires { ⌜ InRecord f ⌝ }
     ensures { λ r. ⌜ r ≡ dayOf (dateOf (partOf f (now (rec .entry)))) ⌝ }
 {
     match calendar::read_date(walk::part_of(rec, f)) {

@@ -1,8 +1,7 @@
 // The walk along the table: a record's fields from left to right.
 ghost use mathlib.Core.Path.{_≡_};
 ghost use lib.ListN.{length};
-ghost use Rattle.layout.specs.Layouts.{recordLength};
-ghost use Rattle.layout.proofs.Layouts.{Lies};
+ghost use Rattle.layout.specs.Layouts.{recordLength, InRecord};
 ghost use Rattle.record.specs.Records.{partOf, fieldAnswer, bodyAnswer, recordAnswer};
 use crate::Pays;
 use crate::quick;
@@ -15,7 +14,7 @@ use layout::Record;
 // A field's bytes, as a part of the record's.
 pub(crate) fn part_of(rec: &[u8], f: Field) -> &[u8]
     requires { ⌜ length (now rec) ≡ recordLength ⌝ }
-    requires { ⌜ Lies f ⌝ }
+    requires { ⌜ InRecord f ⌝ }
     ensures { λ r. ⌜ now r ≡ partOf f (now (rec .entry)) ⌝ }
 {
     let first = f.first;
@@ -25,7 +24,7 @@ pub(crate) fn part_of(rec: &[u8], f: Field) -> &[u8]
 
 fn field_answer(rec: &[u8], f: Field) -> Answer
     requires { ⌜ length (now rec) ≡ recordLength ⌝ }
-    requires { ⌜ Lies f ⌝ }
+    requires { ⌜ InRecord f ⌝ }
     ensures { λ r. ⌜ r ≡ fieldAnswer (now (rec .entry)) f ⌝ }
 {
     let kind = f.kind;

@@ -2,7 +2,7 @@
 use Prim.Native.Nat.{ℕ, zero, suc, _+_, _-_, _≤_, _<_, min}
 use mathlib.Core.List.{List, [], _∷_}
 use mathlib.Core.Logic.{⊎-elim}
-use mathlib.Core.Path.{_≡_, refl, sym, ap, _∙_}
+use mathlib.Core.Path.{_≡_, refl, sym, ap, subst, _∙_}
 use native.Mathlib.Nat.{add-assoc, add-zero, zero-add}
 use native.Mathlib.Omega.{arith}
 use lib.ListN.{length, getD, take, drop, length-drop, drop-of-length-le}
@@ -10,6 +10,7 @@ use lib.Seq.{take-all, drop-drop, getD-take, getD-drop}
 use Rattle.answer.specs.declared.Reason.{Reason}
 use Rattle.answer.specs.declared.Answer.{Answer}
 use Rattle.answer.specs.declared.Answer.the-variants.{Accepted, Refused}
+use Rattle.answer.proofs.Orders.{not-both, accepted-takes}
 use Rattle.decimal.proofs.Finite.{lt-or-le}
 use Rattle.layout.specs.Layouts.{recordLength, namedBy}
 use Rattle.record.specs.Values.{decodeOf}
@@ -18,7 +19,7 @@ use Rattle.session.specs.declared.Ran.{Ran}
 use Rattle.session.specs.declared.Took.{Took}
 use Rattle.session.specs.declared.running.Paid.{Paid}
 use Rattle.session.specs.Sessions.{takeAnswer, follows, takeOf}
-use Rattle.session.specs.Runs.{piecesUpTo, piecesOf, closedBy, ranOut, after, runOf, withPaid, PaidOf}
+use Rattle.session.specs.Runs.{piecesUpTo, piecesOf, closedBy, ranOut, after, unlessRefused, runAll, runOf, AllTaken, takenAll, answerNext, RunIsItsTakes, withPaid, PaidOf}
 
 -- more fuel than bytes changes nothing
 fuel : (n m : ℕ) (bytes : List ℕ) → length bytes ≤ n → length bytes ≤ m → piecesUpTo n bytes ≡ piecesUpTo m bytes
@@ -116,3 +117,37 @@ module _ (self s : Session) (bytes : List ℕ) (at records files : ℕ) (inv : a
         let n : closedBy (namedBy (getD r 0 0)) ≡ k = ap (λ (b : ℕ). closedBy (namedBy b)) (piece-first bytes at inside e) ∙ sym g in
         rw (next, ← piece-rest bytes at inside e, ← n, ← after-after records files 1 (closedBy (namedBy (getD r 0 0))) (runOf (follows s (decodeOf r)) (drop recordLength (drop at bytes))))
         (ap (after records files) (sym (run-on s (drop at bytes) more a)) ∙ inv)
+
+-- What a run tells of the records that it took.
+record Tells (s : Session) (recs : List (List ℕ)) (r : Ran) : Type 0 where
+  taken : AllTaken s (take (r .records) recs)
+  session : r .session ≡ takenAll s (take (r .records) recs)
+  answer : r .answer ≡ answerNext (r .session) (drop (r .records) recs)
+  whole : r .answer ≡ Accepted → r .records ≡ length recs
+
+-- one record more in front
+tells-more : (rec : List ℕ) (recs : List (List ℕ)) (s : Session) (c : ℕ) (r : Ran) → takeOf s rec .answer ≡ Accepted → Tells (takeOf s rec .session) recs r
+    → Tells s (rec ∷ recs) (after 1 c r)
+tells-more rec recs s c r e t =
+    let one : 1 + r .records ≡ suc (r .records) = omega arith in
+    record {
+      taken = subst (λ (m : ℕ). AllTaken s (take m (rec ∷ recs))) (sym one) (e, t .taken);
+      session = t .session ∙ ap (λ (m : ℕ). takenAll s (take m (rec ∷ recs))) (sym one);
+      answer = t .answer ∙ ap (λ (m : ℕ). answerNext (r .session) (drop m (rec ∷ recs))) (sym one);
+      whole = λ x. omega (arith, t .whole x);
+    }
+
+tells : (recs : List (List ℕ)) (s : Session) → Tells s recs (runAll s recs)
+tells [] s = record { taken = tt; session = refl; answer = refl; whole = λ e. refl }
+tells (rec ∷ recs) s = go (takeAnswer s rec) refl (tells recs)
+  where
+    go : (a : Answer) → takeAnswer s rec ≡ a → ((s : Session) → Tells s recs (runAll s recs))
+        → Tells s (rec ∷ recs) (unlessRefused a s (after 1 (closedBy (namedBy (getD rec 0 0))) (runAll (follows s (decodeOf rec)) recs)))
+    go (Refused why p) e later = record { taken = tt; session = refl; answer = sym e; whole = λ x. not-both _ refl x }
+    go Accepted e later =
+        let next = accepted-takes (takeAnswer s rec) (follows s (decodeOf rec)) s e in
+        tells-more rec recs s (closedBy (namedBy (getD rec 0 0))) (runAll (follows s (decodeOf rec)) recs) e
+        (subst (λ (x : Session). Tells x recs (runAll (follows s (decodeOf rec)) recs)) (sym next) (later (follows s (decodeOf rec))))
+
+pub run-is-its-takes : RunIsItsTakes
+run-is-its-takes s bytes = let t = tells (piecesOf bytes) s in (t .taken, t .session, t .answer, t .whole)

@@ -28,7 +28,7 @@ use Rattle.session.specs.declared.running.Due.the-variants.{To, Nothing}
 use Rattle.session.specs.declared.running.Filled.{Filled}
 use Rattle.session.specs.declared.running.Filled.the-variants as filled
 use Rattle.session.specs.declared.running.Paid.{Paid}
-use Rattle.session.specs.Sessions.{paidBy, takeAnswer, follows}
+use Rattle.session.specs.Sessions.{paidBy, takeAnswer, follows, takeOf}
 
 -- records follow each other with nothing between them; a short last piece is a record of wrong length
 abbrev pub piecesUpTo : ℕ → List ℕ → List (List ℕ)
@@ -66,6 +66,31 @@ runAll s (r ∷ rs) = unlessRefused (takeAnswer s r) s (after 1 (closedBy (named
 
 abbrev pub runOf : Session → List ℕ → Ran
 runOf s bytes = runAll s (piecesOf bytes)
+
+-- Promise: a run of any session takes records one by one. Its session is the one behind those that it took, each accepted; its answer is the
+-- next one's, and where it is accepted none is left.
+
+abbrev pub AllTaken : Session → List (List ℕ) → Type 0
+AllTaken s [] = Unit {0}
+AllTaken s (r ∷ rs) = (takeOf s r .answer ≡ Accepted) × AllTaken (takeOf s r .session) rs
+
+abbrev pub takenAll : Session → List (List ℕ) → Session
+takenAll s [] = s
+takenAll s (r ∷ rs) = takenAll (takeOf s r .session) rs
+
+abbrev pub answerNext : Session → List (List ℕ) → Answer
+answerNext s [] = Accepted
+answerNext s (r ∷ rs) = takeOf s r .answer
+
+abbrev pub RunIsItsTakes : Type 0
+RunIsItsTakes =
+    (s : Session) (bytes : List ℕ)
+    → let r = runOf s bytes in
+    let taken = take (r .records) (piecesOf bytes) in
+    AllTaken s taken × (r .session ≡ takenAll s taken) × (r .answer ≡ answerNext (r .session) (drop (r .records) (piecesOf bytes)))
+    × (r .answer ≡ Accepted → r .records ≡ length (piecesOf bytes))
+
+-- What serves the run's loop alone.
 
 -- the session with what payments left of its working board and its file
 abbrev pub withPaid : Session → Paid → Session
