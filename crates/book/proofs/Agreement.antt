@@ -20,7 +20,7 @@ use Rattle.layout.specs.declared.Record.the-variants.{Header, Payment, Trailer}
 use Rattle.layout.specs.Layouts.{recordLength, namedBy}
 use Rattle.record.specs.Records.{recordAnswer}
 use Rattle.record.specs.Values.{paymentOf, trailerOf, shownOf, unlessRefused, decodeOf}
-use Rattle.file.specs.Files.{mostPayments, mostCentavos, freshFile, fileAnswer, trailerAnswer}
+use Rattle.file.specs.Files.{mostPayments, mostCentavos, freshFile, fileAnswer, figuresAnswer}
 use Rattle.board.specs.declared.Lane.{Lane}
 use Rattle.board.specs.declared.Board.{Board}
 use Rattle.board.specs.Lanes.{place, lanesFrom}
@@ -46,8 +46,8 @@ module _ (s : Session) (files : List Filed) (rec : List ℕ) where
       (answerAfter (paidIn (recordsOf files ++ f .payments)) (paid rec)))
 
   trailer-asked : (f : Filed) → Agrees s (record { accepted = files; opened = some f })
-      → trailerAnswer (s .file) (figuresIn (trailerOf rec)) ≡ asksTrailer f rec
-  unfolding trailerAnswer
+      → figuresAnswer (s .file) (figuresIn (trailerOf rec)) ≡ asksTrailer f rec
+  unfolding figuresAnswer
   trailer-asked f h = rw (h .taken, h .total)
 
   record-asked : (o : Option Filed) (n : Named) (a : Answer) → Agrees s (record { accepted = files; opened = o })

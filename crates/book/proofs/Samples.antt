@@ -8,11 +8,11 @@ use Rattle.barcode.specs.Codes.{leadAnswer, generalRight}
 use Rattle.layout.specs.Layouts.{namedBy, layoutOf, table, rowAt}
 use Rattle.kinds.specs.Kinds.{isService, isCapture, isForm, kindAnswer}
 use Rattle.record.specs.Records.{fieldAnswer, recordAnswer}
-use Rattle.file.specs.Files.{fileAnswer, trailerAnswer}
+use Rattle.file.specs.Files.{fileAnswer, figuresAnswer}
 use Rattle.board.specs.Lanes.{fits}
 use Rattle.board.specs.Boards.{ownOf, usedAfter, slotAnswer}
 use Rattle.book.specs.Samples.{samples, Hold}
 
 pub samples-hold : Hold samples
-unfolding recordAnswer fieldAnswer kindAnswer isService isCapture isForm namedBy layoutOf table rowAt trailerAnswer fileAnswer fits ownOf usedAfter slotAnswer leadAnswer generalRight termOf addedBy ruleOf dateOf isDate daysIn isLeap digitsOf valueOf isOf
+unfolding recordAnswer fieldAnswer kindAnswer isService isCapture isForm namedBy layoutOf table rowAt figuresAnswer fileAnswer fits ownOf usedAfter slotAnswer leadAnswer generalRight termOf addedBy ruleOf dateOf isDate daysIn isLeap digitsOf valueOf isOf
 samples-hold = refl

@@ -18,7 +18,7 @@ use Rattle.record.specs.Values.{paymentOf, trailerOf, shownOf}
 use Rattle.record.proofs.Shown.{accepted-is}
 use Rattle.file.specs.declared.File.{File}
 use Rattle.file.specs.declared.Figures.{Figures}
-use Rattle.file.specs.Files.{freshFile, fileAnswer, fileAnswers, fileWith, fileWithAll, trailerAnswer, receivedOf}
+use Rattle.file.specs.Files.{freshFile, fileAnswer, fileAnswers, fileWith, fileWithAll, figuresAnswer, receivedOf}
 use Rattle.file.proofs.Files.{fresh-file-takes, fresh-file-holds, one-right-trailer}
 use Rattle.board.specs.declared.Board.{Board}
 use Rattle.board.specs.Lanes.{sumOf}
@@ -50,10 +50,10 @@ rest z recs = map taking recs ++ (taking z ∷ [])
 abbrev Passes : List ℕ → Board → File → List (List ℕ) → Type 0
 Passes z b f recs =
     (fileAnswers f (receivedEach recs) ≡ Accepted) × (postAnswers b (paidIn recs) ≡ Accepted)
-    × (trailerAnswer (fileWithAll f (receivedEach recs)) (figuresIn (trailerOf z)) ≡ Accepted)
+    × (figuresAnswer (fileWithAll f (receivedEach recs)) (figuresIn (trailerOf z)) ≡ Accepted)
 
 module _ (shown : Board) (z : List ℕ) (right : IsRight Trailer z) where
-  closing : (b : Board) (f : File) → takeOf (inside shown b f) z ≡ took (trailerAnswer f (figuresIn (trailerOf z))) (closedAt b) (inside shown b f)
+  closing : (b : Board) (f : File) → takeOf (inside shown b f) z ≡ took (figuresAnswer f (figuresIn (trailerOf z))) (closedAt b) (inside shown b f)
   closing b f = taken (inside shown b f) Trailer z right refl
 
   module _ (b : Board) (f : File) (rec : List ℕ) (h : IsRight Payment rec) where
@@ -90,8 +90,8 @@ module _ (shown : Board) (z : List ℕ) (right : IsRight Trailer z) where
   left-rest : (recs : List (List ℕ)) → Each (IsRight Payment) recs → (b : Board) (f : File) → AllAccepted (answersOf (inside shown b f) (rest z recs))
       → sessionAfter (inside shown b f) (rest z recs) ≡ closedAt (boardWithAll b (paidIn recs))
   left-rest [] h b f e =
-      let one : trailerAnswer f (figuresIn (trailerOf z)) ≡ Accepted = sym (ap (λ (t : Took). t .answer) (closing b f)) ∙ e .0 in
-      ap (λ (t : Took). t .session) (closing b f) ∙ accepted-takes (trailerAnswer f (figuresIn (trailerOf z))) (closedAt b) (inside shown b f) one
+      let one : figuresAnswer f (figuresIn (trailerOf z)) ≡ Accepted = sym (ap (λ (t : Took). t .answer) (closing b f)) ∙ e .0 in
+      ap (λ (t : Took). t .session) (closing b f) ∙ accepted-takes (figuresAnswer f (figuresIn (trailerOf z))) (closedAt b) (inside shown b f) one
   left-rest (rec ∷ recs) h b f e =
       let one : payAnswer (inside shown b f) (paid rec) ≡ Accepted = sym (ap (λ (t : Took). t .answer) (paying-takes b f rec (h .0))) ∙ e .0 in
       let next = paid-next b f rec (h .0) one in
@@ -106,7 +106,7 @@ received-each (rec ∷ recs) = omega (arith, received-each recs)
 
 -- what a file has taken, and the figures of its one right trailer
 true-figures : (recs : List (List ℕ)) (z : List ℕ)
-    → (trailerAnswer (fileWithAll freshFile (receivedEach recs)) (figuresIn (trailerOf z)) ≡ Accepted) ↔ TrueFigures recs z
+    → (figuresAnswer (fileWithAll freshFile (receivedEach recs)) (figuresIn (trailerOf z)) ≡ Accepted) ↔ TrueFigures recs z
 true-figures recs z =
     let one = one-right-trailer (fileWithAll freshFile (receivedEach recs)) (figuresIn (trailerOf z)) in
     let holds = fresh-file-holds (receivedEach recs) in

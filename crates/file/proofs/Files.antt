@@ -17,7 +17,7 @@ use Rattle.answer.specs.Orders.{asked, _then_, kept}
 use Rattle.answer.proofs.Orders.{asked-accepts, then-accepts, refusal-keeps}
 use Rattle.file.specs.declared.File.{File}
 use Rattle.file.specs.declared.Figures.{Figures}
-use Rattle.file.specs.Files.{mostPayments, mostCentavos, freshFile, fileAnswer, fileWith, trailerAnswer, closingAnswer, Within, fileAnswers, fileWithAll, receivedOf, FileAccepts, RefusalKeepsFile, StaysWithin, FreshFileTakes, FreshFileHolds, OneRightTrailer, ClosingAccepts, FiguresFit}
+use Rattle.file.specs.Files.{mostPayments, mostCentavos, freshFile, fileAnswer, fileWith, figuresAnswer, closingAnswer, Within, fileAnswers, fileWithAll, receivedOf, FileAccepts, RefusalKeepsFile, StaysWithin, FreshFileTakes, FreshFileHolds, OneRightTrailer, ClosingAccepts, FiguresFit}
 
 -- two questions are both accepted exactly when both tests hold
 both : (s t : Bool) (v w : Reason) (p q : ℕ) → (asked s v p then asked t w q ≡ Accepted) ↔ ((s ≡ true) × (t ≡ true))
@@ -81,7 +81,7 @@ pub fresh-file-holds : FreshFileHolds
 fresh-file-holds xs = holds freshFile xs ∙ alike (omega arith) (omega arith)
 
 pub one-right-trailer : OneRightTrailer
-unfolding trailerAnswer
+unfolding figuresAnswer
 one-right-trailer f shown =
     let h = both (eqb (shown .count) (f .taken + 2)) (eqb (shown .total) (f .total)) CountDiffers TotalDiffers 2 8 in (
       λ e.

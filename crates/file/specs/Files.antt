@@ -50,8 +50,8 @@ abbrev pub totalPlace : ℕ
 totalPlace = 8
 
 -- 13, then 14: a trailer that shows other figures
-unfoldable pub trailerAnswer : File → Figures → Answer
-trailerAnswer f shown =
+unfoldable pub figuresAnswer : File → Figures → Answer
+figuresAnswer f shown =
     asked (eqb (shown .count) (figuresOf f .count)) CountDiffers countPlace
     then asked (eqb (shown .total) (figuresOf f .total)) TotalDiffers totalPlace
 
@@ -105,7 +105,7 @@ FreshFileHolds = (xs : List ℕ) → fileWithAll freshFile xs ≡ record { taken
 -- Promises: of the trailer. Exactly one is right, and that of a file within its limits has room in its six and seventeen digits.
 
 abbrev pub OneRightTrailer : Type 0
-OneRightTrailer = (f : File) (shown : Figures) → (trailerAnswer f shown ≡ Accepted) ↔ (shown ≡ figuresOf f)
+OneRightTrailer = (f : File) (shown : Figures) → (figuresAnswer f shown ≡ Accepted) ↔ (shown ≡ figuresOf f)
 
 abbrev pub ClosingAccepts : Type 0
 ClosingAccepts = (f : File) → (closingAnswer f ≡ Accepted) ↔ Within f

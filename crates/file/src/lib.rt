@@ -1,6 +1,6 @@
 // The open file: what it took so far, the questions to one payment more, and the trailer that is right for it.
 ghost use mathlib.Core.Path.{_≡_};
-ghost use Rattle.file.specs.Files.{freshFile, takenOf, trailerAnswer, closedOf};
+ghost use Rattle.file.specs.Files.{freshFile, takenOf, figuresAnswer, closedOf};
 use answer::Answer;
 use answer::Reason;
 
@@ -74,7 +74,7 @@ impl File {
 
     // The trailer that is read: 13 or 14 where it does not show this file's figures.
     pub fn judge(self, shown: Figures) -> Answer
-        ensures { λ r. ⌜ r ≡ trailerAnswer self shown ⌝ }
+        ensures { λ r. ⌜ r ≡ figuresAnswer self shown ⌝ }
     {
         if shown.count < 2 {
             return Answer::Refused(Reason::CountDiffers, 2);

@@ -13,7 +13,7 @@ use Rattle.line.specs.Lines.{boxRight}
 use Rattle.layout.specs.Layouts.{namedBy, layoutOf, table, rowAt}
 use Rattle.kinds.specs.Kinds.{isService, isCapture, isForm, kindAnswer}
 use Rattle.record.specs.Records.{fieldAnswer, recordAnswer}
-use Rattle.file.specs.Files.{fileAnswer, trailerAnswer}
+use Rattle.file.specs.Files.{fileAnswer, figuresAnswer}
 use Rattle.board.specs.Lanes.{fits}
 use Rattle.board.specs.Boards.{ownOf, usedAfter, slotAnswer}
 use Rattle.promises.specs.Samples.{Row, outcomeOf, samples, Hold, P4IsPaid, P5IsAnExchange, P9IsAChange}
@@ -32,7 +32,7 @@ each-row {A} {B} f g (x ∷ xs) p = (ap (headOr (f x)) p, each-row f g xs (ap re
     rest (y ∷ ys) = ys
 
 all-rows : map (λ (row : Row). outcomeOf (row .asked)) samples ≡ map (λ (row : Row). row .out) samples
-unfolding recordAnswer fieldAnswer kindAnswer isService isCapture isForm namedBy layoutOf table rowAt trailerAnswer fileAnswer fits ownOf usedAfter slotAnswer leadAnswer generalRight boxRight termOf addedBy ruleOf dateOf isDate daysIn isLeap digitsOf valueOf isOf
+unfolding recordAnswer fieldAnswer kindAnswer isService isCapture isForm namedBy layoutOf table rowAt figuresAnswer fileAnswer fits ownOf usedAfter slotAnswer leadAnswer generalRight boxRight termOf addedBy ruleOf dateOf isDate daysIn isLeap digitsOf valueOf isOf
 all-rows = refl
 
 pub samples-hold : Hold samples

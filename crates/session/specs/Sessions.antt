@@ -20,7 +20,7 @@ use Rattle.record.specs.declared.Decoded.the-variants as decoded
 use Rattle.record.specs.Values.{decodeOf}
 use Rattle.file.specs.declared.File.{File}
 use Rattle.file.specs.declared.Figures.{Figures}
-use Rattle.file.specs.Files.{freshFile, fileAnswer, fileWith, trailerAnswer}
+use Rattle.file.specs.Files.{freshFile, fileAnswer, fileWith, figuresAnswer}
 use Rattle.board.specs.declared.Lane.{Lane}
 use Rattle.board.specs.declared.Board.{Board}
 use Rattle.board.specs.Lanes.{paymentOf}
@@ -72,7 +72,7 @@ paying s p = posting s p (fileWith (s .file) (p .tally .centavos))
 abbrev pub meets : Session → Decoded → Answer
 meets s (decoded.Header h) = answer.Accepted
 meets s (decoded.Payment p) = payAnswer s (paidBy p)
-meets s (decoded.Trailer t) = trailerAnswer (s .file) (figuresIn t)
+meets s (decoded.Trailer t) = figuresAnswer (s .file) (figuresIn t)
 meets s (decoded.Refused why place) = answer.Refused why place
 
 -- the session that follows: payments of an open file appear together when its Z is accepted

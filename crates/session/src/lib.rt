@@ -1,7 +1,7 @@
 // A session takes the records of return files one after the other.
 ghost use mathlib.Core.Path.{_≡_};
 ghost use Rattle.record.specs.Values.{decodeOf};
-ghost use Rattle.file.specs.Files.{trailerAnswer};
+ghost use Rattle.file.specs.Files.{figuresAnswer};
 ghost use Rattle.board.specs.Lanes.{paymentOf};
 ghost use Rattle.board.specs.Boards.{postAnswer};
 ghost use Rattle.session.specs.Sessions.{freshSession, openedAt, closedAt, expectsThe, expects, payAnswer, paying, posting, meets, follows, took, takeOf, abandonOf, finishOf};
@@ -129,7 +129,7 @@ impl Session {
 
     // 13, 14, or the session with the file's payments on its board.
     fn close(self, shown: Figures) -> Took
-        ensures { λ r. ⌜ r ≡ took (trailerAnswer (self .file) shown) (closedAt (self .work)) self ⌝ }
+        ensures { λ r. ⌜ r ≡ took (figuresAnswer (self .file) shown) (closedAt (self .work)) self ⌝ }
     {
         let file = self.file;
         let a = file.judge(shown);

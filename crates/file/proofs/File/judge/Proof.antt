@@ -2,24 +2,24 @@
 use Prim.Native.Nat.{_+_}
 use native.Mathlib.Omega.{arith}
 use borrow.Author.Tests.{eq-eqb, ne-eqb}
-use Rattle.file.specs.Files.{trailerAnswer}
+use Rattle.file.specs.Files.{figuresAnswer}
 use Rattle.file.proofs.File.judge.Statement.{statement}
 use Rattle.file.proofs.File.judge.Tie as tie
 
 returns : tie.Need-returns
-unfolding trailerAnswer
+unfolding figuresAnswer
 returns c = let a = c .before .before .args in simp (ne-eqb (a .shown .count) (a .self .taken + 2) (λ e. omega arith))
 
 returns-2 : tie.Need-returns-2
-unfolding trailerAnswer
+unfolding figuresAnswer
 returns-2 c = let a = c .before .before .before .before .before .args in simp (ne-eqb (a .shown .count) (a .self .taken + 2) (λ e. omega arith))
 
 returns-3 : tie.Need-returns-3
-unfolding trailerAnswer
+unfolding figuresAnswer
 returns-3 c = let a = c .before .before .before .before .before .before .before .before .args in simp (eq-eqb (a .shown .count) (a .self .taken + 2) (omega arith), ne-eqb _ _ (c .if3 .taken))
 
 returns-4 : tie.Need-returns-4
-unfolding trailerAnswer
+unfolding figuresAnswer
 returns-4 c = let a = c .before .before .before .before .before .before .before .before .args in simp (eq-eqb (a .shown .count) (a .self .taken + 2) (omega arith), eq-eqb _ _ (c .if3 .left))
 
 pub judge-spec : {M : Type 1} → statement M
