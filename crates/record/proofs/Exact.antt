@@ -1,28 +1,23 @@
 -- The quick look is exact: it sees an accepted G, and nothing else. Assumes nothing.
 use Prim.Native.Nat.{ℕ, _+_, _-_, _≤_}
-use mathlib.Core.Bool.{Bool, true, false, cond, _&&_, _||_, and-eq-true-iff}
-use mathlib.Core.List.{List, [], _∷_, _++_}
+use mathlib.Core.Bool.{true, false, _&&_, and-eq-true-iff}
+use mathlib.Core.List.{List}
 use mathlib.Core.Logic.{_↔_}
-use mathlib.Core.Path.{_≡_, refl, sym, ap, _∙_}
+use mathlib.Core.Path.{_≡_, refl, ap, _∙_}
 use native.Mathlib.Omega.{arith}
-use borrow.Author.Tests.{eqb-true, eq-eqb, leb-true, le-leb}
-use lib.Dec.{eqb, leb}
 use lib.ListN.{length, getD, take, drop, length-drop}
-use lib.Seq.{drop-drop, take-take, take-add, length-take-le}
+use lib.Seq.{length-take-le}
 use Rattle.answer.specs.declared.Reason.{Reason}
-use Rattle.answer.specs.declared.Reason.the-variants.{NoDigit, NoText, FixedDiffers, NoDate, UnknownCode}
+use Rattle.answer.specs.declared.Reason.the-variants.{NoDate}
 use Rattle.answer.specs.declared.Answer.{Answer}
 use Rattle.answer.specs.declared.Answer.the-variants.{Accepted, Refused}
-use Rattle.answer.specs.Orders.{asked, _then_, behind}
-use Rattle.answer.proofs.Orders.{asked-accepts, then-accepts, first-accepts}
+use Rattle.answer.specs.Orders.{_then_, behind}
 use Rattle.decimal.specs.declared.Class.the-variants.{Digit, Blank, Text}
-use Rattle.decimal.specs.Bytes.{within, isOf, all, eachIs}
-use Rattle.decimal.proofs.Bytes.{all-joins, all-of-part, each-accepts}
+use Rattle.decimal.specs.Bytes.{isOf, all}
 use Rattle.decimal.specs.Numbers.{numberOf, lowNumberOf}
 use Rattle.decimal.proofs.Finite.{never}
 use Rattle.decimal.proofs.Numbers.{low-of-digits}
 use Rattle.calendar.specs.declared.Date.{Date}
-use Rattle.calendar.specs.declared.Dated.{Dated}
 use Rattle.calendar.specs.declared.Dated.the-variants as days
 use Rattle.calendar.specs.Dates.{dateOf, isOne}
 use Rattle.barcode.specs.declared.Fields.{Fields}
@@ -32,121 +27,25 @@ use Rattle.barcode.specs.declared.Decoded.the-variants as read
 use Rattle.barcode.specs.Codes as codes
 use Rattle.barcode.specs.Codes.{barcodeAnswer, issuerOf, payeeOf, fieldsOf}
 use Rattle.barcode.proofs.OnePass.{unequal}
-use Rattle.kinds.proofs.KindLaws.{date-accepted}
-use Rattle.kinds.specs.Kinds.{same, isCapture, isForm, kindAnswer}
-use Rattle.layout.specs.declared.Field.{Field}
-use Rattle.layout.specs.declared.Kind.the-variants as kind
 use Rattle.layout.specs.declared.Named.{Named}
 use Rattle.layout.specs.declared.Named.the-variants.{Is, Other}
 use Rattle.layout.specs.declared.Record.the-variants.{Header, Payment, Trailer}
 use Rattle.layout.specs.Layouts.{recordLength, namedBy, layoutOf, rowAt, table, accountRow, barcodeRow, receivedRow, numberRow, branchRow, captureRow, authenticationRow, formRow, paymentBlankRow, paidRow, creditedRow, tariffRow}
+use Rattle.kinds.specs.Kinds.{isCapture, isForm}
 use Rattle.record.specs.declared.Decoded.{Decoded}
 use Rattle.record.specs.declared.Decoded.the-variants as decoded
 use Rattle.record.specs.declared.Payment.{Payment as Shows}
 use Rattle.record.specs.declared.quick.Seen.the-variants.{Paid, Other as Unpaid}
 use Rattle.record.specs.declared.Pays.the-variants.{To, Nothing}
 use Rattle.record.specs.Looks.{spanOf, isPlain, isCoded, isDated, isPayment, looksPaid, seenOf}
-use Rattle.record.specs.Records.{partOf, fieldAnswer, bodyAnswer, recordAnswer}
+use Rattle.record.specs.Records.{partOf, recordAnswer}
 use Rattle.record.specs.Values.{shownOf, unlessRefused, decodeOf, paysOf}
-use Rattle.record.proofs.Shown.{accepted-is, named-is, field-accepts}
-use Rattle.record.proofs.Looks.{places-length}
+use Rattle.record.proofs.Shown.{accepted-is, right-fields-are-accepted}
+use Rattle.record.proofs.Looks.{places-length, inner, named-payment, text, money, digits, blank, capture, form, code, date, captured, mark, joined, one-byte}
 
--- a part of a part
-inner : (ok : ℕ → Bool) (rec : List ℕ) (k n j m : ℕ) → j + m ≤ n → all ok (take n (drop k rec)) ≡ true → all ok (take m (drop (k + j) rec)) ≡ true
-inner ok rec k n j m h t =
-    let xs = drop k rec in
-    let s : j + (n - j) ≡ n = omega arith in
-    let split : take n xs ≡ take j xs ++ take (n - j) (drop j xs) = ap (λ (c : ℕ). take c xs) (sym s) ∙ take-add j (n - j) xs in
-    let both =
-    and-eq-true-iff (all ok (take j xs)) (all ok (take (n - j) (drop j xs))) .0 (sym (all-joins ok (take j xs) (take (n - j) (drop j xs))) ∙ ap (all ok) (sym split) ∙ t) in
-    let right : all ok (take (n - j) (drop (k + j) rec)) ≡ true = rw (drop-drop j k rec) at (both .1) in
-    ap (all ok) (sym (take-take m (n - j) (drop (k + j) rec) (omega arith))) ∙ all-of-part ok 0 m (take (n - j) (drop (k + j) rec)) right
-
-named-payment : (b : ℕ) → namedBy b ≡ Is Payment → b ≡ 71
-unfolding namedBy
-named-payment b e = go (eqb b 65) (eqb b 71) (eqb b 90) refl e
-  where
-    go : (t u v : Bool) → eqb b 71 ≡ u → _≡_ {A = Named} (cond t (Is Header) (cond u (Is Payment) (cond v (Is Trailer) Other))) (Is Payment) → b ≡ 71
-    go true u v f q = let z : _≡_ {A = ℕ} 0 1 = cc in absurd (omega arith)
-    go false true v f q = eqb-true b 71 f
-    go false false true f q = let z : _≡_ {A = ℕ} 0 1 = cc in absurd (omega arith)
-    go false false false f q = let z : _≡_ {A = ℕ} 0 1 = cc in absurd (omega arith)
-
--- Kinds, and what is right of their bytes.
-
-text : (bs : List ℕ) → (kindAnswer kind.Text bs ≡ Accepted) ↔ (all (isOf Text) bs ≡ true)
-unfolding kindAnswer
-text bs = each-accepts (isOf Text) NoText 1 bs
-
-money : (bs : List ℕ) → (kindAnswer kind.Money bs ≡ Accepted) ↔ (all (isOf Digit) bs ≡ true)
-unfolding kindAnswer
-money bs = each-accepts (isOf Digit) NoDigit 1 bs
-
-digits : (bs : List ℕ) → (kindAnswer kind.Digits bs ≡ Accepted) ↔ (all (isOf Digit) bs ≡ true)
-unfolding kindAnswer
-digits bs = each-accepts (isOf Digit) NoDigit 1 bs
-
-blank : (bs : List ℕ) → (kindAnswer kind.Blank bs ≡ Accepted) ↔ (all (isOf Blank) bs ≡ true)
-unfolding kindAnswer
-blank bs = asked-accepts (all (isOf Blank) bs) FixedDiffers 1
-
-capture : (bs : List ℕ) → (kindAnswer kind.Capture bs ≡ Accepted) ↔ (isCapture (getD bs 0 0) ≡ true)
-unfolding kindAnswer
-capture bs = asked-accepts (isCapture (getD bs 0 0)) UnknownCode 1
-
-form : (bs : List ℕ) → (kindAnswer kind.Form bs ≡ Accepted) ↔ (isForm (getD bs 0 0) ≡ true)
-unfolding kindAnswer
-form bs = asked-accepts (isForm (getD bs 0 0)) UnknownCode 1
-
-code : (bs : List ℕ) → (kindAnswer kind.Barcode bs ≡ Accepted) ↔ (barcodeAnswer bs ≡ Accepted)
-unfolding kindAnswer
-code bs = (λ e. e, λ e. e)
-
-date : (bs : List ℕ) → (kindAnswer kind.Date bs ≡ Accepted) ↔ (isOne (dateOf bs) ≡ true)
-unfolding kindAnswer
-date bs = (
-  λ e. asked-accepts (isOne (dateOf bs)) NoDate 1 .0 (then-accepts (eachIs (isOf Digit) NoDigit 1 bs) (asked (isOne (dateOf bs)) NoDate 1) .0 e .1),
-  go (dateOf bs) refl,
-)
-  where
-    go : (d : Dated) → dateOf bs ≡ d → isOne (dateOf bs) ≡ true → kindAnswer kind.Date bs ≡ Accepted
-    go (days.On d) f t = sym (date-accepted bs d f)
-    go days.NoDate f t = never (sym (ap isOne f) ∙ t)
-
--- a capture is text
-captured : (b : ℕ) → isCapture b ≡ true → isOf Text b ≡ true
-unfolding isCapture isOf
-captured b t = go (leb 49 b) (leb b 54) (leb 97 b) (leb b 102) refl refl refl refl t
-  where
-    text-byte : 32 ≤ b → b ≤ 126 → (within 32 126 b || within 160 255 b) ≡ true
-    text-byte h k = rw (le-leb 32 b h, le-leb b 126 k)
-
-    go : (p q r s : Bool) → leb 49 b ≡ p → leb b 54 ≡ q → leb 97 b ≡ r → leb b 102 ≡ s → ((p && q) || (r && s)) ≡ true → (within 32 126 b || within 160 255 b) ≡ true
-    go true true r s ep eq er es t = text-byte (omega (arith, leb-true 49 b ep)) (omega (arith, leb-true b 54 eq))
-    go true false true true ep eq er es t = text-byte (omega (arith, leb-true 97 b er)) (omega (arith, leb-true b 102 es))
-    go true false true false ep eq er es t = never t
-    go true false false s ep eq er es t = never t
-    go false q true true ep eq er es t = text-byte (omega (arith, leb-true 97 b er)) (omega (arith, leb-true b 102 es))
-    go false q true false ep eq er es t = never t
-    go false q false s ep eq er es t = never t
-
-mark : (rec : List ℕ) → length rec ≡ recordLength → getD rec 0 0 ≡ 71 → kindAnswer (kind.Mark 71) (take 1 (drop 0 rec)) ≡ Accepted
-unfolding kindAnswer
-mark [] n e = absurd (omega arith)
-mark (b ∷ rec) n e = asked-accepts (same (b ∷ []) (71 ∷ [])) FixedDiffers 1 .1 (and-eq-true-iff (eqb b 71) true .1 (eq-eqb b 71 e, refl))
-
--- neighbouring parts
-joined : (ok : ℕ → Bool) (rec : List ℕ) (k i j : ℕ) → all ok (take i (drop k rec)) ≡ true → all ok (take j (drop (k + i) rec)) ≡ true
-    → all ok (take (i + j) (drop k rec)) ≡ true
-joined ok rec k i j t u =
-    let later : all ok (take j (drop i (drop k rec))) ≡ true = rw (drop-drop i k rec) u in
-    rw (take-add i j (drop k rec), all-joins ok (take i (drop k rec)) (take j (drop i (drop k rec))))
-    (and-eq-true-iff (all ok (take i (drop k rec))) (all ok (take j (drop i (drop k rec)))) .1 (t, later))
-
-one-byte : (bs : List ℕ) → length bs ≡ 1 → isOf Text (getD bs 0 0) ≡ true → all (isOf Text) bs ≡ true
-one-byte [] n t = absurd (omega arith)
-one-byte (b ∷ []) n t = and-eq-true-iff (isOf Text b) true .1 (t, refl)
-one-byte (b ∷ c ∷ bs) n t = absurd (omega arith)
+infixr 20 _and_
+_and_ : {A B : Type 0} → A → B → A × B
+a and b = (a, b)
 
 -- What the look asks of a G, and what its fields are asked.
 module _ (rec : List ℕ) where
@@ -178,33 +77,44 @@ module _ (rec : List ℕ) where
   Right = (isPlain rec ≡ true) × (isCoded rec ≡ true) × (isDated rec ≡ true) × (barcodeAnswer (partOf (rowAt barcodeRow) rec) ≡ Accepted)
 
   module _ (n : length rec ≡ recordLength) where
-    holds : namedBy (getD rec 0 0) ≡ Is Payment → Right → bodyAnswer Payment rec ≡ Accepted
+    holds : namedBy (getD rec 0 0) ≡ Is Payment → Right → recordAnswer rec ≡ Accepted
     unfolding layoutOf rowAt table
     holds named right =
         let p = plain .0 (right .0) in
         let c = coded .0 (right .1) in
         let d = dated .0 (right .2) in
-        let is : (f : Field) → kindAnswer (f .kind) (partOf f rec) ≡ Accepted → fieldAnswer rec f ≡ Accepted = λ f. field-accepts rec f .1 in
-        first-accepts (fieldAnswer rec) (layoutOf Payment) .1
-        (is _ (mark rec n (named-payment (getD rec 0 0) named)), (is _ (text _ .1 (p .0)), (is _ (date _ .1 (d .0)), (is _ (date _ .1 (d .1)), (is _ (code _ .1 (right .3)), (is _ (money _ .1 (inner (isOf Digit) rec 81 27 0 12 (omega arith) (p .2))), (is _ (money _ .1 (inner (isOf Digit) rec 81 27 12 7 (omega arith) (p .2))), (is _ (digits _ .1 (inner (isOf Digit) rec 81 27 19 8 (omega arith) (p .2))), (is _ (text _ .1 (inner (isOf Text) rec 108 32 0 8 (omega arith) (p .1))), (is _ (capture _ .1 (c .0)), (is _ (text _ .1 (inner (isOf Text) rec 108 32 9 23 (omega arith) (p .1))), (is _ (form _ .1 (c .1)), (is _ (blank _ .1 (p .3)), tt)))))))))))))
+        right-fields-are-accepted Payment rec n named .1
+        (mark rec n (named-payment (getD rec 0 0) named)
+        and text _ .1 (p .0)
+        and date _ .1 (d .0)
+        and date _ .1 (d .1)
+        and code _ .1 (right .3)
+        and money _ .1 (inner (isOf Digit) rec 81 27 0 12 (omega arith) (p .2))
+        and money _ .1 (inner (isOf Digit) rec 81 27 12 7 (omega arith) (p .2))
+        and digits _ .1 (inner (isOf Digit) rec 81 27 19 8 (omega arith) (p .2))
+        and text _ .1 (inner (isOf Text) rec 108 32 0 8 (omega arith) (p .1))
+        and capture _ .1 (c .0)
+        and text _ .1 (inner (isOf Text) rec 108 32 9 23 (omega arith) (p .1))
+        and form _ .1 (c .1)
+        and blank _ .1 (p .3)
+        and tt)
 
-    seen : bodyAnswer Payment rec ≡ Accepted → Right
+    seen : namedBy (getD rec 0 0) ≡ Is Payment → recordAnswer rec ≡ Accepted → Right
     unfolding layoutOf rowAt table
-    seen e =
-        let each = first-accepts (fieldAnswer rec) (layoutOf Payment) .0 e in
-        let is : (f : Field) → fieldAnswer rec f ≡ Accepted → kindAnswer (f .kind) (partOf f rec) ≡ Accepted = λ f. field-accepts rec f .0 in
-        let account = text _ .0 (is _ (each .1 .0)) in
-        let paid = date _ .0 (is _ (each .1 .1 .0)) in
-        let credited = date _ .0 (is _ (each .1 .1 .1 .0)) in
-        let code = code _ .0 (is _ (each .1 .1 .1 .1 .0)) in
-        let received = money _ .0 (is _ (each .1 .1 .1 .1 .1 .0)) in
-        let tariff = money _ .0 (is _ (each .1 .1 .1 .1 .1 .1 .0)) in
-        let number = digits _ .0 (is _ (each .1 .1 .1 .1 .1 .1 .1 .0)) in
-        let branch = text _ .0 (is _ (each .1 .1 .1 .1 .1 .1 .1 .1 .0)) in
-        let taken = capture _ .0 (is _ (each .1 .1 .1 .1 .1 .1 .1 .1 .1 .0)) in
-        let authentication = text _ .0 (is _ (each .1 .1 .1 .1 .1 .1 .1 .1 .1 .1 .0)) in
-        let form = form _ .0 (is _ (each .1 .1 .1 .1 .1 .1 .1 .1 .1 .1 .1 .0)) in
-        let rest = blank _ .0 (is _ (each .1 .1 .1 .1 .1 .1 .1 .1 .1 .1 .1 .1 .0)) in
+    seen named e =
+        let each = right-fields-are-accepted Payment rec n named .0 e in
+        let account = text _ .0 (each .1 .0) in
+        let paid = date _ .0 (each .1 .1 .0) in
+        let credited = date _ .0 (each .1 .1 .1 .0) in
+        let code = code _ .0 (each .1 .1 .1 .1 .0) in
+        let received = money _ .0 (each .1 .1 .1 .1 .1 .0) in
+        let tariff = money _ .0 (each .1 .1 .1 .1 .1 .1 .0) in
+        let number = digits _ .0 (each .1 .1 .1 .1 .1 .1 .1 .0) in
+        let branch = text _ .0 (each .1 .1 .1 .1 .1 .1 .1 .1 .0) in
+        let taken = capture _ .0 (each .1 .1 .1 .1 .1 .1 .1 .1 .1 .0) in
+        let authentication = text _ .0 (each .1 .1 .1 .1 .1 .1 .1 .1 .1 .1 .0) in
+        let form = form _ .0 (each .1 .1 .1 .1 .1 .1 .1 .1 .1 .1 .1 .0) in
+        let rest = blank _ .0 (each .1 .1 .1 .1 .1 .1 .1 .1 .1 .1 .1 .1 .0) in
         let between = one-byte (take 1 (drop 116 rec)) (places-length rec n 117 117 (omega arith)) (captured _ taken) in
         let texts = joined (isOf Text) rec 108 9 23 (joined (isOf Text) rec 108 8 1 branch between) authentication in
         let numbers = joined (isOf Digit) rec 81 19 8 (joined (isOf Digit) rec 81 12 7 received tariff) number in
@@ -237,7 +147,7 @@ not-sized rec h = unseen rec (λ a p. h (accepted-is rec a .0))
 
 module _ (rec : List ℕ) (n : length rec ≡ recordLength) where
   right-when : recordAnswer rec ≡ Accepted → isPayment (namedBy (getD rec 0 0)) ≡ true → Right rec
-  right-when a p = seen rec n (sym (named-is Payment rec n (payment-named _ p)) ∙ a)
+  right-when a p = seen rec n (payment-named _ p) a
 
   pub not-looking : looksPaid rec ≡ false → Unseen rec
   not-looking f =
@@ -269,7 +179,7 @@ module _ (rec : List ℕ) (n : length rec ≡ recordLength) where
         (payment-named _ (both .0), more .0, more .1)
 
     accepted : recordAnswer rec ≡ Accepted
-    accepted = named-is Payment rec n (looked .0) ∙ holds rec n (looked .0) (looked .1, looked .2, dates, right)
+    accepted = holds rec n (looked .0) (looked .1, looked .2, dates, right)
 
     -- a stretch of the digits behind the barcode
     low : (j m : ℕ) → j + m ≤ 27 → m ≤ 19 → {c : ℕ} → c ≡ lowNumberOf (take m (drop (81 + j) rec)) → c ≡ numberOf (take m (drop (81 + j) rec))

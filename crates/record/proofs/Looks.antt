@@ -1,22 +1,37 @@
 -- Laws of what the quick look asks, row by row and part by part. Assumes nothing.
 use Prim.Native.Nat.{ℕ, _+_, _-_, _≤_, _<_}
-use mathlib.Core.Bool.{Bool, true, false, cond, _&&_, and-true}
-use mathlib.Core.List.{List, []}
+use mathlib.Core.Bool.{Bool, true, false, cond, _&&_, and-true, _||_, and-eq-true-iff}
+use mathlib.Core.List.{List, [], _∷_, _++_}
+use mathlib.Core.Logic.{_↔_}
 use mathlib.Core.Path.{_≡_, refl, sym, ap, _∙_}
 use native.Mathlib.Numerals.{add-one}
 use native.Mathlib.Omega.{arith}
+use borrow.Author.Tests.{eqb-true, eq-eqb, leb-true, le-leb}
 use lib.Bits.{bitOr}
-use lib.Dec.{eqb}
+use lib.Dec.{eqb, leb}
 use lib.ListN.{length, getD, take, drop, length-drop, drop-of-length-le}
-use lib.Seq.{take-all, drop-cons, length-take-le}
+use lib.Seq.{take-all, drop-cons, length-take-le, drop-drop, take-take, take-add}
+use Rattle.answer.specs.declared.Reason.the-variants.{NoDigit, NoText, FixedDiffers, NoDate, UnknownCode}
+use Rattle.answer.specs.declared.Answer.the-variants.{Accepted}
+use Rattle.answer.specs.Orders.{asked, _then_}
+use Rattle.answer.proofs.Orders.{asked-accepts, then-accepts}
 use Rattle.decimal.specs.declared.Class.the-variants.{Digit, Blank, Text}
-use Rattle.decimal.specs.Bytes.{isOf, all}
-use Rattle.decimal.proofs.Bytes.{flag-on, row-fails, last-row, two-flags}
+use Rattle.decimal.specs.Bytes.{isOf, all, within, eachIs}
+use Rattle.decimal.proofs.Bytes.{flag-on, row-fails, last-row, two-flags, all-joins, all-of-part, each-accepts}
 use Rattle.decimal.specs.Places.{places}
-use Rattle.kinds.specs.Kinds.{isCapture, isForm}
+use Rattle.decimal.proofs.Finite.{never}
+use Rattle.calendar.specs.declared.Date.{Date}
+use Rattle.calendar.specs.declared.Dated.{Dated}
+use Rattle.calendar.specs.declared.Dated.the-variants as days
+use Rattle.calendar.specs.Dates.{dateOf, isOne}
+use Rattle.barcode.specs.Codes.{barcodeAnswer}
 use Rattle.layout.specs.declared.Kind.the-variants as kind
-use Rattle.layout.specs.Layouts.{recordLength, rowAt, accountRow, receivedRow, numberRow, branchRow, captureRow, authenticationRow, formRow, paymentBlankRow}
-use Rattle.record.specs.declared.Decoded.the-variants as decoded
+use Rattle.layout.specs.Layouts.{recordLength, rowAt, accountRow, receivedRow, numberRow, branchRow, captureRow, authenticationRow, formRow, paymentBlankRow, namedBy}
+use Rattle.layout.specs.declared.Named.{Named}
+use Rattle.layout.specs.declared.Named.the-variants.{Is, Other}
+use Rattle.layout.specs.declared.Record.the-variants.{Header, Payment, Trailer}
+use Rattle.kinds.specs.Kinds.{isCapture, isForm, same, kindAnswer}
+use Rattle.kinds.proofs.KindLaws.{date-accepted}
 use Rattle.record.specs.Looks.{spanOf, rowsHold, isPlain, isCoded}
 use Rattle.record.specs.Records.{partOf}
 
@@ -106,3 +121,100 @@ module _ (rec : List ℕ) where
   pub form-is : {t u : Bool} → t ≡ isCapture (getD (partOf (rowAt captureRow) rec) 0 0) → t ≡ true → u ≡ isForm (getD (partOf (rowAt formRow) rec) 0 0) → u ≡ isCoded rec
   unfolding isCoded
   form-is e f g = rw (sym e ∙ f, g)
+
+-- a part of a part
+pub inner : (ok : ℕ → Bool) (rec : List ℕ) (k n j m : ℕ) → j + m ≤ n → all ok (take n (drop k rec)) ≡ true → all ok (take m (drop (k + j) rec)) ≡ true
+inner ok rec k n j m h t =
+    let xs = drop k rec in
+    let s : j + (n - j) ≡ n = omega arith in
+    let split : take n xs ≡ take j xs ++ take (n - j) (drop j xs) = ap (λ (c : ℕ). take c xs) (sym s) ∙ take-add j (n - j) xs in
+    let both =
+    and-eq-true-iff (all ok (take j xs)) (all ok (take (n - j) (drop j xs))) .0 (sym (all-joins ok (take j xs) (take (n - j) (drop j xs))) ∙ ap (all ok) (sym split) ∙ t) in
+    let right : all ok (take (n - j) (drop (k + j) rec)) ≡ true = rw (drop-drop j k rec) at (both .1) in
+    ap (all ok) (sym (take-take m (n - j) (drop (k + j) rec) (omega arith))) ∙ all-of-part ok 0 m (take (n - j) (drop (k + j) rec)) right
+
+pub named-payment : (b : ℕ) → namedBy b ≡ Is Payment → b ≡ 71
+unfolding namedBy
+named-payment b e = go (eqb b 65) (eqb b 71) (eqb b 90) refl e
+  where
+    go : (t u v : Bool) → eqb b 71 ≡ u → _≡_ {A = Named} (cond t (Is Header) (cond u (Is Payment) (cond v (Is Trailer) Other))) (Is Payment) → b ≡ 71
+    go true u v f q = let z : _≡_ {A = ℕ} 0 1 = cc in absurd (omega arith)
+    go false true v f q = eqb-true b 71 f
+    go false false true f q = let z : _≡_ {A = ℕ} 0 1 = cc in absurd (omega arith)
+    go false false false f q = let z : _≡_ {A = ℕ} 0 1 = cc in absurd (omega arith)
+
+-- Kinds, and what is right of their bytes.
+
+pub text : (bs : List ℕ) → (kindAnswer kind.Text bs ≡ Accepted) ↔ (all (isOf Text) bs ≡ true)
+unfolding kindAnswer
+text bs = each-accepts (isOf Text) NoText 1 bs
+
+pub money : (bs : List ℕ) → (kindAnswer kind.Money bs ≡ Accepted) ↔ (all (isOf Digit) bs ≡ true)
+unfolding kindAnswer
+money bs = each-accepts (isOf Digit) NoDigit 1 bs
+
+pub digits : (bs : List ℕ) → (kindAnswer kind.Digits bs ≡ Accepted) ↔ (all (isOf Digit) bs ≡ true)
+unfolding kindAnswer
+digits bs = each-accepts (isOf Digit) NoDigit 1 bs
+
+pub blank : (bs : List ℕ) → (kindAnswer kind.Blank bs ≡ Accepted) ↔ (all (isOf Blank) bs ≡ true)
+unfolding kindAnswer
+blank bs = asked-accepts (all (isOf Blank) bs) FixedDiffers 1
+
+pub capture : (bs : List ℕ) → (kindAnswer kind.Capture bs ≡ Accepted) ↔ (isCapture (getD bs 0 0) ≡ true)
+unfolding kindAnswer
+capture bs = asked-accepts (isCapture (getD bs 0 0)) UnknownCode 1
+
+pub form : (bs : List ℕ) → (kindAnswer kind.Form bs ≡ Accepted) ↔ (isForm (getD bs 0 0) ≡ true)
+unfolding kindAnswer
+form bs = asked-accepts (isForm (getD bs 0 0)) UnknownCode 1
+
+pub code : (bs : List ℕ) → (kindAnswer kind.Barcode bs ≡ Accepted) ↔ (barcodeAnswer bs ≡ Accepted)
+unfolding kindAnswer
+code bs = (λ e. e, λ e. e)
+
+pub date : (bs : List ℕ) → (kindAnswer kind.Date bs ≡ Accepted) ↔ (isOne (dateOf bs) ≡ true)
+unfolding kindAnswer
+date bs = (
+  λ e. asked-accepts (isOne (dateOf bs)) NoDate 1 .0 (then-accepts (eachIs (isOf Digit) NoDigit 1 bs) (asked (isOne (dateOf bs)) NoDate 1) .0 e .1),
+  go (dateOf bs) refl,
+)
+  where
+    go : (d : Dated) → dateOf bs ≡ d → isOne (dateOf bs) ≡ true → kindAnswer kind.Date bs ≡ Accepted
+    go (days.On d) f t = sym (date-accepted bs d f)
+    go days.NoDate f t = never (sym (ap isOne f) ∙ t)
+
+-- a capture is text
+pub captured : (b : ℕ) → isCapture b ≡ true → isOf Text b ≡ true
+unfolding isCapture isOf
+captured b t = go (leb 49 b) (leb b 54) (leb 97 b) (leb b 102) refl refl refl refl t
+  where
+    text-byte : 32 ≤ b → b ≤ 126 → (within 32 126 b || within 160 255 b) ≡ true
+    text-byte h k = rw (le-leb 32 b h, le-leb b 126 k)
+
+    go : (p q r s : Bool) → leb 49 b ≡ p → leb b 54 ≡ q → leb 97 b ≡ r → leb b 102 ≡ s → ((p && q) || (r && s)) ≡ true → (within 32 126 b || within 160 255 b) ≡ true
+    go true true r s ep eq er es t = text-byte (omega (arith, leb-true 49 b ep)) (omega (arith, leb-true b 54 eq))
+    go true false true true ep eq er es t = text-byte (omega (arith, leb-true 97 b er)) (omega (arith, leb-true b 102 es))
+    go true false true false ep eq er es t = never t
+    go true false false s ep eq er es t = never t
+    go false q true true ep eq er es t = text-byte (omega (arith, leb-true 97 b er)) (omega (arith, leb-true b 102 es))
+    go false q true false ep eq er es t = never t
+    go false q false s ep eq er es t = never t
+
+pub mark : (rec : List ℕ) → length rec ≡ recordLength → getD rec 0 0 ≡ 71 → kindAnswer (kind.Mark 71) (take 1 (drop 0 rec)) ≡ Accepted
+unfolding kindAnswer
+mark [] n e = absurd (omega arith)
+mark (b ∷ rec) n e = asked-accepts (same (b ∷ []) (71 ∷ [])) FixedDiffers 1 .1 (and-eq-true-iff (eqb b 71) true .1 (eq-eqb b 71 e, refl))
+
+-- neighbouring parts
+pub joined : (ok : ℕ → Bool) (rec : List ℕ) (k i j : ℕ) → all ok (take i (drop k rec)) ≡ true → all ok (take j (drop (k + i) rec)) ≡ true
+    → all ok (take (i + j) (drop k rec)) ≡ true
+joined ok rec k i j t u =
+    let later : all ok (take j (drop i (drop k rec))) ≡ true = rw (drop-drop i k rec) u in
+    rw (take-add i j (drop k rec), all-joins ok (take i (drop k rec)) (take j (drop i (drop k rec))))
+    (and-eq-true-iff (all ok (take i (drop k rec))) (all ok (take j (drop i (drop k rec)))) .1 (t, later))
+
+pub one-byte : (bs : List ℕ) → length bs ≡ 1 → isOf Text (getD bs 0 0) ≡ true → all (isOf Text) bs ≡ true
+one-byte [] n t = absurd (omega arith)
+one-byte (b ∷ []) n t = and-eq-true-iff (isOf Text b) true .1 (t, refl)
+one-byte (b ∷ c ∷ bs) n t = absurd (omega arith)

@@ -58,7 +58,7 @@ decode-answers rec = go (recordAnswer rec) (namedBy (getD rec 0 0)) refl (accept
     go Accepted Other e h = h e .1
 
 -- a field of a record is right where its bytes are right by its kind
-pub field-accepts : (rec : List ℕ) (f : Field) → (fieldAnswer rec f ≡ Accepted) ↔ (kindAnswer (f .kind) (partOf f rec) ≡ Accepted)
+field-accepts : (rec : List ℕ) (f : Field) → (fieldAnswer rec f ≡ Accepted) ↔ (kindAnswer (f .kind) (partOf f rec) ≡ Accepted)
 unfolding fieldAnswer
 field-accepts rec f = moved-accepts (behind (f .first - 1)) (kindAnswer (f .kind) (partOf f rec))
 
