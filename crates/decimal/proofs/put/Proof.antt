@@ -34,7 +34,9 @@ same-length : tie.Need-same-length
 same-length c = search needs
 
 returns-3 : tie.Need-returns-3
-returns-3 c = let a = c .before .before .before .before .before .before .before .before .args in put-mid (a .at) (a .piece .now) (a .out .now) refl (omega arith) (copied (a .at) (a .piece .now) (a .out .now) (omega arith) (c .before .before .copy .ensures .1))
+returns-3 c =
+    let a = c .before .before .before .before .before .before .before .before .args in
+    put-mid (a .at) (a .piece .now) (a .out .now) refl (omega arith) (copied (a .at) (a .piece .now) (a .out .now) (omega arith) (c .before .before .copy .ensures .1))
 
 pub put-spec : {M : Type 1} → statement M
 put-spec =

@@ -27,10 +27,14 @@ returns : tie.Need-returns
 returns c = date-accepted _ _ (sym (c .before .before .read-date .ensures) ∙ c .enum-told .given .1)
 
 returns-2 : tie.Need-returns-2
-returns-2 c = let e = no-date _ (sym (c .before .before .before .before .before .read-date .ensures) ∙ c .before .before .before .enum-told2 .given .1) in rw (sym (c .before .before .first-not .ensures) ∙ c .enum-told3 .given .1) at e
+returns-2 c =
+    let e = no-date _ (sym (c .before .before .before .before .before .read-date .ensures) ∙ c .before .before .before .enum-told2 .given .1) in
+    rw (sym (c .before .before .first-not .ensures) ∙ c .enum-told3 .given .1) at e
 
 returns-3 : tie.Need-returns-3
-returns-3 c = let e = no-date _ (sym (c .before .before .before .before .before .read-date .ensures) ∙ c .before .before .before .enum-told2 .given .1) in c .enum-told4 .given .1 ∙ (rw (sym (c .before .before .first-not .ensures) ∙ c .enum-told4 .given .1) at e)
+returns-3 c =
+    let e = no-date _ (sym (c .before .before .before .before .before .read-date .ensures) ∙ c .before .before .before .enum-told2 .given .1) in
+    c .enum-told4 .given .1 ∙ (rw (sym (c .before .before .first-not .ensures) ∙ c .enum-told4 .given .1) at e)
 
 pub check-date-spec : {M : Type 1} → statement M
 check-date-spec =

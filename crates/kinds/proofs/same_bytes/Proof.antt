@@ -27,7 +27,9 @@ shared-slice-read-if2-2 : tie.Need-shared-slice-read-if2-2 Inv-loop μ-loop
 shared-slice-read-if2-2 c = search needs
 
 returns-2 : tie.Need-returns-2 Inv-loop μ-loop
-returns-2 c = let a = c .before .before .before .before .before .before .args in same-here (a .a .now) (a .b .now) (c .before .before .before .before .loop .i) (search needs) (search needs) (c .if2 .taken) (c .before .before .before .before .loop .inv .1)
+returns-2 c =
+    let a = c .before .before .before .before .before .before .args in
+    same-here (a .a .now) (a .b .now) (c .before .before .before .before .loop .i) (search needs) (search needs) (c .if2 .taken) (c .before .before .before .before .loop .inv .1)
 
 add-i : tie.Need-add-i Inv-loop μ-loop
 add-i c = search needs
@@ -36,10 +38,14 @@ loop-less : tie.Need-loop-less Inv-loop μ-loop
 loop-less c = search needs
 
 loop-again : tie.Need-loop-again Inv-loop μ-loop
-loop-again c = let a = c .before .before .before .before .before .before .args in (search needs, same-later (a .a .now) (a .b .now) (c .before .before .before .before .loop .i) (search needs) (search needs) (c .if2 .left) (c .before .before .before .before .loop .inv .1))
+loop-again c =
+    let a = c .before .before .before .before .before .before .args in
+    (search needs, same-later (a .a .now) (a .b .now) (c .before .before .before .before .loop .i) (search needs) (search needs) (c .if2 .left) (c .before .before .before .before .loop .inv .1))
 
 returns-3 : tie.Need-returns-3 Inv-loop μ-loop
-returns-3 c = let a = c .before .before .before .args in same-end (a .a .now) (a .b .now) (c .before .loop .i) (c .loop-test .left) (search needs) (c .before .loop .inv .1)
+returns-3 c =
+    let a = c .before .before .before .args in
+    same-end (a .a .now) (a .b .now) (c .before .loop .i) (c .loop-test .left) (search needs) (c .before .loop .inv .1)
 
 pub same-bytes-spec : {M : Type 1} → statement M
 same-bytes-spec =

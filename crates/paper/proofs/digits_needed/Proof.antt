@@ -27,7 +27,9 @@ loop-again : tie.Need-loop-again Inv-loop μ-loop
 loop-again c = omega (arith, needed-more (c .before .loop .rest) (c .loop-test .taken))
 
 returns : tie.Need-returns Inv-loop μ-loop
-returns c = let e : c .before .loop .digits ≡ needed (c .before .before .args .n) = omega (arith, needed-none (c .before .loop .rest) (c .loop-test .left)) in (e, omega (arith, needed-few (c .before .before .args .n) (omega arith)))
+returns c =
+    let e : c .before .loop .digits ≡ needed (c .before .before .args .n) = omega (arith, needed-none (c .before .loop .rest) (c .loop-test .left)) in
+    (e, omega (arith, needed-few (c .before .before .args .n) (omega arith)))
 
 pub digits-needed-spec : {M : Type 1} → statement M
 digits-needed-spec =

@@ -48,10 +48,15 @@ same-length c = search needs
 returns : tie.Need-returns
 unfolding headLines
 returns c =
-    let room = c .before .before .before .before .before .before .before .before .before .before .before .before .before .before .before .before .before .before .before .before .before .before .before .before .before .before .before .pre in
-    let answer = rw (c .before .before .before .before .before .before .before .before .before .before .before .before .before .before .before .before .before .before .before .before .before .before .before .before .number .ensures) at (c .before .before .before .before .before .before .before .before .before .before .before .before .before .before .before .before .before .before .before .before .before .before .put-line .ensures) in
-    let place = rw (c .before .before .before .before .before .before .before .before .before .before .before .before .before .before .before .before .before .before .place .ensures) at (c .before .before .before .before .before .before .before .before .before .before .before .before .before .before .before .before .put-line2 .ensures) in
-    wrote-then (omega arith) answer (wrote-then (omega arith) place (wrote-then (omega arith) (c .before .before .before .before .before .before .before .before .before .before .before .put-line3 .ensures) (wrote-then (omega arith) (c .before .before .before .before .before .before .put-line4 .ensures) (c .before .before .put-sums .ensures))))
+    let files = c .before .before .before .before .before .before in
+    let records = files .before .before .before .before .before in
+    let place = records .before .before .before .before .before in
+    let answer = place .before .before .before .before .before .before in
+    let room = answer .before .before .before .before .before .pre in
+    let first = rw (answer .before .before .number .ensures) at (answer .put-line .ensures) in
+    let second = rw (place .before .before .place .ensures) at (place .put-line2 .ensures) in
+    let behind = wrote-then (omega arith) (files .put-line4 .ensures) (c .before .before .put-sums .ensures) in
+    wrote-then (omega arith) first (wrote-then (omega arith) second (wrote-then (omega arith) (records .put-line3 .ensures) behind))
 
 pub put-head-spec : {M : Type 1} → statement M
 put-head-spec =

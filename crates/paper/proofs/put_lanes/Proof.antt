@@ -40,13 +40,17 @@ loop-less : tie.Need-loop-less Inv-loop μ-loop
 loop-less c = search needs
 
 loop-again : tie.Need-loop-again Inv-loop μ-loop
-loop-again c = let a = c .before .before .before .before .before .before .before .before .before .args in (omega arith, lanes-turn (a .t1) (a .at) (a .out .now) (omega arith) (omega arith) (omega arith) (c .before .before .before .before .before .before .loop .inv .1) (c .before .before .put-lane .ensures))
+loop-again c =
+    let a = c .before .before .before .before .before .before .before .before .before .args in
+    (omega arith, lanes-turn (a .t1) (a .at) (a .out .now) (omega arith) (omega arith) (omega arith) (c .before .before .before .before .before .before .loop .inv .1) (c .before .before .put-lane .ensures))
 
 same-length : tie.Need-same-length Inv-loop μ-loop
 same-length c = search needs
 
 returns : tie.Need-returns Inv-loop μ-loop
-returns c = let a = c .before .before .before .before .args in lanes-end (a .t1) (a .at) (a .out .now) (omega arith) (omega arith) (omega arith) (c .before .loop .inv .1)
+returns c =
+    let a = c .before .before .before .before .args in
+    lanes-end (a .t1) (a .at) (a .out .now) (omega arith) (omega arith) (omega arith) (c .before .loop .inv .1)
 
 pub put-lanes-spec : {M : Type 1} → statement M
 put-lanes-spec =

@@ -21,7 +21,9 @@ same-length : tie.Need-same-length
 same-length c = search needs
 
 returns : tie.Need-returns
-returns c = let a = c .before .before .before .before .before .before .before .args in wrote-shown (a .width) (a .n) (a .at) (a .out .now) (omega arith) (omega arith) (omega arith) (search needs) (c .before .before .put-number .ensures .0) (c .before .before .put-number .ensures .1)
+returns c =
+    let a = c .before .before .before .before .before .before .before .args in
+    wrote-shown (a .width) (a .n) (a .at) (a .out .now) (omega arith) (omega arith) (omega arith) (search needs) (c .before .before .put-number .ensures .0) (c .before .before .put-number .ensures .1)
 
 pub put-shown-spec : {M : Type 1} → statement M
 put-shown-spec =

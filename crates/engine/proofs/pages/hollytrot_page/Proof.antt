@@ -10,7 +10,9 @@ said-requires : tie.Need-said-requires
 said-requires c κs = search needs
 
 returns : tie.Need-returns
-returns c = let a = c .before .before .before .before .args in numbered-past (a .answer) (paperOf (a .answer) (a .records) (a .files) (a .board)) (a .out .now) (lt-leb _ _ (c .before .if1 .taken)) (c .said .ensures)
+returns c =
+    let a = c .before .before .before .before .args in
+    numbered-past (a .answer) (paperOf (a .answer) (a .records) (a .files) (a .board)) (a .out .now) (lt-leb _ _ (c .before .if1 .taken)) (c .said .ensures)
 
 answer-from-requires : tie.Need-answer-from-requires
 answer-from-requires c κs = search needs
@@ -25,7 +27,10 @@ same-length : tie.Need-same-length
 same-length c = search needs
 
 returns-2 : tie.Need-returns-2
-returns-2 c = let a = c .before .before .before .before .before .before .before .before .before .args in let e = c .before .before .before .print .ensures in paged (a .answer) (a .records) (a .files) (a .board) (a .out .now) (le-leb _ _ (c .before .before .before .before .before .before .if1 .left)) (c .before .before .before .before .before .answer-from .ensures) (e .0) (e .1 .0) (c .said2 .ensures)
+returns-2 c =
+    let a = c .before .before .before .before .before .before .before .before .before .args in
+    let e = c .before .before .before .print .ensures in
+    paged (a .answer) (a .records) (a .files) (a .board) (a .out .now) (le-leb _ _ (c .before .before .before .before .before .before .if1 .left)) (c .before .before .before .before .before .answer-from .ensures) (e .0) (e .1 .0) (c .said2 .ensures)
 
 pub hollytrot-page-spec : {M : Type 1} → statement M
 hollytrot-page-spec =

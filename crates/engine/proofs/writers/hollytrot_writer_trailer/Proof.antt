@@ -19,7 +19,10 @@ same-length : tie.Need-same-length
 same-length c = search needs
 
 returns : tie.Need-returns
-returns c = let a = c .before .before .before .before .before .before .before .args in let e = c .before .before .before .trailer .ensures in written (λ w. trailerOf w (length (a .out .now))) trailerBytes (a .writer) (a .out .now) (c .before .before .before .before .before .writer-of .ensures) (e .0) (e .1) (c .wrote .ensures)
+returns c =
+    let a = c .before .before .before .before .before .before .before .args in
+    let e = c .before .before .before .trailer .ensures in
+    written (λ w. trailerOf w (length (a .out .now))) trailerBytes (a .writer) (a .out .now) (c .before .before .before .before .before .writer-of .ensures) (e .0) (e .1) (c .wrote .ensures)
 
 pub hollytrot-writer-trailer-spec : {M : Type 1} → statement M
 hollytrot-writer-trailer-spec =

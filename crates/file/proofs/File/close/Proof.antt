@@ -12,14 +12,18 @@ returns c = simp (lt-leb (c .before .before .args .self .taken) mostPayments (om
 
 returns-2 : tie.Need-returns-2
 unfolding closingAnswer
-returns-2 c = let f = c .before .before .before .before .args .self in simp (le-leb (f .taken) mostPayments (omega arith), lt-leb (f .total) mostCentavos (omega arith))
+returns-2 c =
+    let f = c .before .before .before .before .args .self in
+    simp (le-leb (f .taken) mostPayments (omega arith), lt-leb (f .total) mostCentavos (omega arith))
 
 add-t9 : tie.Need-add-t9
 add-t9 c = search needs
 
 returns-3 : tie.Need-returns-3
 unfolding closingAnswer
-returns-3 c = let f = c .before .before .before .before .before .args .self in simp (le-leb (f .taken) mostPayments (omega arith), le-leb (f .total) mostCentavos (omega arith))
+returns-3 c =
+    let f = c .before .before .before .before .before .args .self in
+    simp (le-leb (f .taken) mostPayments (omega arith), le-leb (f .total) mostCentavos (omega arith))
 
 pub close-spec : {M : Type 1} → statement M
 close-spec = tie.close (tie.spec returns returns-2 add-t9 returns-3)

@@ -16,11 +16,15 @@ returns-2 c = let a = c .before .before .before .before .before .args in simp (n
 
 returns-3 : tie.Need-returns-3
 unfolding figuresAnswer
-returns-3 c = let a = c .before .before .before .before .before .before .before .before .args in simp (eq-eqb (a .shown .count) (a .self .taken + 2) (omega arith), ne-eqb _ _ (c .if3 .taken))
+returns-3 c =
+    let a = c .before .before .before .before .before .before .before .before .args in
+    simp (eq-eqb (a .shown .count) (a .self .taken + 2) (omega arith), ne-eqb _ _ (c .if3 .taken))
 
 returns-4 : tie.Need-returns-4
 unfolding figuresAnswer
-returns-4 c = let a = c .before .before .before .before .before .before .before .before .args in simp (eq-eqb (a .shown .count) (a .self .taken + 2) (omega arith), eq-eqb _ _ (c .if3 .left))
+returns-4 c =
+    let a = c .before .before .before .before .before .before .before .before .args in
+    simp (eq-eqb (a .shown .count) (a .self .taken + 2) (omega arith), eq-eqb _ _ (c .if3 .left))
 
 pub judge-spec : {M : Type 1} → statement M
 judge-spec = tie.close (tie.spec returns returns-2 returns-3 returns-4)
