@@ -31,6 +31,11 @@ door-room w r given room e =
     let t = asked-accepts (eqb room recordLength && eqb given (givenLength r)) WrongLength 0 .0 (both .0) in
     eqb-true room recordLength (and-eq-true-iff (eqb room recordLength) (eqb given (givenLength r)) .0 t .0)
 
+-- what the door is told, asked with a length that is the one it asks
+pub door-told : (w : Writer) (r : Record) (room : ℕ) {n : ℕ} {a b : Answer} → n ≡ givenLength r → a ≡ doorAnswer w r n room → a ≡ b
+    → doorAnswer w r (givenLength r) room ≡ b
+door-told w r room e q told = ap (λ (k : ℕ). doorAnswer w r k room) (sym e) ∙ sym q ∙ told
+
 pub refusal-keeps-writer : RefusalKeepsWriter
 refusal-keeps-writer a new old h = refusal-keeps a new old h
 

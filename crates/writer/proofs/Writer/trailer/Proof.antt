@@ -1,13 +1,11 @@
 -- `writer::Writer::trailer` meets its contract. Assumes nothing.
-use Prim.Native.Nat.{ℕ}
 use mathlib.Core.Path.{refl, sym, ap, _∙_}
 use borrow.Author.Needs.{needs}
 use lib.ListN.{length}
 use Rattle.answer.proofs.Orders.{accepted-takes}
 use Rattle.file.specs.declared.Closed.{Closed}
 use Rattle.layout.specs.declared.Record.the-variants.{Trailer}
-use Rattle.writer.proofs.Doors.{count-written, made-as, bytes-as}
-use Rattle.writer.specs.Writers.{doorAnswer}
+use Rattle.writer.proofs.Doors.{door-told, count-written, made-as, bytes-as}
 use Rattle.writer.proofs.Writer.trailer.Statement.{statement}
 use Rattle.writer.proofs.Writer.trailer.Tie as tie
 
@@ -21,7 +19,12 @@ enum-told : tie.Need-enum-told
 enum-told c = search needs
 
 returns : tie.Need-returns
-returns c = (rw (sym (c .before .before .door .ensures ∙ ap (λ (n : ℕ). doorAnswer (c .before .before .before .before .before .args .self) Trailer n (length (c .before .before .before .before .before .args .out .now))) (c .before .before .before .given-length .ensures)) ∙ c .enum-told .given .1, c .enum-told .given .1), rw (c .enum-told .given .1))
+returns c =
+    let asking = c .before .before in
+    let a = asking .before .before .before .args in
+    let told = c .enum-told .given .1 in
+    let shut = door-told (a .self) Trailer (length (a .out .now)) (asking .before .given-length .ensures) (asking .door .ensures) told in
+    (rw (shut, told), rw told)
 
 enum-told-2 : tie.Need-enum-told-2
 enum-told-2 c = search needs
@@ -33,7 +36,15 @@ enum-told-3 : tie.Need-enum-told-3
 enum-told-3 c = search needs
 
 returns-2 : tie.Need-returns-2
-returns-2 c = (rw (sym (c .before .before .before .before .before .before .door .ensures ∙ ap (λ (n : ℕ). doorAnswer (c .before .before .before .before .before .before .before .before .before .args .self) Trailer n (length (c .before .before .before .before .before .before .before .before .before .args .out .now))) (c .before .before .before .before .before .before .before .given-length .ensures)) ∙ c .before .before .before .before .enum-told2 .given .1, sym (ap (λ (k : Closed). k .answer) (c .before .before .close .ensures)) ∙ c .enum-told3 .given .1, c .enum-told3 .given .1), rw (c .enum-told3 .given .1))
+returns-2 c =
+    let closing = c .before .before in
+    let opening = closing .before .before in
+    let asking = opening .before .before in
+    let a = asking .before .before .before .args in
+    let told = c .enum-told3 .given .1 in
+    let opened = door-told (a .self) Trailer (length (a .out .now)) (asking .before .given-length .ensures) (asking .door .ensures) (opening .enum-told2 .given .1) in
+    let full = sym (ap (λ (k : Closed). k .answer) (closing .close .ensures)) ∙ told in
+    (rw (opened, full, told), rw told)
 
 enum-told-4 : tie.Need-enum-told-4
 enum-told-4 c = search needs
@@ -60,13 +71,41 @@ same-length : tie.Need-same-length
 same-length c = search needs
 
 returns-3 : tie.Need-returns-3
-returns-3 c = let w = c .before .before .before .before .before .before .before .before .before .before .before .before .before .before .before .before .before .before .before .before .args .self in let cl = sym (ap (λ (k : Closed). k .answer) (c .before .before .before .before .before .before .before .before .before .before .before .before .before .close .ensures)) ∙ c .before .before .before .before .before .before .before .before .before .before .before .enum-told4 .given .1 in let fg = ap (λ (k : Closed). k .figures) (c .before .before .before .before .before .before .before .before .before .before .before .before .before .close .ensures) ∙ accepted-takes _ _ _ cl in let cb = count-written w cl fg _ refl (c .before .before .before .before .before .before .before .before .put-number .ensures .0) (c .before .before .before .before .before .before .before .before .put-number .ensures .1) in let mk = made-as w cl fg (length (c .before .before .before .before .before .before .before .before .before .before .before .before .before .before .before .before .before .before .before .before .args .out .now)) cb (c .before .before .before .before .make .ensures .0) in (rw (sym (c .before .before .before .before .before .before .before .before .before .before .before .before .before .before .before .before .before .door .ensures ∙ ap (λ (n : ℕ). doorAnswer (c .before .before .before .before .before .before .before .before .before .before .before .before .before .before .before .before .before .before .before .before .args .self) Trailer n (length (c .before .before .before .before .before .before .before .before .before .before .before .before .before .before .before .before .before .before .before .before .args .out .now))) (c .before .before .before .before .before .before .before .before .before .before .before .before .before .before .before .before .before .before .given-length .ensures)) ∙ c .before .before .before .before .before .before .before .before .before .before .before .before .before .before .before .enum-told2 .given .1, cl, sym mk ∙ c .enum-told5 .given .1, c .enum-told5 .given .1), bytes-as w cl fg (c .before .before .before .before .make .result) (c .before .before .before .before .before .before .before .before .before .before .before .before .before .before .before .before .before .before .before .before .args .out .now) cb (c .before .before .before .before .make .ensures .1))
+returns-3 c =
+    let making = c .before .before .before .before in
+    let counting = making .before .before .before .before in
+    let accepting = counting .before .before .before in
+    let closing = accepting .before .before in
+    let opening = closing .before .before in
+    let asking = opening .before .before in
+    let a = asking .before .before .before .args in
+    let opened = door-told (a .self) Trailer (length (a .out .now)) (asking .before .given-length .ensures) (asking .door .ensures) (opening .enum-told2 .given .1) in
+    let closes = sym (ap (λ (k : Closed). k .answer) (closing .close .ensures)) ∙ accepting .enum-told4 .given .1 in
+    let figures = ap (λ (k : Closed). k .figures) (closing .close .ensures) ∙ accepted-takes _ _ _ closes in
+    let count = count-written (a .self) closes figures _ refl (counting .put-number .ensures .0) (counting .put-number .ensures .1) in
+    let made = made-as (a .self) closes figures (length (a .out .now)) count (making .make .ensures .0) in
+    let told = c .enum-told5 .given .1 in
+    (rw (opened, closes, sym made ∙ told, told), bytes-as (a .self) closes figures (making .make .result) (a .out .now) count (making .make .ensures .1))
 
 same-length-2 : tie.Need-same-length-2
 same-length-2 c = search needs
 
 returns-4 : tie.Need-returns-4
-returns-4 c = let w = c .before .before .before .before .before .before .before .before .before .before .before .before .before .before .before .before .before .before .before .before .args .self in let cl = sym (ap (λ (k : Closed). k .answer) (c .before .before .before .before .before .before .before .before .before .before .before .before .before .close .ensures)) ∙ c .before .before .before .before .before .before .before .before .before .before .before .enum-told4 .given .1 in let fg = ap (λ (k : Closed). k .figures) (c .before .before .before .before .before .before .before .before .before .before .before .before .before .close .ensures) ∙ accepted-takes _ _ _ cl in let cb = count-written w cl fg _ refl (c .before .before .before .before .before .before .before .before .put-number .ensures .0) (c .before .before .before .before .before .before .before .before .put-number .ensures .1) in let mk = made-as w cl fg (length (c .before .before .before .before .before .before .before .before .before .before .before .before .before .before .before .before .before .before .before .before .args .out .now)) cb (c .before .before .before .before .make .ensures .0) in (rw (sym (c .before .before .before .before .before .before .before .before .before .before .before .before .before .before .before .before .before .door .ensures ∙ ap (λ (n : ℕ). doorAnswer (c .before .before .before .before .before .before .before .before .before .before .before .before .before .before .before .before .before .before .before .before .args .self) Trailer n (length (c .before .before .before .before .before .before .before .before .before .before .before .before .before .before .before .before .before .before .before .before .args .out .now))) (c .before .before .before .before .before .before .before .before .before .before .before .before .before .before .before .before .before .before .given-length .ensures)) ∙ c .before .before .before .before .before .before .before .before .before .before .before .before .before .before .before .enum-told2 .given .1, cl, sym mk ∙ c .enum-told6 .given .1, c .enum-told6 .given .1), bytes-as w cl fg (c .before .before .before .before .make .result) (c .before .before .before .before .before .before .before .before .before .before .before .before .before .before .before .before .before .before .before .before .args .out .now) cb (c .before .before .before .before .make .ensures .1))
+returns-4 c =
+    let making = c .before .before .before .before in
+    let counting = making .before .before .before .before in
+    let accepting = counting .before .before .before in
+    let closing = accepting .before .before in
+    let opening = closing .before .before in
+    let asking = opening .before .before in
+    let a = asking .before .before .before .args in
+    let opened = door-told (a .self) Trailer (length (a .out .now)) (asking .before .given-length .ensures) (asking .door .ensures) (opening .enum-told2 .given .1) in
+    let closes = sym (ap (λ (k : Closed). k .answer) (closing .close .ensures)) ∙ accepting .enum-told4 .given .1 in
+    let figures = ap (λ (k : Closed). k .figures) (closing .close .ensures) ∙ accepted-takes _ _ _ closes in
+    let count = count-written (a .self) closes figures _ refl (counting .put-number .ensures .0) (counting .put-number .ensures .1) in
+    let made = made-as (a .self) closes figures (length (a .out .now)) count (making .make .ensures .0) in
+    let told = c .enum-told6 .given .1 in
+    (rw (opened, closes, sym made ∙ told, told), bytes-as (a .self) closes figures (making .make .result) (a .out .now) count (making .make .ensures .1))
 
 pub trailer-spec : {M : Type 1} → statement M
 trailer-spec =
