@@ -36,6 +36,11 @@ pub door-told : (w : Writer) (r : Record) (room : ℕ) {n : ℕ} {a b : Answer} 
     → doorAnswer w r (givenLength r) room ≡ b
 door-told w r room e q told = ap (λ (k : ℕ). doorAnswer w r k room) (sym e) ∙ sym q ∙ told
 
+-- what a making is told
+pub made-told : (r : Record) (given amounts : List ℕ) (room : ℕ) {a b : Answer} → a ≡ makeAnswer r given amounts room → a ≡ b
+    → makeAnswer r given amounts room ≡ b
+made-told r given amounts room q told = sym q ∙ told
+
 pub refusal-keeps-writer : RefusalKeepsWriter
 refusal-keeps-writer a new old h = refusal-keeps a new old h
 
