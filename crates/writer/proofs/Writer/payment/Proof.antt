@@ -1,12 +1,14 @@
 -- `writer::Writer::payment` meets its contract. Assumes nothing.
+use mathlib.Core.List.{[], _∷_}
 use mathlib.Core.Path.{sym, ap, _∙_}
 use borrow.Author.Needs.{needs}
 use lib.ListN.{length}
 use Rattle.answer.proofs.Orders.{accepted-takes}
 use Rattle.file.specs.declared.Taken.{Taken}
 use Rattle.layout.specs.declared.Record.the-variants.{Payment}
+use Rattle.layout.specs.Layouts.{recordLength}
 use Rattle.fields.proofs.Makes.{made-copied}
-use Rattle.writer.proofs.Doors.{door-room}
+use Rattle.writer.proofs.Doors.{door-room, made-told}
 use Rattle.writer.proofs.Writer.payment.Statement.{statement}
 use Rattle.writer.proofs.Writer.payment.Tie as tie
 
@@ -17,7 +19,10 @@ enum-told : tie.Need-enum-told
 enum-told c = search needs
 
 returns : tie.Need-returns
-returns c = (rw (sym (c .before .before .door .ensures) ∙ c .enum-told .given .1, c .enum-told .given .1), rw (c .enum-told .given .1))
+returns c =
+    let told = c .enum-told .given .1 in
+    let shut = sym (c .before .before .door .ensures) ∙ told in
+    (rw (shut, told), rw told)
 
 enum-told-2 : tie.Need-enum-told-2
 enum-told-2 c = search needs
@@ -32,7 +37,15 @@ enum-told-3 : tie.Need-enum-told-3
 enum-told-3 c = search needs
 
 returns-2 : tie.Need-returns-2
-returns-2 c = (rw (sym (c .before .before .before .before .before .before .before .door .ensures) ∙ c .before .before .before .before .before .enum-told2 .given .1, sym (c .before .before .before .make .ensures .0) ∙ c .enum-told3 .given .1, c .enum-told3 .given .1), rw (c .enum-told3 .given .1))
+returns-2 c =
+    let making = c .before .before .before in
+    let opening = making .before .before in
+    let asking = opening .before .before in
+    let a = asking .before .before .before .args in
+    let told = c .enum-told3 .given .1 in
+    let opened = sym (asking .door .ensures) ∙ opening .enum-told2 .given .1 in
+    let refused = made-told Payment (a .fields .now) (a .received ∷ a .tariff ∷ []) recordLength (making .make .ensures .0) told in
+    (rw (opened, refused, told), rw told)
 
 enum-told-4 : tie.Need-enum-told-4
 enum-told-4 c = search needs
@@ -50,16 +63,47 @@ slice-aggregate-copy : tie.Need-slice-aggregate-copy
 slice-aggregate-copy c = search needs
 
 copy-requires : tie.Need-copy-requires
-copy-requires c κs = let s = c .before .before .before .before .before .before .before .before .before .before .before .before .before .before .before .before .args in let h = door-room (s .self) Payment (length (s .fields .now)) (length (s .out .now)) (sym (c .before .before .before .before .before .before .before .before .before .before .before .before .before .door .ensures) ∙ c .before .before .before .before .before .before .before .before .before .before .before .enum-told2 .given .1) in search needs
+copy-requires c κs =
+    let opening = c .before .before .before .before .before .before .before .before .before .before .before in
+    let a = opening .before .before .before .before .before .args in
+    let room = door-room (a .self) Payment (length (a .fields .now)) (length (a .out .now)) (sym (opening .before .before .door .ensures) ∙ opening .enum-told2 .given .1) in
+    search needs
 
 returns-3 : tie.Need-returns-3
-returns-3 c = (rw (sym (c .before .before .before .before .before .before .before .before .before .before .before .door .ensures) ∙ c .before .before .before .before .before .before .before .before .before .enum-told2 .given .1, sym (c .before .before .before .before .before .before .before .make .ensures .0) ∙ c .before .before .before .before .enum-told4 .given .1, sym (ap (λ (t : Taken). t .answer) (c .before .before .take .ensures)) ∙ c .enum-told5 .given .1, c .enum-told5 .given .1), rw (c .enum-told5 .given .1))
+returns-3 c =
+    let taking = c .before .before in
+    let accepting = taking .before .before in
+    let making = accepting .before .before .before in
+    let opening = making .before .before in
+    let asking = opening .before .before in
+    let a = asking .before .before .before .args in
+    let told = c .enum-told5 .given .1 in
+    let opened = sym (asking .door .ensures) ∙ opening .enum-told2 .given .1 in
+    let made = made-told Payment (a .fields .now) (a .received ∷ a .tariff ∷ []) recordLength (making .make .ensures .0) (accepting .enum-told4 .given .1) in
+    let full = sym (ap (λ (t : Taken). t .answer) (taking .take .ensures)) ∙ told in
+    (rw (opened, made, full, told), rw told)
 
 same-length : tie.Need-same-length
 same-length c = search needs
 
 returns-4 : tie.Need-returns-4
-returns-4 c = let t = c .before .before .before .before .before .before .enum-told6 .given .1 in let s = c .before .before .before .before .before .before .before .before .before .before .before .before .before .before .before .before .before .before .before .before .args in let h = door-room (s .self) Payment (length (s .fields .now)) (length (s .out .now)) (sym (c .before .before .before .before .before .before .before .before .before .before .before .before .before .before .before .before .before .door .ensures) ∙ c .before .before .before .before .before .before .before .before .before .before .before .before .before .before .before .enum-told2 .given .1) in (rw (sym (c .before .before .before .before .before .before .before .before .before .before .before .before .before .before .before .before .before .door .ensures) ∙ c .before .before .before .before .before .before .before .before .before .before .before .before .before .before .before .enum-told2 .given .1, sym (c .before .before .before .before .before .before .before .before .before .before .before .before .before .make .ensures .0) ∙ c .before .before .before .before .before .before .before .before .before .before .enum-told4 .given .1, sym (ap (λ (t : Taken). t .answer) (c .before .before .before .before .before .before .before .before .take .ensures)) ∙ t, t, ap (λ (k : Taken). k .file) (c .before .before .before .before .before .before .before .before .take .ensures), sym (ap (λ (t : Taken). t .answer) (c .before .before .before .before .before .before .before .before .take .ensures)) ∙ t), made-copied _ _ (search needs) t (c .before .before .before .before .before .before .before .before .before .before .before .before .before .make .ensures .1 ∙ accepted-takes _ _ _ (c .before .before .before .before .before .before .before .before .before .before .enum-told4 .given .1)) (c .before .before .before .copy .ensures .1))
+returns-4 c =
+    let telling = c .before .before .before .before .before .before in
+    let taking = telling .before .before in
+    let accepting = taking .before .before in
+    let making = accepting .before .before .before in
+    let opening = making .before .before in
+    let asking = opening .before .before in
+    let a = asking .before .before .before .args in
+    let told = telling .enum-told6 .given .1 in
+    let opened = sym (asking .door .ensures) ∙ opening .enum-told2 .given .1 in
+    let room = door-room (a .self) Payment (length (a .fields .now)) (length (a .out .now)) opened in
+    let accepted = accepting .enum-told4 .given .1 in
+    let made = made-told Payment (a .fields .now) (a .received ∷ a .tariff ∷ []) recordLength (making .make .ensures .0) accepted in
+    let bytes = making .make .ensures .1 ∙ accepted-takes _ _ _ accepted in
+    let taken = sym (ap (λ (t : Taken). t .answer) (taking .take .ensures)) ∙ told in
+    let file = ap (λ (t : Taken). t .file) (taking .take .ensures) in
+    (rw (opened, made, taken, told, file, taken), made-copied _ _ (search needs) told bytes (c .before .before .before .copy .ensures .1))
 
 pub payment-spec : {M : Type 1} → statement M
 payment-spec =
