@@ -16,10 +16,23 @@ same-length : tie.Need-same-length
 same-length c = search needs
 
 returns : tie.Need-returns
-returns c = let s = c .before .before .before .before .before .before .before .before in let o = sym (c .before .before .before .before .before .is-money .ensures) ∙ c .before .before .before .before .if1 .taken in (put-money (s .args .kind) (length (s .args .out .now)) (s .args .given .now) (s .args .amount) o (c .before .before .put-number .ensures .0), put-money-bytes (s .args .kind) (length (s .args .out .now)) (s .args .given .now) (s .args .amount) _ _ o refl (c .before .before .put-number .ensures .1))
+returns c =
+    let putting = c .before .before in
+    let asking = putting .before .before in
+    let a = asking .before .before .before .before .args in
+    let money = sym (asking .before .is-money .ensures) ∙ asking .if1 .taken in
+    let w = length (a .out .now) in (
+      put-money (a .kind) w (a .given .now) (a .amount) money (putting .put-number .ensures .0),
+      put-money-bytes (a .kind) w (a .given .now) (a .amount) _ _ money refl (putting .put-number .ensures .1),
+    )
 
 put-bytes-requires : tie.Need-put-bytes-requires
-put-bytes-requires c κs = let s = c .before .before .before .before .before in let o = sym (c .before .before .is-money .ensures) ∙ c .before .if1 .left in (o, ap length (sym (other-is (s .args .kind) (length (s .args .out .now)) (s .args .given .now) (s .args .amount) o)) ∙ s .pre)
+put-bytes-requires c κs =
+    let asking = c .before in
+    let start = asking .before .before .before .before in
+    let a = start .args in
+    let other = sym (asking .before .is-money .ensures) ∙ asking .if1 .left in
+    (other, ap length (sym (other-is (a .kind) (length (a .out .now)) (a .given .now) (a .amount) other)) ∙ start .pre)
 
 check-requires : tie.Need-check-requires
 check-requires c κs = search needs
@@ -28,7 +41,16 @@ same-length-2 : tie.Need-same-length-2
 same-length-2 c = search needs
 
 returns-2 : tie.Need-returns-2
-returns-2 c = let s = c .before .before .before .before .before .before .before .before .before .before in let o = sym (c .before .before .before .before .before .before .before .is-money .ensures) ∙ c .before .before .before .before .before .before .if1 .left in (put-other (s .args .kind) (length (s .args .out .now)) (s .args .given .now) (s .args .amount) o (c .before .before .before .before .put-bytes .ensures) (c .check .ensures), λ e. c .before .before .before .before .put-bytes .ensures ∙ sym (other-is (s .args .kind) (length (s .args .out .now)) (s .args .given .now) (s .args .amount) o))
+returns-2 c =
+    let putting = c .before .before .before .before in
+    let asking = putting .before .before in
+    let a = asking .before .before .before .before .args in
+    let other = sym (asking .before .is-money .ensures) ∙ asking .if1 .left in
+    let bytes = putting .put-bytes .ensures in
+    let w = length (a .out .now) in (
+      put-other (a .kind) w (a .given .now) (a .amount) other bytes (c .check .ensures),
+      λ e. bytes ∙ sym (other-is (a .kind) w (a .given .now) (a .amount) other),
+    )
 
 pub put-spec : {M : Type 1} → statement M
 put-spec =
