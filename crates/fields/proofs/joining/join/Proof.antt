@@ -30,11 +30,18 @@ same-length c = search needs
 
 returns-2 : tie.Need-returns-2
 unfolding joinAnswer
-returns-2 c = (rw (eq-eqb _ _ (c .before .before .before .before .before .before .before .before .before .if1 .left), sym (c .before .before .before .before .before .before .before .named-by .ensures) ∙ c .before .before .before .before .before .which .given .1) (c .before .before .join-named .ensures .0), rw (sym (c .before .before .before .before .before .before .before .named-by .ensures) ∙ c .before .before .before .before .before .which .given .1) (c .before .before .join-named .ensures .1))
+returns-2 c =
+    let joining = c .before .before in
+    let naming = joining .before .before .before in
+    let told = sym (naming .before .before .named-by .ensures) ∙ naming .which .given .1 in
+    let sized = eq-eqb _ _ (naming .before .before .before .before .if1 .left) in
+    (rw (sized, told) (joining .join-named .ensures .0), rw told (joining .join-named .ensures .1))
 
 returns-3 : tie.Need-returns-3
 unfolding joinAnswer
-returns-3 c = (rw (eq-eqb _ _ (c .before .before .before .before .if1 .left), sym (c .before .before .named-by .ensures) ∙ c .enum-told .given .1), refl)
+returns-3 c =
+    let told = sym (c .before .before .named-by .ensures) ∙ c .enum-told .given .1 in
+    (rw (eq-eqb _ _ (c .before .before .before .before .if1 .left), told), refl)
 
 pub join-spec : {M : Type 1} → statement M
 join-spec =
