@@ -17,28 +17,47 @@ given-of-requires : tie.Need-given-of-requires
 given-of-requires c κs = search needs
 
 add-copy-all : tie.Need-add-copy-all
-add-copy-all c = omega (arith, part-ends (c .before .before .before .before .before .before .pre .1 .0 .0) (c .before .given-of .ensures) (c .before .before .before .before .before .before .pre .1 .0 .1))
+add-copy-all c =
+    let pre = c .before .before .before .before .before .before .pre in
+    omega (arith, part-ends (pre .1 .0 .0) (c .before .given-of .ensures) (pre .1 .0 .1))
 
 add-copy-all-2 : tie.Need-add-copy-all-2
-add-copy-all-2 c = omega (arith, part-ends (c .before .before .before .before .before .before .before .pre .1 .0 .0) (c .before .before .given-of .ensures) (c .before .before .before .before .before .before .before .pre .1 .0 .1))
+add-copy-all-2 c =
+    let pre = c .before .before .before .before .before .before .before .pre in
+    omega (arith, part-ends (pre .1 .0 .0) (c .before .before .given-of .ensures) (pre .1 .0 .1))
 
 sub-copy-all : tie.Need-sub-copy-all
-sub-copy-all c = part-ends (c .before .before .before .before .before .before .before .pre .1 .0 .0) (c .before .before .given-of .ensures) (c .before .before .before .before .before .before .before .pre .1 .0 .1) .0
+sub-copy-all c =
+    let pre = c .before .before .before .before .before .before .before .pre in
+    part-ends (pre .1 .0 .0) (c .before .before .given-of .ensures) (pre .1 .0 .1) .0
 
 part-copy-all-start : tie.Need-part-copy-all-start
-part-copy-all-start c = part-ends (c .before .before .before .before .before .before .before .pre .1 .0 .0) (c .before .before .given-of .ensures) (c .before .before .before .before .before .before .before .pre .1 .0 .1) .0
+part-copy-all-start c =
+    let pre = c .before .before .before .before .before .before .before .pre in
+    part-ends (pre .1 .0 .0) (c .before .before .given-of .ensures) (pre .1 .0 .1) .0
 
 part-copy-all-end : tie.Need-part-copy-all-end
-part-copy-all-end c = omega (arith, part-ends (c .before .before .before .before .before .before .before .pre .1 .0 .0) (c .before .before .given-of .ensures) (c .before .before .before .before .before .before .before .pre .1 .0 .1), c .before .before .before .before .before .before .before .pre .0)
+part-copy-all-end c =
+    let pre = c .before .before .before .before .before .before .before .pre in
+    omega (arith, part-ends (pre .1 .0 .0) (c .before .before .given-of .ensures) (pre .1 .0 .1), pre .0)
 
 copy-all-requires : tie.Need-copy-all-requires
-copy-all-requires c κs = ap length (part-is (c .before .before .before .before .before .before .before .before .before .pre .1 .0 .0) (c .before .before .before .before .given-of .ensures) (c .before .before .before .before .before .before .before .before .before .args .rec .now)) ∙ part-length (c .before .before .before .before .before .before .before .before .before .args .rec .now) (c .before .before .before .before .before .before .before .before .before .pre .1 .0 .0) (c .before .before .before .before .before .before .before .before .before .pre .0) (c .before .before .before .before .before .before .before .before .before .pre .1 .0 .1) ∙ sym (c .before .before .before .before .before .before .before .before .before .pre .1 .1)
+copy-all-requires c κs =
+    let parting = c .before .before .before .before in
+    let start = parting .before .before .before .before .before in
+    let rec = start .args .rec .now in
+    let placed = start .pre .1 .0 .0 in
+    let part = ap length (part-is placed (parting .given-of .ensures) rec) in
+    part ∙ part-length rec placed (start .pre .0) (start .pre .1 .0 .1) ∙ sym (start .pre .1 .1)
 
 same-length : tie.Need-same-length
 same-length c = search needs
 
 returns : tie.Need-returns
-returns c = c .before .before .copy-all .ensures ∙ part-is (c .before .before .before .before .before .before .before .before .before .before .before .before .pre .1 .0 .0) (c .before .before .before .before .before .before .before .given-of .ensures) (c .before .before .before .before .before .before .before .before .before .before .before .before .args .rec .now)
+returns c =
+    let parting = c .before .before .before .before .before .before .before in
+    let start = parting .before .before .before .before .before in
+    c .before .before .copy-all .ensures ∙ part-is (start .pre .1 .0 .0) (parting .given-of .ensures) (start .args .rec .now)
 
 pub join-field-spec : {M : Type 1} → statement M
 join-field-spec =
