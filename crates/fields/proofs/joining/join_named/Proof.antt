@@ -16,7 +16,10 @@ given-length-requires : tie.Need-given-length-requires
 given-length-requires c κs = search needs
 
 returns-2 : tie.Need-returns-2
-returns-2 c = (rw (sym (c .before .before .before .is-given .ensures) ∙ not-false _ (c .before .before .if1 .left), ne-eqb _ _ (λ e. c .if2 .taken (e ∙ sym (c .before .given-length .ensures)))), refl)
+returns-2 c =
+    let given = sym (c .before .before .before .is-given .ensures) ∙ not-false _ (c .before .before .if1 .left) in
+    let short = ne-eqb _ _ (λ e. c .if2 .taken (e ∙ sym (c .before .given-length .ensures))) in
+    (rw (given, short), refl)
 
 check-requires : tie.Need-check-requires
 check-requires c κs = search needs
@@ -34,10 +37,26 @@ same-length : tie.Need-same-length
 same-length c = search needs
 
 returns-3 : tie.Need-returns-3
-returns-3 c = (rw (sym (c .before .before .before .before .before .before .before .before .before .before .is-given .ensures) ∙ not-false _ (c .before .before .before .before .before .before .before .before .before .if1 .left), eq-eqb _ _ (c .before .before .before .before .before .before .before .if2 .left ∙ c .before .before .before .before .before .before .before .before .given-length .ensures)) (c .before .before .before .before .before .before .check .ensures ∙ named-is _ _ (c .before .before .before .before .before .before .before .before .before .before .before .before .before .pre .0) (c .before .before .before .before .before .before .before .before .before .before .before .before .before .pre .1)), rw (c .before .before .before .before .enum-told .given .1) (c .before .before .join-rows .ensures))
+returns-3 c =
+    let checking = c .before .before .before .before .before .before in
+    let sizing = checking .before in
+    let asking = sizing .before .before in
+    let start = asking .before .before .before .before in
+    let given = sym (asking .before .is-given .ensures) ∙ not-false _ (asking .if1 .left) in
+    let sized = eq-eqb _ _ (sizing .if2 .left ∙ sizing .before .given-length .ensures) in
+    let checked = checking .check .ensures ∙ named-is _ _ (start .pre .0) (start .pre .1) in
+    (rw (given, sized) checked, rw (c .before .before .before .before .enum-told .given .1) (c .before .before .join-rows .ensures))
 
 returns-4 : tie.Need-returns-4
-returns-4 c = (rw (sym (c .before .before .before .before .before .before .is-given .ensures) ∙ not-false _ (c .before .before .before .before .before .if1 .left), eq-eqb _ _ (c .before .before .before .if2 .left ∙ c .before .before .before .before .given-length .ensures)) (c .before .before .check .ensures ∙ named-is _ _ (c .before .before .before .before .before .before .before .before .before .pre .0) (c .before .before .before .before .before .before .before .before .before .pre .1)), rw (c .enum-told2 .given .1))
+returns-4 c =
+    let checking = c .before .before in
+    let sizing = checking .before in
+    let asking = sizing .before .before in
+    let start = asking .before .before .before .before in
+    let given = sym (asking .before .is-given .ensures) ∙ not-false _ (asking .if1 .left) in
+    let sized = eq-eqb _ _ (sizing .if2 .left ∙ sizing .before .given-length .ensures) in
+    let checked = checking .check .ensures ∙ named-is _ _ (start .pre .0) (start .pre .1) in
+    (rw (given, sized) checked, rw (c .enum-told2 .given .1))
 
 pub join-named-spec : {M : Type 1} → statement M
 join-named-spec =
