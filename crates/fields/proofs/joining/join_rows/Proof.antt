@@ -28,7 +28,10 @@ rows-of-requires : tie.Need-rows-of-requires Inv-loop μ-loop
 rows-of-requires c κs = search needs
 
 loop-holds : tie.Need-loop-holds Inv-loop μ-loop
-loop-holds c = let t = c .before .table .ensures in let e = c .rows-of .ensures in (in-order _ t e, begin _ _ _ (rows-here _ t e) (c .before .before .before .before .pre .1))
+loop-holds c =
+    let table = c .before .table .ensures in
+    let rows = c .rows-of .ensures in
+    (in-order _ table rows, begin _ _ _ (rows-here _ table rows) (c .before .before .before .before .pre .1))
 
 mul-f : tie.Need-mul-f Inv-loop μ-loop
 mul-f c = omega (arith, in-table _ (c .before .before .before .table .ensures) (c .before .before .rows-of .ensures), c .loop-test .taken)
@@ -40,7 +43,11 @@ takes-requires : tie.Need-takes-requires Inv-loop μ-loop
 takes-requires c κs = row-placed _ (c .before .before .before .before .table .ensures) (c .before .before .before .rows-of .ensures) _ (row 0 0 (Mark 0)) (c .before .loop-test .taken)
 
 add-next : tie.Need-add-next Inv-loop μ-loop
-add-next c = omega (arith, in-room (at-row _ (row 0 0 (Mark 0)) _ _ (c .before .before .loop-test .taken) (in-table _ (c .before .before .before .before .before .table .ensures) (c .before .before .before .before .rows-of .ensures)) (c .before .before .before .loop .inv .1)), c .takes .ensures, c .before .before .before .before .before .before .before .before .good)
+add-next c =
+    let turn = c .before .before in
+    let within = in-table _ (turn .before .before .before .table .ensures) (turn .before .before .rows-of .ensures) in
+    let here = at-row _ (row 0 0 (Mark 0)) _ _ (turn .loop-test .taken) within (turn .before .loop .inv .1) in
+    omega (arith, in-room here, c .takes .ensures, turn .before .before .before .before .before .before .good)
 
 sub-join-field : tie.Need-sub-join-field Inv-loop μ-loop
 sub-join-field c = search needs
@@ -49,12 +56,22 @@ part-join-field-start : tie.Need-part-join-field-start Inv-loop μ-loop
 part-join-field-start c = search needs
 
 part-join-field-end : tie.Need-part-join-field-end Inv-loop μ-loop
-part-join-field-end c = omega (arith, in-room (at-row _ (row 0 0 (Mark 0)) _ _ (c .before .before .loop-test .taken) (in-table _ (c .before .before .before .before .before .table .ensures) (c .before .before .before .before .rows-of .ensures)) (c .before .before .before .loop .inv .1)), c .takes .ensures)
+part-join-field-end c =
+    let turn = c .before .before in
+    let within = in-table _ (turn .before .before .before .table .ensures) (turn .before .before .rows-of .ensures) in
+    let here = at-row _ (row 0 0 (Mark 0)) _ _ (turn .loop-test .taken) within (turn .before .loop .inv .1) in
+    omega (arith, in-room here, c .takes .ensures)
 
 join-field-requires : tie.Need-join-field-requires Inv-loop μ-loop
 join-field-requires c κs =
-    let t = c .before .before .before .before .before .before .table .ensures in let e = c .before .before .before .before .before .rows-of .ensures in let m = at-row _ (row 0 0 (Mark 0)) _ _ (c .before .before .before .loop-test .taken) (in-table _ t e) (c .before .before .before .before .loop .inv .1) in let l = row-placed _ t e _ (row 0 0 (Mark 0)) (c .before .before .before .loop-test .taken) in
-    (c .before .before .before .before .before .before .before .before .before .pre .0, ((l, in-field m l), gap m (ap (λ (w : ℕ). c .before .before .before .before .loop .at + w) (c .before .takes .ensures))))
+    let turn = c .before .before .before in
+    let start = turn .before .before .before .before .before .before in
+    let table = turn .before .before .before .table .ensures in
+    let rows = turn .before .before .rows-of .ensures in
+    let here = at-row _ (row 0 0 (Mark 0)) _ _ (turn .loop-test .taken) (in-table _ table rows) (turn .before .loop .inv .1) in
+    let placed = row-placed _ table rows _ (row 0 0 (Mark 0)) (turn .loop-test .taken) in
+    let next = ap (λ (w : ℕ). turn .before .loop .at + w) (c .before .takes .ensures) in
+    (start .pre .0, ((placed, in-field here placed), gap here next))
 
 add-i : tie.Need-add-i Inv-loop μ-loop
 add-i c = search needs
@@ -64,14 +81,24 @@ loop-less c = search needs
 
 loop-again : tie.Need-loop-again Inv-loop μ-loop
 loop-again c =
-    let t = c .before .before .before .before .before .before .before .before .before .table .ensures in let e = c .before .before .before .before .before .before .before .before .rows-of .ensures in let m = at-row _ (row 0 0 (Mark 0)) _ _ (c .before .before .before .before .before .before .loop-test .taken) (in-table _ t e) (c .before .before .before .before .before .before .before .loop .inv .1) in let l = row-placed _ t e _ (row 0 0 (Mark 0)) (c .before .before .before .before .before .before .loop-test .taken) in
-    (search needs, on m l (c .before .before .before .before .before .before .before .before .before .before .before .before .pre .0) (ap (λ (w : ℕ). c .before .before .before .before .before .before .before .loop .at + w) (c .before .before .before .before .takes .ensures)) (c .before .before .join-field .ensures))
+    let turn = c .before .before .before .before .before .before in
+    let start = turn .before .before .before .before .before .before in
+    let table = turn .before .before .before .table .ensures in
+    let rows = turn .before .before .rows-of .ensures in
+    let here = at-row _ (row 0 0 (Mark 0)) _ _ (turn .loop-test .taken) (in-table _ table rows) (turn .before .loop .inv .1) in
+    let placed = row-placed _ table rows _ (row 0 0 (Mark 0)) (turn .loop-test .taken) in
+    let next = ap (λ (w : ℕ). turn .before .loop .at + w) (c .before .before .before .before .takes .ensures) in
+    (search needs, on here placed (start .pre .0) next (c .before .before .join-field .ensures))
 
 same-length : tie.Need-same-length Inv-loop μ-loop
 same-length c = c .before .loop .inv .1 .same
 
 returns : tie.Need-returns Inv-loop μ-loop
-returns c = let t = c .before .before .before .table .ensures in let e = c .before .before .rows-of .ensures in at-end _ _ _ (c .before .loop .inv .0) (c .loop-test .left) (c .before .loop .inv .1) ∙ ap (λ (l : List Field). gather (map givenAt l) (c .before .before .before .before .before .before .args .rec .now)) (rows-here _ t e)
+returns c =
+    let whole = rows-here _ (c .before .before .before .table .ensures) (c .before .before .rows-of .ensures) in
+    let joined = at-end _ _ _ (c .before .loop .inv .0) (c .loop-test .left) (c .before .loop .inv .1) in
+    let rec = c .before .before .before .before .before .before .args .rec .now in
+    joined ∙ ap (λ (l : List Field). gather (map givenAt l) rec) whole
 
 pub join-rows-spec : {M : Type 1} → statement M
 join-rows-spec =
