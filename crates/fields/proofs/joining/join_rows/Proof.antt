@@ -16,7 +16,9 @@ use Rattle.fields.proofs.joining.join_rows.Statement.{statement}
 use Rattle.fields.proofs.joining.join_rows.Tie as tie
 
 abbrev Inv-loop : tie.InvT-loop
-Inv-loop rec out₀ table to i₀ at₀ out i at = (i ≤ to) × Joining (slice i to table) rec out at (length out₀) (gather (map givenAt (slice i₀ to table)) rec)
+Inv-loop rec out₀ table to i₀ at₀ out i at =
+    (i ≤ to)
+    × Joining (slice i to table) rec out at (length out₀) (gather (map givenAt (slice i₀ to table)) rec)
 
 abbrev μ-loop : tie.MeasureT-loop
 μ-loop rec out₀ table to i₀ at₀ out i at = to - i

@@ -17,7 +17,9 @@ use Rattle.fields.proofs.making.make_rows.Statement.{statement}
 use Rattle.fields.proofs.making.make_rows.Tie as tie
 
 abbrev Inv-loop : tie.InvT-loop
-Inv-loop given first second made₀ table to i₀ done₀ at₀ used₀ made i done at used = (i ≤ to) × Making (slice i to table) given (first ∷ second ∷ []) made done at used (makingAnswer (slice i₀ to table) given (first ∷ second ∷ [])) (madeOf (slice i₀ to table) given (first ∷ second ∷ []))
+Inv-loop given first second made₀ table to i₀ done₀ at₀ used₀ made i done at used =
+    (i ≤ to)
+    × Making (slice i to table) given (first ∷ second ∷ []) made done at used (makingAnswer (slice i₀ to table) given (first ∷ second ∷ [])) (madeOf (slice i₀ to table) given (first ∷ second ∷ []))
 
 abbrev μ-loop : tie.MeasureT-loop
 μ-loop given first second made₀ table to i₀ done₀ at₀ used₀ made i done at used = to - i
@@ -29,7 +31,11 @@ rows-of-requires : tie.Need-rows-of-requires Inv-loop μ-loop
 rows-of-requires c κs = search needs
 
 loop-holds : tie.Need-loop-holds Inv-loop μ-loop
-loop-holds c = let t = c .before .table .ensures in let e = c .rows-of .ensures in let s = c .before .before .before .before in (in-order _ t e, start _ _ _ _ (rows-here _ t e) (s .pre .0) (s .pre .1))
+loop-holds c =
+    let table = c .before .table .ensures in
+    let rows = c .rows-of .ensures in
+    let lengths = c .before .before .before .before .pre in
+    (in-order _ table rows, start _ _ _ _ (rows-here _ table rows) (lengths .0) (lengths .1))
 
 mul-f : tie.Need-mul-f Inv-loop μ-loop
 mul-f c = omega (arith, in-table _ (c .before .before .before .table .ensures) (c .before .before .rows-of .ensures), c .loop-test .taken)
@@ -38,10 +44,18 @@ array-copy-out-f : tie.Need-array-copy-out-f Inv-loop μ-loop
 array-copy-out-f c = omega (arith, in-table _ (c .before .before .before .table .ensures) (c .before .before .rows-of .ensures), c .loop-test .taken)
 
 takes-requires : tie.Need-takes-requires Inv-loop μ-loop
-takes-requires c κs = let m = at-row _ (row 0 0 (Mark 0)) _ _ (c .before .loop-test .taken) (in-table _ (c .before .before .before .before .table .ensures) (c .before .before .before .rows-of .ensures)) (c .before .before .loop .inv .1) in placed m
+takes-requires c κs =
+    let turn = c .before in
+    let within = in-table _ (turn .before .before .before .table .ensures) (turn .before .before .rows-of .ensures) in
+    placed (at-row _ (row 0 0 (Mark 0)) _ _ (turn .loop-test .taken) within (turn .before .loop .inv .1))
 
 add-next : tie.Need-add-next Inv-loop μ-loop
-add-next c = let m = at-row _ (row 0 0 (Mark 0)) _ _ (c .before .before .loop-test .taken) (in-table _ (c .before .before .before .before .before .table .ensures) (c .before .before .before .before .rows-of .ensures)) (c .before .before .before .loop .inv .1) in let w = c .takes .ensures in omega (arith, in-given m w, c .before .before .before .before .before .before .before .before .good)
+add-next c =
+    let turn = c .before .before in
+    let within = in-table _ (turn .before .before .before .table .ensures) (turn .before .before .rows-of .ensures) in
+    let here = at-row _ (row 0 0 (Mark 0)) _ _ (turn .loop-test .taken) within (turn .before .loop .inv .1) in
+    let width = c .takes .ensures in
+    omega (arith, in-given here width, turn .before .before .before .before .before .before .good)
 
 sub-put : tie.Need-sub-put Inv-loop μ-loop
 sub-put c = search needs
@@ -50,22 +64,40 @@ part-put-start : tie.Need-part-put-start Inv-loop μ-loop
 part-put-start c = search needs
 
 part-put-end : tie.Need-part-put-end Inv-loop μ-loop
-part-put-end c = let m = at-row _ (row 0 0 (Mark 0)) _ _ (c .before .before .loop-test .taken) (in-table _ (c .before .before .before .before .before .table .ensures) (c .before .before .before .before .rows-of .ensures)) (c .before .before .before .loop .inv .1) in let w = c .takes .ensures in in-given m w
+part-put-end c =
+    let turn = c .before .before in
+    let within = in-table _ (turn .before .before .before .table .ensures) (turn .before .before .rows-of .ensures) in
+    let here = at-row _ (row 0 0 (Mark 0)) _ _ (turn .loop-test .taken) within (turn .before .loop .inv .1) in
+    in-given here (c .takes .ensures)
 
 amount-at-requires : tie.Need-amount-at-requires Inv-loop μ-loop
 amount-at-requires c κs = search needs
 
 sub-put-2 : tie.Need-sub-put-2 Inv-loop μ-loop
-sub-put-2 c = let m = at-row _ (row 0 0 (Mark 0)) _ _ (c .before .before .before .before .loop-test .taken) (in-table _ (c .before .before .before .before .before .before .before .table .ensures) (c .before .before .before .before .before .before .rows-of .ensures)) (c .before .before .before .before .before .loop .inv .1) in ends m .0
+sub-put-2 c =
+    let turn = c .before .before .before .before in
+    let within = in-table _ (turn .before .before .before .table .ensures) (turn .before .before .rows-of .ensures) in
+    ends (at-row _ (row 0 0 (Mark 0)) _ _ (turn .loop-test .taken) within (turn .before .loop .inv .1)) .0
 
 part-put-start-2 : tie.Need-part-put-start-2 Inv-loop μ-loop
-part-put-start-2 c = let m = at-row _ (row 0 0 (Mark 0)) _ _ (c .before .before .before .before .loop-test .taken) (in-table _ (c .before .before .before .before .before .before .before .table .ensures) (c .before .before .before .before .before .before .rows-of .ensures)) (c .before .before .before .before .before .loop .inv .1) in ends m .0
+part-put-start-2 c =
+    let turn = c .before .before .before .before in
+    let within = in-table _ (turn .before .before .before .table .ensures) (turn .before .before .rows-of .ensures) in
+    ends (at-row _ (row 0 0 (Mark 0)) _ _ (turn .loop-test .taken) within (turn .before .loop .inv .1)) .0
 
 part-put-end-2 : tie.Need-part-put-end-2 Inv-loop μ-loop
-part-put-end-2 c = let m = at-row _ (row 0 0 (Mark 0)) _ _ (c .before .before .before .before .loop-test .taken) (in-table _ (c .before .before .before .before .before .before .before .table .ensures) (c .before .before .before .before .before .before .rows-of .ensures)) (c .before .before .before .before .before .loop .inv .1) in omega (arith, ends m .1, m .room)
+part-put-end-2 c =
+    let turn = c .before .before .before .before in
+    let within = in-table _ (turn .before .before .before .table .ensures) (turn .before .before .rows-of .ensures) in
+    let here = at-row _ (row 0 0 (Mark 0)) _ _ (turn .loop-test .taken) within (turn .before .loop .inv .1) in
+    omega (arith, ends here .1, here .room)
 
 put-requires : tie.Need-put-requires Inv-loop μ-loop
-put-requires c κs = let m = at-row _ (row 0 0 (Mark 0)) _ _ (c .before .before .before .before .before .loop-test .taken) (in-table _ (c .before .before .before .before .before .before .before .before .table .ensures) (c .before .before .before .before .before .before .before .rows-of .ensures)) (c .before .before .before .before .before .before .loop .inv .1) in let w = c .before .before .before .takes .ensures in fits-part m w (c .before .amount-at .result)
+put-requires c κs =
+    let turn = c .before .before .before .before .before in
+    let within = in-table _ (turn .before .before .before .table .ensures) (turn .before .before .rows-of .ensures) in
+    let here = at-row _ (row 0 0 (Mark 0)) _ _ (turn .loop-test .taken) within (turn .before .loop .inv .1) in
+    fits-part here (c .before .before .before .takes .ensures) (c .before .amount-at .result)
 
 enum-told : tie.Need-enum-told Inv-loop μ-loop
 enum-told c = search needs
@@ -81,8 +113,15 @@ loop-less c = search needs
 
 loop-again : tie.Need-loop-again Inv-loop μ-loop
 loop-again c =
-    let m = at-row _ (row 0 0 (Mark 0)) _ _ (c .before .before .before .before .before .before .before .before .before .before .before .loop-test .taken) (in-table _ (c .before .before .before .before .before .before .before .before .before .before .before .before .before .before .table .ensures) (c .before .before .before .before .before .before .before .before .before .before .before .before .before .rows-of .ensures)) (c .before .before .before .before .before .before .before .before .before .before .before .before .loop .inv .1) in let w = c .before .before .before .before .before .before .before .before .before .takes .ensures in
-    (search needs, step m w (c .before .before .before .before .before .before .before .amount-at .ensures) (c .before .before .before .before .before .put .ensures .0) (c .before .enum-told .given .1) refl (c .used-after .ensures) (c .before .before .before .before .before .put .ensures .1 (c .before .enum-told .given .1)))
+    let putting = c .before .before .before .before .before in
+    let taking = putting .before .before .before .before in
+    let turn = taking .before .before in
+    let within = in-table _ (turn .before .before .before .table .ensures) (turn .before .before .rows-of .ensures) in
+    let here = at-row _ (row 0 0 (Mark 0)) _ _ (turn .loop-test .taken) within (turn .before .loop .inv .1) in
+    let amount = putting .before .before .amount-at .ensures in
+    let told = c .before .enum-told .given .1 in
+    let bytes = putting .put .ensures .1 told in
+    (search needs, step here (taking .takes .ensures) amount (putting .put .ensures .0) told refl (c .used-after .ensures) bytes)
 
 enum-told-2 : tie.Need-enum-told-2 Inv-loop μ-loop
 enum-told-2 c = search needs
@@ -95,10 +134,19 @@ same-length c = search needs
 
 returns : tie.Need-returns Inv-loop μ-loop
 returns c =
-    let m = at-row _ (row 0 0 (Mark 0)) _ _ (c .before .before .before .before .before .before .before .before .before .before .before .loop-test .taken) (in-table _ (c .before .before .before .before .before .before .before .before .before .before .before .before .before .before .table .ensures) (c .before .before .before .before .before .before .before .before .before .before .before .before .before .rows-of .ensures)) (c .before .before .before .before .before .before .before .before .before .before .before .before .loop .inv .1) in let w = c .before .before .before .before .before .before .before .before .before .takes .ensures in
-    let a = c .before .before .before .before .before .before .before .before .before .before .before .before .before .before .before .before .before .args in
-    let q = refuses m w (c .before .before .before .before .before .before .before .amount-at .ensures) (c .before .before .before .before .before .put .ensures .0) (c .before .enum-told2 .given .1) (c .behind .ensures) in
-    (q ∙ ap (λ (l : List Field). makingAnswer l (a .given .now) (a .first ∷ a .second ∷ [])) (rows-here _ (c .before .before .before .before .before .before .before .before .before .before .before .before .before .before .table .ensures) (c .before .before .before .before .before .before .before .before .before .before .before .before .before .rows-of .ensures)), λ h. not-both _ (c .behind .ensures ∙ ap (movedBy (heldBehind _)) (c .before .enum-told2 .given .1)) h)
+    let putting = c .before .before .before .before .before in
+    let taking = putting .before .before .before .before in
+    let turn = taking .before .before in
+    let a = turn .before .before .before .before .before .before .args in
+    let table = turn .before .before .before .table .ensures in
+    let rows = turn .before .before .rows-of .ensures in
+    let here = at-row _ (row 0 0 (Mark 0)) _ _ (turn .loop-test .taken) (in-table _ table rows) (turn .before .loop .inv .1) in
+    let amount = putting .before .before .amount-at .ensures in
+    let told = c .before .enum-told2 .given .1 in
+    let refused = refuses here (taking .takes .ensures) amount (putting .put .ensures .0) told (c .behind .ensures) in (
+      refused ∙ ap (λ (l : List Field). makingAnswer l (a .given .now) (a .first ∷ a .second ∷ [])) (rows-here _ table rows),
+      λ h. not-both _ (c .behind .ensures ∙ ap (movedBy (heldBehind _)) told) h,
+    )
 
 same-length-2 : tie.Need-same-length-2 Inv-loop μ-loop
 same-length-2 c = search needs
@@ -106,9 +154,11 @@ same-length-2 c = search needs
 returns-2 : tie.Need-returns-2 Inv-loop μ-loop
 returns-2 c =
     let a = c .before .before .before .before .before .before .args in
-    let here = rows-here _ (c .before .before .before .table .ensures) (c .before .before .rows-of .ensures) in
-    let q = at-end _ _ _ (c .before .loop .inv .0) (c .loop-test .left) (c .before .loop .inv .1) in
-    (q .0 ∙ ap (λ (l : List Field). makingAnswer l (a .given .now) (a .first ∷ a .second ∷ [])) here, λ h. q .1 ∙ ap (λ (l : List Field). madeOf l (a .given .now) (a .first ∷ a .second ∷ [])) here)
+    let whole = rows-here _ (c .before .before .before .table .ensures) (c .before .before .rows-of .ensures) in
+    let ended = at-end _ _ _ (c .before .loop .inv .0) (c .loop-test .left) (c .before .loop .inv .1) in (
+      ended .0 ∙ ap (λ (l : List Field). makingAnswer l (a .given .now) (a .first ∷ a .second ∷ [])) whole,
+      λ h. ended .1 ∙ ap (λ (l : List Field). madeOf l (a .given .now) (a .first ∷ a .second ∷ [])) whole,
+    )
 
 pub make-rows-spec : {M : Type 1} → statement M
 make-rows-spec =
