@@ -18,10 +18,16 @@ is-expected-requires : tie.Need-is-expected-requires
 is-expected-requires c κs = search needs
 
 returns-3 : tie.Need-returns-3
-returns-3 c = rw (eq-eqb _ _ (c .before .before .before .before .if1 .left), eq-eqb _ _ (c .before .before .if2 .left ∙ c .before .before .before .given-length .ensures), sym (c .before .is-expected .ensures) ∙ not-true _ (c .if3 .taken))
+returns-3 c =
+    let room = eq-eqb _ _ (c .before .before .before .before .if1 .left) in
+    let given = eq-eqb _ _ (c .before .before .if2 .left ∙ c .before .before .before .given-length .ensures) in
+    rw (room, given, sym (c .before .is-expected .ensures) ∙ not-true _ (c .if3 .taken))
 
 returns-4 : tie.Need-returns-4
-returns-4 c = rw (eq-eqb _ _ (c .before .before .before .before .if1 .left), eq-eqb _ _ (c .before .before .if2 .left ∙ c .before .before .before .given-length .ensures), sym (c .before .is-expected .ensures) ∙ not-false _ (c .if3 .left))
+returns-4 c =
+    let room = eq-eqb _ _ (c .before .before .before .before .if1 .left) in
+    let given = eq-eqb _ _ (c .before .before .if2 .left ∙ c .before .before .before .given-length .ensures) in
+    rw (room, given, sym (c .before .is-expected .ensures) ∙ not-false _ (c .if3 .left))
 
 pub door-spec : {M : Type 1} → statement M
 door-spec =
