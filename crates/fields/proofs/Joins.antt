@@ -12,8 +12,10 @@ use Rattle.decimal.specs.Places.{widthOf, partAt, gather}
 use Rattle.layout.specs.declared.Field.{Field}
 use Rattle.layout.specs.declared.Kind.the-variants as kind
 use Rattle.layout.specs.declared.Record.{Record}
-use Rattle.layout.specs.Layouts.{recordLength, layoutOf, stretchOf, givenAt, givenLength, widthsOf, InRecord}
+use Rattle.layout.specs.declared.Rows.{Rows}
+use Rattle.layout.specs.Layouts.{recordLength, row, table, rowsOf, layoutOf, stretchOf, givenAt, givenLength, widthsOf, InRecord}
 use Rattle.layout.proofs.Tables.{every}
+use Rattle.record.proofs.Walks.{in-table}
 use Rattle.fields.specs.Making.{takes}
 use Rattle.fields.proofs.Makes.{layout-fits}
 use Rattle.fields.proofs.Parts.{fitsField, given-in, part-length}
@@ -84,9 +86,10 @@ module _ {f : Field} {fs : List Field} {rec out : List ℕ} {at room : ℕ} {who
         bytes = rw (p .0, ey) (append-assoc (take at out) (partAt (givenAt f) rec) (gather (map givenAt fs) rec) ∙ m .bytes);
       }
 
-pub at-row : (copy : List Field) (d : Field) (i to : ℕ) {rec out : List ℕ} {at room : ℕ} {whole : List ℕ} → i < to → to ≤ length copy
-    → Joining (slice i to copy) rec out at room whole → Joining (getD copy i d ∷ slice (i + 1) to copy) rec out at room whole
-at-row copy d i to h k m = rw add-one (rw (slice-cons i to copy d h k) at m)
+pub at-row : (which : Record) {rows : Rows} {copy : List Field} {i : ℕ} {rec out : List ℕ} {at room : ℕ} {whole : List ℕ}
+    → copy ≡ table → rows ≡ rowsOf which → i < rows .to → Joining (slice i (rows .to) copy) rec out at room whole
+    → Joining (getD copy i (row 0 0 (kind.Mark 0)) ∷ slice (i + 1) (rows .to) copy) rec out at room whole
+at-row which {rows} {copy} {i} t e h m = rw add-one (rw (slice-cons i (rows .to) copy (row 0 0 (kind.Mark 0)) h (in-table which t e)) at m)
 
 pub at-end : (copy : List Field) (i to : ℕ) {rec out : List ℕ} {at room : ℕ} {whole : List ℕ} → i ≤ to → to ≤ i
     → Joining (slice i to copy) rec out at room whole → out ≡ whole

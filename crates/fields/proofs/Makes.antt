@@ -29,11 +29,13 @@ use Rattle.layout.specs.declared.Kind.{Kind}
 use Rattle.layout.specs.declared.Kind.the-variants as kind
 use Rattle.layout.specs.declared.Record.{Record}
 use Rattle.layout.specs.declared.Record.the-variants.{Header, Payment, Trailer}
-use Rattle.layout.specs.Layouts.{recordLength, layoutOf, stretchOf, givenOf, givenAt, givenLength, widthsOf, covers, InRecord}
+use Rattle.layout.specs.declared.Rows.{Rows}
+use Rattle.layout.specs.Layouts.{recordLength, row, table, rowsOf, layoutOf, stretchOf, givenOf, givenAt, givenLength, widthsOf, covers, InRecord}
 use Rattle.layout.proofs.Layouts.{Next, next, covers-end, fields-cover}
 use Rattle.layout.proofs.Tables.{every}
 use Rattle.kinds.specs.Kinds.{kindAnswer}
 use Rattle.kinds.proofs.KindLaws.{kind-place}
+use Rattle.record.proofs.Walks.{in-table}
 use Rattle.fields.specs.Making.{writtenOf, isMoney, putAnswer, takes, pieceOf, pieceAnswer, amountsAfter, madeOf, makingAnswer, makeAnswer}
 use Rattle.fields.proofs.Parts.{takes-are, fitsKind, fitsField, written-length}
 
@@ -250,9 +252,10 @@ module _ {f : Field} {fs : List Field} {given amounts made : List ℕ} {done at 
           }
 
 -- at a row of the table
-pub at-row : (copy : List Field) (d : Field) (i to : ℕ) {given amounts made : List ℕ} {done at used : ℕ} {r : Answer} {whole : List ℕ} → i < to → to ≤ length copy
-    → Making (slice i to copy) given amounts made done at used r whole → Making (getD copy i d ∷ slice (i + 1) to copy) given amounts made done at used r whole
-at-row copy d i to h k m = rw add-one (rw (slice-cons i to copy d h k) at m)
+pub at-row : (which : Record) {rows : Rows} {copy : List Field} {i : ℕ} {given amounts made : List ℕ} {done at used : ℕ} {r : Answer} {whole : List ℕ}
+    → copy ≡ table → rows ≡ rowsOf which → i < rows .to → Making (slice i (rows .to) copy) given amounts made done at used r whole
+    → Making (getD copy i (row 0 0 (kind.Mark 0)) ∷ slice (i + 1) (rows .to) copy) given amounts made done at used r whole
+at-row which {rows} {copy} {i} t e h m = rw add-one (rw (slice-cons i (rows .to) copy (row 0 0 (kind.Mark 0)) h (in-table which t e)) at m)
 
 pub at-end : (copy : List Field) (i to : ℕ) {given amounts made : List ℕ} {done at used : ℕ} {r : Answer} {whole : List ℕ} → i ≤ to → to ≤ i
     → Making (slice i to copy) given amounts made done at used r whole → (Accepted ≡ r) × (made ≡ whole)

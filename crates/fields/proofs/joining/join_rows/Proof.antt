@@ -47,8 +47,7 @@ takes-requires c κs = row-placed _ (c .before .before .before .before .table .e
 add-next : tie.Need-add-next Inv-loop μ-loop
 add-next c =
     let turn = c .before .before in
-    let within = in-table _ (turn .before .before .before .table .ensures) (turn .before .before .rows-of .ensures) in
-    let here = at-row _ (row 0 0 (Mark 0)) _ _ (turn .loop-test .taken) within (turn .before .loop .inv .1) in
+    let here = at-row _ (turn .before .before .before .table .ensures) (turn .before .before .rows-of .ensures) (turn .loop-test .taken) (turn .before .loop .inv .1) in
     omega (arith, in-room here, c .takes .ensures, turn .before .before .before .before .before .before .good)
 
 sub-join-field : tie.Need-sub-join-field Inv-loop μ-loop
@@ -60,8 +59,7 @@ part-join-field-start c = search needs
 part-join-field-end : tie.Need-part-join-field-end Inv-loop μ-loop
 part-join-field-end c =
     let turn = c .before .before in
-    let within = in-table _ (turn .before .before .before .table .ensures) (turn .before .before .rows-of .ensures) in
-    let here = at-row _ (row 0 0 (Mark 0)) _ _ (turn .loop-test .taken) within (turn .before .loop .inv .1) in
+    let here = at-row _ (turn .before .before .before .table .ensures) (turn .before .before .rows-of .ensures) (turn .loop-test .taken) (turn .before .loop .inv .1) in
     omega (arith, in-room here, c .takes .ensures)
 
 join-field-requires : tie.Need-join-field-requires Inv-loop μ-loop
@@ -70,7 +68,7 @@ join-field-requires c κs =
     let start = turn .before .before .before .before .before .before in
     let table = turn .before .before .before .table .ensures in
     let rows = turn .before .before .rows-of .ensures in
-    let here = at-row _ (row 0 0 (Mark 0)) _ _ (turn .loop-test .taken) (in-table _ table rows) (turn .before .loop .inv .1) in
+    let here = at-row _ table rows (turn .loop-test .taken) (turn .before .loop .inv .1) in
     let placed = row-placed _ table rows _ (row 0 0 (Mark 0)) (turn .loop-test .taken) in
     let next = ap (λ (w : ℕ). turn .before .loop .at + w) (c .before .takes .ensures) in
     (start .pre .0, ((placed, in-field here placed), gap here next))
@@ -87,7 +85,7 @@ loop-again c =
     let start = turn .before .before .before .before .before .before in
     let table = turn .before .before .before .table .ensures in
     let rows = turn .before .before .rows-of .ensures in
-    let here = at-row _ (row 0 0 (Mark 0)) _ _ (turn .loop-test .taken) (in-table _ table rows) (turn .before .loop .inv .1) in
+    let here = at-row _ table rows (turn .loop-test .taken) (turn .before .loop .inv .1) in
     let placed = row-placed _ table rows _ (row 0 0 (Mark 0)) (turn .loop-test .taken) in
     let next = ap (λ (w : ℕ). turn .before .loop .at + w) (c .before .before .before .before .takes .ensures) in
     (search needs, on here placed (start .pre .0) next (c .before .before .join-field .ensures))

@@ -7,9 +7,7 @@ use borrow.Author.Needs.{needs}
 use lib.Seq.{slice}
 use Rattle.answer.proofs.Orders.{not-both}
 use Rattle.answer.specs.Orders.{movedBy, heldBehind}
-use Rattle.layout.specs.Layouts.{row}
 use Rattle.layout.specs.declared.Field.{Field}
-use Rattle.layout.specs.declared.Kind.the-variants.{Mark}
 use Rattle.fields.proofs.Makes.{at-row, at-end, ends, placed, in-given, fits-part, refuses, step, Making, start}
 use Rattle.record.proofs.Walks.{in-order, in-table, rows-here}
 use Rattle.fields.specs.Making.{madeOf, makingAnswer}
@@ -46,14 +44,13 @@ array-copy-out-f c = omega (arith, in-table _ (c .before .before .before .table 
 takes-requires : tie.Need-takes-requires Inv-loop μ-loop
 takes-requires c κs =
     let turn = c .before in
-    let within = in-table _ (turn .before .before .before .table .ensures) (turn .before .before .rows-of .ensures) in
-    placed (at-row _ (row 0 0 (Mark 0)) _ _ (turn .loop-test .taken) within (turn .before .loop .inv .1))
+    let here = at-row _ (turn .before .before .before .table .ensures) (turn .before .before .rows-of .ensures) (turn .loop-test .taken) (turn .before .loop .inv .1) in
+    placed here
 
 add-next : tie.Need-add-next Inv-loop μ-loop
 add-next c =
     let turn = c .before .before in
-    let within = in-table _ (turn .before .before .before .table .ensures) (turn .before .before .rows-of .ensures) in
-    let here = at-row _ (row 0 0 (Mark 0)) _ _ (turn .loop-test .taken) within (turn .before .loop .inv .1) in
+    let here = at-row _ (turn .before .before .before .table .ensures) (turn .before .before .rows-of .ensures) (turn .loop-test .taken) (turn .before .loop .inv .1) in
     let width = c .takes .ensures in
     omega (arith, in-given here width, turn .before .before .before .before .before .before .good)
 
@@ -66,8 +63,7 @@ part-put-start c = search needs
 part-put-end : tie.Need-part-put-end Inv-loop μ-loop
 part-put-end c =
     let turn = c .before .before in
-    let within = in-table _ (turn .before .before .before .table .ensures) (turn .before .before .rows-of .ensures) in
-    let here = at-row _ (row 0 0 (Mark 0)) _ _ (turn .loop-test .taken) within (turn .before .loop .inv .1) in
+    let here = at-row _ (turn .before .before .before .table .ensures) (turn .before .before .rows-of .ensures) (turn .loop-test .taken) (turn .before .loop .inv .1) in
     in-given here (c .takes .ensures)
 
 amount-at-requires : tie.Need-amount-at-requires Inv-loop μ-loop
@@ -76,27 +72,25 @@ amount-at-requires c κs = search needs
 sub-put-2 : tie.Need-sub-put-2 Inv-loop μ-loop
 sub-put-2 c =
     let turn = c .before .before .before .before in
-    let within = in-table _ (turn .before .before .before .table .ensures) (turn .before .before .rows-of .ensures) in
-    ends (at-row _ (row 0 0 (Mark 0)) _ _ (turn .loop-test .taken) within (turn .before .loop .inv .1)) .0
+    let here = at-row _ (turn .before .before .before .table .ensures) (turn .before .before .rows-of .ensures) (turn .loop-test .taken) (turn .before .loop .inv .1) in
+    ends here .0
 
 part-put-start-2 : tie.Need-part-put-start-2 Inv-loop μ-loop
 part-put-start-2 c =
     let turn = c .before .before .before .before in
-    let within = in-table _ (turn .before .before .before .table .ensures) (turn .before .before .rows-of .ensures) in
-    ends (at-row _ (row 0 0 (Mark 0)) _ _ (turn .loop-test .taken) within (turn .before .loop .inv .1)) .0
+    let here = at-row _ (turn .before .before .before .table .ensures) (turn .before .before .rows-of .ensures) (turn .loop-test .taken) (turn .before .loop .inv .1) in
+    ends here .0
 
 part-put-end-2 : tie.Need-part-put-end-2 Inv-loop μ-loop
 part-put-end-2 c =
     let turn = c .before .before .before .before in
-    let within = in-table _ (turn .before .before .before .table .ensures) (turn .before .before .rows-of .ensures) in
-    let here = at-row _ (row 0 0 (Mark 0)) _ _ (turn .loop-test .taken) within (turn .before .loop .inv .1) in
+    let here = at-row _ (turn .before .before .before .table .ensures) (turn .before .before .rows-of .ensures) (turn .loop-test .taken) (turn .before .loop .inv .1) in
     omega (arith, ends here .1, here .room)
 
 put-requires : tie.Need-put-requires Inv-loop μ-loop
 put-requires c κs =
     let turn = c .before .before .before .before .before in
-    let within = in-table _ (turn .before .before .before .table .ensures) (turn .before .before .rows-of .ensures) in
-    let here = at-row _ (row 0 0 (Mark 0)) _ _ (turn .loop-test .taken) within (turn .before .loop .inv .1) in
+    let here = at-row _ (turn .before .before .before .table .ensures) (turn .before .before .rows-of .ensures) (turn .loop-test .taken) (turn .before .loop .inv .1) in
     fits-part here (c .before .before .before .takes .ensures) (c .before .amount-at .result)
 
 enum-told : tie.Need-enum-told Inv-loop μ-loop
@@ -116,8 +110,7 @@ loop-again c =
     let putting = c .before .before .before .before .before in
     let taking = putting .before .before .before .before in
     let turn = taking .before .before in
-    let within = in-table _ (turn .before .before .before .table .ensures) (turn .before .before .rows-of .ensures) in
-    let here = at-row _ (row 0 0 (Mark 0)) _ _ (turn .loop-test .taken) within (turn .before .loop .inv .1) in
+    let here = at-row _ (turn .before .before .before .table .ensures) (turn .before .before .rows-of .ensures) (turn .loop-test .taken) (turn .before .loop .inv .1) in
     let amount = putting .before .before .amount-at .ensures in
     let told = c .before .enum-told .given .1 in
     let bytes = putting .put .ensures .1 told in
@@ -140,7 +133,7 @@ returns c =
     let a = turn .before .before .before .before .before .before .args in
     let table = turn .before .before .before .table .ensures in
     let rows = turn .before .before .rows-of .ensures in
-    let here = at-row _ (row 0 0 (Mark 0)) _ _ (turn .loop-test .taken) (in-table _ table rows) (turn .before .loop .inv .1) in
+    let here = at-row _ table rows (turn .loop-test .taken) (turn .before .loop .inv .1) in
     let amount = putting .before .before .amount-at .ensures in
     let told = c .before .enum-told2 .given .1 in
     let refused = refuses here (taking .takes .ensures) amount (putting .put .ensures .0) told (c .behind .ensures) in (
