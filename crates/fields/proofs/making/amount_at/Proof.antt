@@ -15,7 +15,10 @@ returns-2 : tie.Need-returns-2
 returns-2 c = search needs
 
 returns-3 : tie.Need-returns-3
-returns-3 c = let l : 2 ≤ c .before .before .args .used = omega (arith, c .before .if1 .left, c .if2 .left) in sym (List·getD-eq-default ((c .before .before .args .first) ∷ (c .before .before .args .second) ∷ []) 0 l)
+returns-3 c =
+    let a = c .before .before .args in
+    let past : 2 ≤ a .used = omega (arith, c .before .if1 .left, c .if2 .left) in
+    sym (List·getD-eq-default (a .first ∷ a .second ∷ []) 0 past)
 
 pub amount-at-spec : {M : Type 1} → statement M
 amount-at-spec = tie.close (tie.spec returns returns-2 returns-3)

@@ -17,7 +17,8 @@ use Rattle.fields.proofs.making.make_rows.Tie as tie
 abbrev Inv-loop : tie.InvT-loop
 Inv-loop given first second made₀ table to i₀ done₀ at₀ used₀ made i done at used =
     (i ≤ to)
-    × Making (slice i to table) given (first ∷ second ∷ []) made done at used (makingAnswer (slice i₀ to table) given (first ∷ second ∷ [])) (madeOf (slice i₀ to table) given (first ∷ second ∷ []))
+    × Making (slice i to table) given (first ∷ second ∷ []) made done at used (makingAnswer (slice i₀ to table) given (first ∷ second ∷ []))
+    (madeOf (slice i₀ to table) given (first ∷ second ∷ []))
 
 abbrev μ-loop : tie.MeasureT-loop
 μ-loop given first second made₀ table to i₀ done₀ at₀ used₀ made i done at used = to - i

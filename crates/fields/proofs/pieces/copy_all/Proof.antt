@@ -11,7 +11,9 @@ same-length : tie.Need-same-length
 same-length c = search needs
 
 returns : tie.Need-returns
-returns c = copied (c .before .before .before .before .before .before .args .src .now) (c .before .before .before .before .before .before .args .out .now) (c .before .before .before .before .before .before .pre) (c .before .before .copy .ensures .1)
+returns c =
+    let start = c .before .before .before .before .before .before in
+    copied (start .args .src .now) (start .args .out .now) (start .pre) (c .before .before .copy .ensures .1)
 
 pub copy-all-spec : {M : Type 1} → statement M
 copy-all-spec = tie.close (tie.spec copy-requires same-length returns)
