@@ -32,15 +32,20 @@ check-requires : tie.Need-check-requires
 check-requires c κs = search needs
 
 moved-requires : tie.Need-moved-requires
-moved-requires c κs = rw (c .check .ensures) (code-place (c .before .before .before .before .before .before .before .before .before .args .code .now))
+moved-requires c κs =
+    let start = c .before .before .before .before .before .before .before .before .before in
+    rw (c .check .ensures) (code-place (start .args .code .now))
 
 returns : tie.Need-returns
 returns c = handed _ (c .before .before .ask-boxes .ensures) (c .enum-told .given .1)
 
 returns-2 : tie.Need-returns-2
 returns-2 c =
-    let code = c .before .check .ensures ∙ ap barcodeAnswer (c .before .before .before .before .before .before .before .before .before .before .pre .1) ∙ code-body (c .before .before .before .before .before .before .before .before .before .before .args .line .now) (c .before .before .before .before .before .before .before .before .before .before .pre .0) in
-    onward (c .before .before .before .before .ask-boxes .ensures) (c .before .before .enum-told2 .given .1) (c .moved .ensures ∙ ap (movedBy inLine) code)
+    let boxed = c .before .before .before .before in
+    let start = boxed .before .before .before .before .before .before in
+    let holds = ap barcodeAnswer (start .pre .1) in
+    let code = c .before .check .ensures ∙ holds ∙ code-body (start .args .line .now) (start .pre .0) in
+    onward (boxed .ask-boxes .ensures) (c .before .before .enum-told2 .given .1) (c .moved .ensures ∙ ap (movedBy inLine) code)
 
 pub ask-checks-spec : {M : Type 1} → statement M
 ask-checks-spec =

@@ -34,13 +34,21 @@ read-fields-requires : tie.Need-read-fields-requires
 read-fields-requires c κs = search needs
 
 returns-2 : tie.Need-returns-2
-returns-2 c = shown-refused _ (c .before .before .before .ask-body .ensures ∙ sym (line-body (c .before .before .before .before .before .before .before .before .before .before .args .line .now) (c .before .before .before .before .before .before .before .before .if1 .left))) (c .before .why .given .1)
+returns-2 c =
+    let asked = c .before .before .before in
+    let long = asked .before .before .before .before .before in
+    let body = line-body (long .before .before .args .line .now) (long .if1 .left) in
+    shown-refused _ (asked .ask-body .ensures ∙ sym body) (c .before .why .given .1)
 
 returns-3 : tie.Need-returns-3
 returns-3 c =
-    let n = c .before .before .before .before .before .before .before .before .before .if1 .left in
-    let line = c .before .before .before .before .before .before .before .before .before .before .before .args .line .now in
-    shown-read (c .before .before .before .before .ask-body .ensures ∙ sym (line-body line n)) (c .before .before .enum-told .given .1) (c .read-fields .ensures ∙ ap readOf (c .before .before .before .before .before .before .before .put-code .ensures) ∙ fields-read line n)
+    let asked = c .before .before .before .before in
+    let put = asked .before .before .before in
+    let long = put .before .before in
+    let n = long .if1 .left in
+    let line = long .before .before .args .line .now in
+    let read = c .read-fields .ensures ∙ ap readOf (put .put-code .ensures) ∙ fields-read line n in
+    shown-read (asked .ask-body .ensures ∙ sym (line-body line n)) (c .before .before .enum-told .given .1) read
 
 pub decode-spec : {M : Type 1} → statement M
 decode-spec =

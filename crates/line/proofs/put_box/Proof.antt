@@ -31,8 +31,12 @@ same-length c = search needs
 
 returns : tie.Need-returns
 returns c =
-    let a = c .before .before .before .before .before .before .before .before .before .before .before .args in
-    c .before .before .put2 .ensures ∙ ap (λ (l : List ℕ). putAt (a .at) l (a .out .now)) (boxed (a .part .now) _ _ (c .before .before .before .before .before .before .before .before .before .before .before .pre) refl (c .before .before .before .before .before .before .before .put .ensures) ∙ rw (c .before .before .before .before .before .check-byte .ensures))
+    let checked = c .before .before .before .before .before in
+    let put = checked .before .before in
+    let start = put .before .before .before .before in
+    let a = start .args in
+    let box = boxed (a .part .now) _ _ (start .pre) refl (put .put .ensures) in
+    c .before .before .put2 .ensures ∙ ap (λ (l : List ℕ). putAt (a .at) l (a .out .now)) (box ∙ rw (checked .check-byte .ensures))
 
 pub put-box-spec : {M : Type 1} → statement M
 put-box-spec =

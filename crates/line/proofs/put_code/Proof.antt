@@ -59,10 +59,16 @@ same-length c = search needs
 
 returns : tie.Need-returns
 returns c =
-    let l = c .before .before .before .before .before .before .before .before .before .before .before .before .before .before .before .before .before .before .before .before .before .before .args .line .now in
-    let n = c .before .before .before .before .before .before .before .before .before .before .before .before .before .before .before .before .before .before .before .before .before .before .pre .0 in
-    four-pieces 11 (take 11 l) (take 11 (drop 12 l)) (take 11 (drop 24 l)) (take 11 (drop 36 l)) (c .before .before .before .before .before .before .before .before .before .before .before .before .before .before .before .before .before .before .before .before .before .before .args .code .now) (eleven l 0 (omega arith)) (eleven l 12 (omega arith))
-    (eleven l 24 (omega arith)) (eleven l 36 (omega arith)) (c .before .before .before .before .before .before .before .before .before .before .before .before .before .before .before .before .before .before .before .before .before .before .pre .1) (c .before .before .before .before .before .before .before .before .before .before .before .before .before .before .before .before .before .put .ensures) (c .before .before .before .before .before .before .before .before .before .before .before .before .put2 .ensures) (c .before .before .before .before .before .before .before .put3 .ensures) (c .before .before .put4 .ensures)
+    let four = c .before .before in
+    let three = four .before .before .before .before .before in
+    let two = three .before .before .before .before .before in
+    let one = two .before .before .before .before .before in
+    let start = one .before .before .before .before .before in
+    let l = start .args .line .now in
+    let n = start .pre .0 in
+    four-pieces 11 (take 11 l) (take 11 (drop 12 l)) (take 11 (drop 24 l)) (take 11 (drop 36 l)) (start .args .code .now)
+    (eleven l 0 (omega arith)) (eleven l 12 (omega arith)) (eleven l 24 (omega arith)) (eleven l 36 (omega arith)) (start .pre .1)
+    (one .put .ensures) (two .put2 .ensures) (three .put3 .ensures) (four .put4 .ensures)
 
 pub put-code-spec : {M : Type 1} → statement M
 put-code-spec =

@@ -73,15 +73,22 @@ same-length c = search needs
 
 returns : tie.Need-returns
 returns c =
-    let code = c .before .before .before .before .before .before .before .before .before .before .before .before .before .before .before .before .before .before .before .before .before .before .before .before .before .args .code .now in
-    let n = c .before .before .before .before .before .before .before .before .before .before .before .before .before .before .before .before .before .before .before .before .before .before .before .before .before .pre .0 in
-    let m = c .before .before .before .before .before .before .before .before .before .before .before .before .before .before .before .before .before .before .before .before .named .result in
-    let e : m ≡ modulusOf (digitAt 3 code) = c .before .before .before .before .before .before .before .before .before .before .before .before .before .before .before .before .before .before .before .before .named .ensures ∙ ap modulusOf (c .before .before .before .before .before .before .before .before .before .before .before .before .before .before .before .before .before .before .before .before .before .value .ensures) in
+    let four = c .before .before in
+    let three = four .before .before .before .before .before in
+    let two = three .before .before .before .before .before in
+    let one = two .before .before .before .before .before in
+    let named = one .before .before .before in
+    let start = named .before .before .before .before .before in
+    let code = start .args .code .now in
+    let n = start .pre .0 in
+    let m = named .named .result in
+    let e : m ≡ modulusOf (digitAt 3 code) = named .named .ensures ∙ ap modulusOf (named .before .value .ensures) in
     let box : ℕ → List ℕ = λ k. checkedBox m (take 11 (drop k code)) in
     let twelve : (k : ℕ) → k + 11 ≤ 44 → length (box k) ≡ 12 = λ k h. checked-length m (take 11 (drop k code)) (eleven code k (omega arith)) in
     rw (← e)
-    (four-pieces 12 (box 0) (box 11) (box 22) (box 33) (c .before .before .before .before .before .before .before .before .before .before .before .before .before .before .before .before .before .before .before .before .before .before .before .before .before .args .out .now) (twelve 0 (omega arith)) (twelve 11 (omega arith)) (twelve 22 (omega arith)) (twelve 33 (omega arith))
-    (c .before .before .before .before .before .before .before .before .before .before .before .before .before .before .before .before .before .before .before .before .before .before .before .before .before .pre .1) (c .before .before .before .before .before .before .before .before .before .before .before .before .before .before .before .before .before .put-box .ensures) (c .before .before .before .before .before .before .before .before .before .before .before .before .put-box2 .ensures) (c .before .before .before .before .before .before .before .put-box3 .ensures) (c .before .before .put-box4 .ensures))
+    (four-pieces 12 (box 0) (box 11) (box 22) (box 33) (start .args .out .now)
+    (twelve 0 (omega arith)) (twelve 11 (omega arith)) (twelve 22 (omega arith)) (twelve 33 (omega arith)) (start .pre .1)
+    (one .put-box .ensures) (two .put-box2 .ensures) (three .put-box3 .ensures) (four .put-box4 .ensures))
 
 pub put-line-spec : {M : Type 1} → statement M
 put-line-spec =
