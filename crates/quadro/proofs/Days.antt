@@ -3,7 +3,8 @@ use Prim.Native.Nat.{ℕ, zero, suc, _≤_}
 use mathlib.Core.List.{List, [], _∷_}
 use mathlib.Core.Path.{_≡_, ap}
 use native.Mathlib.Omega.{arith}
-use lib.ListN.{length, getD, drop}
+use lib.ListN.{length, getD, take, drop}
+use lib.Seq.{length-take-le}
 use Rattle.answer.specs.declared.Reason.{Reason}
 use Rattle.answer.specs.declared.Answer.{Answer}
 use Rattle.answer.specs.declared.Answer.the-variants.{Accepted, Refused}
@@ -53,6 +54,10 @@ run-few s bytes =
 
 pub counted : (s : Session) (bytes : List ℕ) {r : Ran} → r ≡ runOf s bytes → Counted (length bytes) r
 counted s bytes e = rw e (run-few s bytes)
+
+-- the first n bytes of a buffer
+pub few-fed : (s : Session) (buf : List ℕ) (n : ℕ) {r : Ran} → n ≤ length buf → r ≡ runOf s (take n buf) → Counted n r
+few-fed s buf n h e = rw (length-take-le n buf h) at (counted s (take n buf) e)
 
 pub fed : (day : Ran) (bytes : List ℕ) {r : Ran} → r ≡ runOf (day .session) bytes → after (day .records) (day .files) r ≡ fedOf day bytes
 fed day bytes e = ap (after (day .records) (day .files)) e
