@@ -26,8 +26,14 @@ flag-requires-6 c κs = search needs
 
 returns : tie.Need-returns
 returns c =
-    let a = c .before .before .before .before .before .before .args in
-    six-flags (isOf Text (a .a)) (isOf Text (a .b)) (isOf Text (a .c)) (isOf Text (a .d)) (isOf Digit (a .e)) (isOf Digit (a .f)) (c .before .before .before .before .before .flag .ensures) (c .before .before .before .before .flag2 .ensures) (c .before .before .before .flag3 .ensures) (c .before .before .flag4 .ensures) (c .before .flag5 .ensures) (c .flag6 .ensures)
+    let five = c .before in
+    let four = five .before in
+    let three = four .before in
+    let two = three .before in
+    let one = two .before in
+    let a = one .before .args in
+    six-flags (isOf Text (a .a)) (isOf Text (a .b)) (isOf Text (a .c)) (isOf Text (a .d)) (isOf Digit (a .e)) (isOf Digit (a .f))
+    (one .flag .ensures) (two .flag2 .ensures) (three .flag3 .ensures) (four .flag4 .ensures) (five .flag5 .ensures) (c .flag6 .ensures)
 
 pub flag-of-spec : {M : Type 1} → statement M
 flag-of-spec =

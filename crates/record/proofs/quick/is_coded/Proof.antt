@@ -22,7 +22,10 @@ is-capture-requires c κs = search needs
 
 returns : tie.Need-returns
 unfolding rowAt table layoutOf
-returns c = capture-fails (c .before .before .before .before .before .args .rec .now) (c .before .is-capture .ensures ∙ ap isCapture (c .before .before .byte-at .ensures ∙ ap (λ (l : List ℕ). getD l 0 0) (c .before .before .before .part-of .ensures))) (not-true _ (c .if1 .taken))
+returns c =
+    let part = c .before .before .before in
+    let byte = c .before .before .byte-at .ensures ∙ ap (λ (l : List ℕ). getD l 0 0) (part .part-of .ensures) in
+    capture-fails (part .before .before .args .rec .now) (c .before .is-capture .ensures ∙ ap isCapture byte) (not-true _ (c .if1 .taken))
 
 part-of-requires-2 : tie.Need-part-of-requires-2
 part-of-requires-2 c κs = search needs
@@ -35,7 +38,14 @@ is-form-requires c κs = search needs
 
 returns-2 : tie.Need-returns-2
 unfolding rowAt table layoutOf
-returns-2 c = form-is (c .before .before .before .before .before .before .before .before .args .rec .now) (c .before .before .before .before .is-capture .ensures ∙ ap isCapture (c .before .before .before .before .before .byte-at .ensures ∙ ap (λ (l : List ℕ). getD l 0 0) (c .before .before .before .before .before .before .part-of .ensures))) (not-false _ (c .before .before .before .if1 .left)) (c .is-form .ensures ∙ ap isForm (c .before .byte-at2 .ensures ∙ ap (λ (l : List ℕ). getD l 0 0) (c .before .before .part-of2 .ensures)))
+returns-2 c =
+    let capture = c .before .before .before in
+    let part = capture .before .before .before in
+    let byte = capture .before .before .byte-at .ensures ∙ ap (λ (l : List ℕ). getD l 0 0) (part .part-of .ensures) in
+    let captured = capture .before .is-capture .ensures ∙ ap isCapture byte in
+    let other = c .before .byte-at2 .ensures ∙ ap (λ (l : List ℕ). getD l 0 0) (c .before .before .part-of2 .ensures) in
+    let formed = c .is-form .ensures ∙ ap isForm other in
+    form-is (part .before .before .args .rec .now) captured (not-false _ (capture .if1 .left)) formed
 
 pub is-coded-spec : {M : Type 1} → statement M
 is-coded-spec =

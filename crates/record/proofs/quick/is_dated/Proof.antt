@@ -28,7 +28,10 @@ spells-date-requires-2 c κs = search needs
 returns-2 : tie.Need-returns-2
 unfolding rowAt table layoutOf
 returns-2 c =
-    rw (sym (ap (λ (l : List ℕ). isOne (dateOf l)) (c .before .before .before .before .part-of .ensures)) ∙ sym (c .before .before .before .spells-date .ensures) ∙ not-false _ (c .before .before .if1 .left)) (c .spells-date2 .ensures ∙ ap (λ (l : List ℕ). isOne (dateOf l)) (c .before .part-of2 .ensures))
+    let first = c .before .before in
+    let date = ap (λ (l : List ℕ). isOne (dateOf l)) (first .before .before .part-of .ensures) in
+    let is-one = sym date ∙ sym (first .before .spells-date .ensures) ∙ not-false _ (first .if1 .left) in
+    rw is-one (c .spells-date2 .ensures ∙ ap (λ (l : List ℕ). isOne (dateOf l)) (c .before .part-of2 .ensures))
 
 pub is-dated-spec : {M : Type 1} → statement M
 is-dated-spec =

@@ -28,7 +28,11 @@ parts-hold-requires c κs =
 
 returns : tie.Need-returns
 unfolding rowAt table layoutOf
-returns c = parts-fail (c .before .before .before .before .before .before .args .rec .now) (rw (c .before .before .part-of .ensures, c .before .before .before .before .span .ensures, c .before .before .before .span2 .ensures) at (c .before .parts-hold .ensures)) (not-true _ (c .if1 .taken))
+returns c =
+    let part = c .before .before in
+    let spans = part .before .before in
+    let texts = rw (part .part-of .ensures, spans .span .ensures, part .before .span2 .ensures) at (c .before .parts-hold .ensures) in
+    parts-fail (spans .before .before .args .rec .now) texts (not-true _ (c .if1 .taken))
 
 part-of-requires-2 : tie.Need-part-of-requires-2
 part-of-requires-2 c κs = search needs
@@ -38,7 +42,13 @@ all-of-requires c κs = search needs
 
 returns-2 : tie.Need-returns-2
 unfolding rowAt table layoutOf
-returns-2 c = blanks-are (c .before .before .before .before .before .before .before .before .args .rec .now) (rw (c .before .before .before .before .part-of .ensures, c .before .before .before .before .before .before .span .ensures, c .before .before .before .before .before .span2 .ensures) at (c .before .before .before .parts-hold .ensures)) (not-false _ (c .before .before .if1 .left)) (rw (c .before .part-of2 .ensures) at (c .all-of .ensures))
+returns-2 c =
+    let held = c .before .before in
+    let part = held .before .before in
+    let spans = part .before .before in
+    let texts = rw (part .part-of .ensures, spans .span .ensures, part .before .span2 .ensures) at (held .before .parts-hold .ensures) in
+    let blanks = rw (c .before .part-of2 .ensures) at (c .all-of .ensures) in
+    blanks-are (spans .before .before .args .rec .now) texts (not-false _ (held .if1 .left)) blanks
 
 pub is-plain-spec : {M : Type 1} → statement M
 is-plain-spec =

@@ -25,7 +25,11 @@ is-coded-requires c κs = search needs
 
 returns-3 : tie.Need-returns-3
 returns-3 c =
-    rw (sym (c .before .before .before .before .is-payment .ensures) ∙ not-false _ (c .before .before .before .if1 .left), sym (c .before .before .is-plain .ensures) ∙ not-false _ (c .before .if2 .left)) (c .is-coded .ensures)
+    let plain = c .before in
+    let payment = plain .before .before in
+    let is = sym (payment .before .is-payment .ensures) ∙ not-false _ (payment .if1 .left) in
+    let blank = sym (plain .before .is-plain .ensures) ∙ not-false _ (plain .if2 .left) in
+    rw (is, blank) (c .is-coded .ensures)
 
 pub looks-like-payment-spec : {M : Type 1} → statement M
 looks-like-payment-spec =

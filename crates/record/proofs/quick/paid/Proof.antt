@@ -23,7 +23,10 @@ is-dated-requires : tie.Need-is-dated-requires
 is-dated-requires c κs = search needs
 
 returns-3 : tie.Need-returns-3
-returns-3 c = not-dated (c .before .before .before .before .before .before .args .rec .now) (c .before .before .before .before .if1 .left) (sym (c .before .is-dated .ensures) ∙ not-true _ (c .if3 .taken)) .0
+returns-3 c =
+    let sized = c .before .before .before .before in
+    let undated = sym (c .before .is-dated .ensures) ∙ not-true _ (c .if3 .taken) in
+    not-dated (sized .before .before .args .rec .now) (sized .if1 .left) undated .0
 
 part-of-requires : tie.Need-part-of-requires
 part-of-requires c κs = search needs
@@ -43,16 +46,24 @@ enum-told c = search needs
 returns-4 : tie.Need-returns-4
 unfolding rowAt table layoutOf
 returns-4 c =
-    let rec = c .before .before .before .before .before .before .before .before .before .before .before .before .args .rec .now in
+    let paid = c .before .before .before .before in
+    let dated = paid .before .before in
+    let looked = dated .before .before in
+    let sized = looked .before .before in
+    let rec = sized .before .before .args .rec .now in
     let part = partOf (rowAt barcodeRow) rec in
-    let to = sym (c .before .before .issuer .given .1) ∙ c .before .before .before .before .pays .ensures ∙ ap payeeOf (c .before .before .before .before .before .part-of .ensures) in
-    let looks = sym (c .before .before .before .before .before .before .before .before .before .looks-like-payment .ensures) ∙ not-false _ (c .before .before .before .before .before .before .before .before .if2 .left) in
-    let dates = sym (c .before .before .before .before .before .before .before .is-dated .ensures) ∙ not-false _ (c .before .before .before .before .before .before .if3 .left) in
-    pays-it rec (c .before .before .before .before .before .before .before .before .before .before .if1 .left) looks dates (sym (paid-accepts part to)) (paid-issuer part to) (c .number-of .ensures)
+    let to = sym (c .before .before .issuer .given .1) ∙ paid .pays .ensures ∙ ap payeeOf (paid .before .part-of .ensures) in
+    let looks = sym (looked .before .looks-like-payment .ensures) ∙ not-false _ (looked .if2 .left) in
+    let dates = sym (dated .before .is-dated .ensures) ∙ not-false _ (dated .if3 .left) in
+    pays-it rec (sized .if1 .left) looks dates (sym (paid-accepts part to)) (paid-issuer part to) (c .number-of .ensures)
 
 returns-5 : tie.Need-returns-5
 unfolding rowAt table layoutOf
-returns-5 c = no-payee (c .before .before .before .before .before .before .before .before .before .before .args .rec .now) (c .before .before .before .before .before .before .before .before .if1 .left) (sym (c .enum-told .given .1) ∙ c .before .before .pays .ensures ∙ ap payeeOf (c .before .before .before .part-of .ensures)) .0
+returns-5 c =
+    let paid = c .before .before in
+    let sized = paid .before .before .before .before .before .before in
+    let none = sym (c .enum-told .given .1) ∙ paid .pays .ensures ∙ ap payeeOf (paid .before .part-of .ensures) in
+    no-payee (sized .before .before .args .rec .now) (sized .if1 .left) none .0
 
 pub paid-spec : {M : Type 1} → statement M
 paid-spec =

@@ -29,9 +29,26 @@ rows-hold-requires c κs = search needs
 
 returns : tie.Need-returns
 returns c =
-    let a = c .before .before .before .before .before .before .before .before .before .before .args in
-    let p = c .before .before .before .before .before .before .before .before .before .before .pre in
-    rw (← two-rows (isOf Text) (a .text .now) (p .0 .0) (p .0 .1), ← two-rows (isOf Text) (a .other .now) (p .1 .0 .0) (p .1 .0 .1), ← two-rows (isOf Digit) (a .digits .now) (p .1 .1 .0) (p .1 .1 .1), ← c .before .before .before .before .before .before .first-row .ensures .0, ← c .before .before .before .before .before .last-row .ensures .0, ← c .before .before .before .before .first-row2 .ensures .0, ← c .before .before .before .last-row2 .ensures .0, ← c .before .before .first-row3 .ensures .0, ← c .before .last-row3 .ensures .0)
+    let digits = c .before .before in
+    let other = digits .before .before in
+    let text = other .before .before in
+    let start = text .before .before .before .before in
+    let a = start .args in
+    let p = start .pre in
+    let all-text = two-rows (isOf Text) (a .text .now) (p .0 .0) (p .0 .1) in
+    let all-other = two-rows (isOf Text) (a .other .now) (p .1 .0 .0) (p .1 .0 .1) in
+    let all-digits = two-rows (isOf Digit) (a .digits .now) (p .1 .1 .0) (p .1 .1 .1) in
+    rw (
+      ← all-text,
+      ← all-other,
+      ← all-digits,
+      ← text .first-row .ensures .0,
+      ← other .before .last-row .ensures .0,
+      ← other .first-row2 .ensures .0,
+      ← digits .before .last-row2 .ensures .0,
+      ← digits .first-row3 .ensures .0,
+      ← c .before .last-row3 .ensures .0,
+    )
     (c .rows-hold .ensures)
 
 pub parts-hold-spec : {M : Type 1} → statement M

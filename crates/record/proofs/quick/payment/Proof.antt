@@ -29,7 +29,11 @@ enum-told c = search needs
 
 returns-3 : tie.Need-returns-3
 unfolding rowAt table layoutOf
-returns-3 c = no-payment-date (c .before .before .before .before .before .before .before .args .rec .now) (c .before .before .before .before .before .if1 .left) (sym (c .before .before .date-of .ensures) ∙ c .enum-told .given .1) .1
+returns-3 c =
+    let read = c .before .before in
+    let sized = read .before .before .before in
+    let none = sym (read .date-of .ensures) ∙ c .enum-told .given .1 in
+    no-payment-date (sized .before .before .args .rec .now) (sized .if1 .left) none .1
 
 date-of-requires-2 : tie.Need-date-of-requires-2
 date-of-requires-2 c κs = search needs
@@ -42,7 +46,11 @@ enum-told-2 c = search needs
 
 returns-4 : tie.Need-returns-4
 unfolding rowAt table layoutOf
-returns-4 c = no-credit-date (c .before .before .before .before .before .before .before .before .before .before .before .args .rec .now) (c .before .before .before .before .before .before .before .before .before .if1 .left) (sym (c .before .before .date-of2 .ensures) ∙ c .enum-told2 .given .1) .1
+returns-4 c =
+    let read = c .before .before in
+    let sized = read .before .before .before .before .before .before .before in
+    let none = sym (read .date-of2 .ensures) ∙ c .enum-told2 .given .1 in
+    no-credit-date (sized .before .before .args .rec .now) (sized .if1 .left) none .1
 
 barcode-of-requires : tie.Need-barcode-of-requires
 barcode-of-requires c κs = search needs
@@ -65,17 +73,28 @@ enum-told-3 c = search needs
 returns-5 : tie.Need-returns-5
 unfolding rowAt table layoutOf
 returns-5 c =
-    let rec = c .before .before .before .before .before .before .before .before .before .before .before .before .before .before .before .before .before .before .before .args .rec .now in
+    let code = c .before .before .before .before .before .before in
+    let credit = code .before .before .before .before in
+    let pay = credit .before .before .before .before in
+    let looked = pay .before in
+    let sized = looked .before .before in
+    let rec = sized .before .before .args .rec .now in
     let part = partOf (rowAt barcodeRow) rec in
-    let paid = sym (c .before .before .before .before .before .before .before .before .before .before .before .before .before .before .date-of .ensures) ∙ c .before .before .before .before .before .before .before .before .before .before .before .before .paid .given .1 in
-    let credited = sym (c .before .before .before .before .before .before .before .before .before .before .date-of2 .ensures) ∙ c .before .before .before .before .before .before .before .before .credited .given .1 in
-    let told = read-tells part (sym (c .before .before .before .before .barcode .given .1) ∙ c .before .before .before .before .before .before .barcode-of .ensures) in
-    let looks = sym (c .before .before .before .before .before .before .before .before .before .before .before .before .before .before .before .before .looks-like-payment .ensures) ∙ not-false _ (c .before .before .before .before .before .before .before .before .before .before .before .before .before .before .before .if2 .left) in
-    shows-it rec (c .before .before .before .before .before .before .before .before .before .before .before .before .before .before .before .before .before .if1 .left) looks (both-dates rec (c .before .before .before .before .before .before .before .before .before .before .before .before .before .before .before .before .before .if1 .left) paid credited) (told .0) paid credited (told .1) (c .before .before .number-of .ensures) (c .before .number-of2 .ensures) (c .number-of3 .ensures)
+    let paid = sym (pay .date-of .ensures) ∙ credit .before .before .paid .given .1 in
+    let credited = sym (credit .date-of2 .ensures) ∙ code .before .before .credited .given .1 in
+    let told = read-tells part (sym (c .before .before .before .before .barcode .given .1) ∙ code .barcode-of .ensures) in
+    let looks = sym (looked .before .looks-like-payment .ensures) ∙ not-false _ (looked .if2 .left) in
+    let dates = both-dates rec (sized .if1 .left) paid credited in
+    shows-it rec (sized .if1 .left) looks dates (told .0) paid credited (told .1)
+    (c .before .before .number-of .ensures) (c .before .number-of2 .ensures) (c .number-of3 .ensures)
 
 returns-6 : tie.Need-returns-6
 unfolding rowAt table layoutOf
-returns-6 c = no-code (c .before .before .before .before .before .before .before .before .before .before .before .before .before .before .before .args .rec .now) (c .before .before .before .before .before .before .before .before .before .before .before .before .before .if1 .left) (sym (c .enum-told3 .given .1) ∙ c .before .before .barcode-of .ensures) .1
+returns-6 c =
+    let code = c .before .before in
+    let sized = code .before .before .before .before .before .before .before .before .before .before .before in
+    let none = sym (c .enum-told3 .given .1) ∙ code .barcode-of .ensures in
+    no-code (sized .before .before .args .rec .now) (sized .if1 .left) none .1
 
 pub payment-spec : {M : Type 1} → statement M
 payment-spec =

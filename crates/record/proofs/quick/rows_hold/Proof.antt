@@ -47,15 +47,18 @@ loop-less c = search needs
 
 loop-again : tie.Need-loop-again Inv-loop μ-loop
 loop-again c =
-    let a = c .before .before .before .before .before .before .before .before .before .before .before .before .before .before .before .args in
-    let l = c .before .before .before .before .before .before .before .before .loop in
-    (search needs, rows-step (a .a .now) (a .b .now) (a .c .now) (a .d .now) (a .e .now) (a .f .now) (c .before .before .before .before .before .before .before .before .before .before .before .before .before .before .before .pre) (l .i) (l .flags) (search needs) (c .flag-of .ensures) (l .inv .1))
+    let loop = c .before .before .before .before .before .before .before .before in
+    let start = loop .before .before .before .before .before .before .before in
+    let a = start .args in
+    let l = loop .loop in
+    (search needs, rows-step (a .a .now) (a .b .now) (a .c .now) (a .d .now) (a .e .now) (a .f .now) (start .pre) (l .i) (l .flags) (search needs) (c .flag-of .ensures) (l .inv .1))
 
 returns : tie.Need-returns Inv-loop μ-loop
 returns c =
-    let a = c .before .before .before .before .before .before .before .before .args in
+    let start = c .before .before .before .before .before .before .before .before in
+    let a = start .args in
     let l = c .before .loop in
-    rows-end (a .a .now) (a .b .now) (a .c .now) (a .d .now) (a .e .now) (a .f .now) (c .before .before .before .before .before .before .before .before .pre) (l .i) (l .flags) (c .loop-test .left) (l .inv .1)
+    rows-end (a .a .now) (a .b .now) (a .c .now) (a .d .now) (a .e .now) (a .f .now) (start .pre) (l .i) (l .flags) (c .loop-test .left) (l .inv .1)
 
 pub rows-hold-spec : {M : Type 1} → statement M
 rows-hold-spec =
