@@ -23,8 +23,11 @@ enum-told-2 c = search needs
 
 shown-requires : tie.Need-shown-requires
 shown-requires c κs =
+    let looked = c .before .before .before .before .before in
+    let rec = looked .before .before .args .rec .now in
     let a = sym (c .before .before .walked .ensures) ∙ c .enum-told2 .given .1 in
-    (accepted-is _ a .0, other-shown (c .before .before .before .before .before .before .before .args .rec .now) (sym (c .before .before .before .enum-told .given .1) ∙ c .before .before .before .before .before .payment .ensures) a)
+    let none = sym (c .before .before .before .enum-told .given .1) ∙ looked .payment .ensures in
+    (accepted-is _ a .0, other-shown rec none a)
 
 enum-known-why : tie.Need-enum-known-why
 enum-known-why c = search needs

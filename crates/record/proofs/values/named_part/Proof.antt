@@ -18,7 +18,10 @@ row-requires : tie.Need-row-requires
 row-requires c κs = search needs
 
 part-of-requires : tie.Need-part-of-requires
-part-of-requires c κs = (search needs, row-of-named (c .before .before .before .named-by .result) (c .before .before .before .before .before .before .args .row) (sym (c .before .before .has-row .ensures) ∙ c .before .if1 .taken) (c .row .ensures))
+part-of-requires c κs =
+    let named = c .before .before .before in
+    let has = sym (c .before .before .has-row .ensures) ∙ c .before .if1 .taken in
+    (search needs, row-of-named (named .named-by .result) (named .before .before .before .args .row) has (c .row .ensures))
 
 sub-result : tie.Need-sub-result
 sub-result c = search needs
@@ -30,7 +33,10 @@ part-result-end : tie.Need-part-result-end
 part-result-end c = search needs
 
 returns : tie.Need-returns
-returns c = rw (← c .before .before .before .before .named-by .ensures, sym (c .before .before .before .has-row .ensures) ∙ c .before .before .if1 .taken, ← c .before .row .ensures) (c .part-of .ensures)
+returns c =
+    let asked = c .before .before .before in
+    let has = sym (asked .has-row .ensures) ∙ c .before .before .if1 .taken in
+    rw (← asked .before .named-by .ensures, has, ← c .before .row .ensures) (c .part-of .ensures)
 
 returns-2 : tie.Need-returns-2
 returns-2 c = rw (← c .before .before .before .named-by .ensures, sym (c .before .before .has-row .ensures) ∙ c .before .if1 .left)

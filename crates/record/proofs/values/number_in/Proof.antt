@@ -15,7 +15,10 @@ number-requires : tie.Need-number-requires
 number-requires c κs = search needs
 
 returns : tie.Need-returns
-returns c = let s = c .before .before .before in number-held (s .args .f) (s .args .rec .now) (s .pre .1 .0) (s .pre .1 .1) (s .pre .0) (c .number .ensures ∙ ap (λ (l : List ℕ). heldOf (numberOf l)) (c .before .part-of .ensures))
+returns c =
+    let s = c .before .before .before in
+    let held = c .number .ensures ∙ ap (λ (l : List ℕ). heldOf (numberOf l)) (c .before .part-of .ensures) in
+    number-held (s .args .f) (s .args .rec .now) (s .pre .1 .0) (s .pre .1 .1) (s .pre .0) held
 
 pub number-in-spec : {M : Type 1} → statement M
 number-in-spec = tie.close (tie.spec part-of-requires number-requires returns)

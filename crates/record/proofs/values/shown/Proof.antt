@@ -34,13 +34,23 @@ enum-told-4 : tie.Need-enum-told-4
 enum-told-4 c = search needs
 
 returns : tie.Need-returns
-returns c = rw (sym (c .before .before .before .before .before .before .named-by .ensures) ∙ c .before .before .before .before .which .given .1, c .before .enum-told .given .1, c .read-header .ensures)
+returns c =
+    let which = c .before .before .before .before in
+    let named = sym (which .before .before .named-by .ensures) ∙ which .which .given .1 in
+    rw (named, c .before .enum-told .given .1, c .read-header .ensures)
 
 returns-2 : tie.Need-returns-2
-returns-2 c = never (sym (c .before .before .before .before .before .before .before .before .pre .1) ∙ ap isPayment (sym (c .before .before .before .before .before .named-by .ensures) ∙ c .before .before .before .which .given .1) ∙ rw (c .enum-told2 .given .1))
+returns-2 c =
+    let which = c .before .before .before in
+    let start = which .before .before .before .before .before in
+    let named = sym (which .before .before .named-by .ensures) ∙ which .which .given .1 in
+    never (sym (start .pre .1) ∙ ap isPayment named ∙ rw (c .enum-told2 .given .1))
 
 returns-3 : tie.Need-returns-3
-returns-3 c = rw (sym (c .before .before .before .before .before .before .named-by .ensures) ∙ c .before .before .before .before .which .given .1, c .before .enum-told3 .given .1, c .read-trailer .ensures)
+returns-3 c =
+    let which = c .before .before .before .before in
+    let named = sym (which .before .before .named-by .ensures) ∙ which .which .given .1 in
+    rw (named, c .before .enum-told3 .given .1, c .read-trailer .ensures)
 
 returns-4 : tie.Need-returns-4
 returns-4 c = rw (sym (c .before .before .named-by .ensures) ∙ c .enum-told4 .given .1)

@@ -44,13 +44,25 @@ loop-less : tie.Need-loop-less Inv-loop μ-loop
 loop-less c = search needs
 
 loop-again : tie.Need-loop-again Inv-loop μ-loop
-loop-again c = (search needs, later _ _ _ _ _ (c .before .before .before .before .loop-test .taken) (in-table _ (c .before .before .before .before .before .before .before .table .ensures) (c .before .before .before .before .before .before .rows-of .ensures)) (sym (c .before .before .field-answer .ensures) ∙ c .enum-told .given .1) (c .before .before .before .before .before .loop .inv .1))
+loop-again c =
+    let test = c .before .before .before .before in
+    let loop = test .before in
+    let rows = loop .before in
+    let fits = in-table _ (rows .before .table .ensures) (rows .rows-of .ensures) in
+    let accepted = sym (c .before .before .field-answer .ensures) ∙ c .enum-told .given .1 in
+    (search needs, later _ _ _ _ _ (test .loop-test .taken) fits accepted (loop .loop .inv .1))
 
 enum-told-2 : tie.Need-enum-told-2 Inv-loop μ-loop
 enum-told-2 c = search needs
 
 returns : tie.Need-returns Inv-loop μ-loop
-returns c = here _ _ _ _ _ (c .before .before .before .before .loop-test .taken) (in-table _ (c .before .before .before .before .before .before .before .table .ensures) (c .before .before .before .before .before .before .rows-of .ensures)) (c .before .before .field-answer .ensures) (c .enum-told2 .given .1) (c .before .before .before .before .before .loop .inv .1 ∙ walked _ (c .before .before .before .before .before .before .before .table .ensures) (c .before .before .before .before .before .before .rows-of .ensures) _)
+returns c =
+    let test = c .before .before .before .before in
+    let loop = test .before in
+    let rows = loop .before in
+    let fits = in-table _ (rows .before .table .ensures) (rows .rows-of .ensures) in
+    let all = loop .loop .inv .1 ∙ walked _ (rows .before .table .ensures) (rows .rows-of .ensures) _ in
+    here _ _ _ _ _ (test .loop-test .taken) fits (c .before .before .field-answer .ensures) (c .enum-told2 .given .1) all
 
 returns-2 : tie.Need-returns-2 Inv-loop μ-loop
 returns-2 c = none _ _ _ _ (c .before .loop .inv .0) (c .loop-test .left) (c .before .loop .inv .1 ∙ walked _ (c .before .before .before .table .ensures) (c .before .before .rows-of .ensures) _)

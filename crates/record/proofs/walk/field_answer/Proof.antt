@@ -28,11 +28,13 @@ returns : tie.Need-returns
 unfolding fieldAnswer
 returns c =
     let s = c .before .before .before .before .before in
-    let k = c .before .before .check .ensures ∙ ap (kindAnswer (s .args .f .kind)) (c .before .before .before .part-of .ensures) in
-    let bs = partOf (s .args .f) (s .args .rec .now) in
-    let n = part-length (s .args .f) (s .args .rec .now) (s .pre .1) (s .pre .0) in
-    let near = kind-place (s .args .f .kind) bs (omega (arith, n, s .pre .1 .end)) in
-    c .behind .ensures ∙ ap (movedBy (heldBehind (s .args .f .first - 1))) k ∙ behind-is-held (s .args .f .first - 1) (kindAnswer (s .args .f .kind) bs) (omega (arith, near, s .pre .1 .order, s .pre .1 .end))
+    let f = s .args .f in
+    let k = c .before .before .check .ensures ∙ ap (kindAnswer (f .kind)) (c .before .before .before .part-of .ensures) in
+    let bs = partOf f (s .args .rec .now) in
+    let n = part-length f (s .args .rec .now) (s .pre .1) (s .pre .0) in
+    let near = kind-place (f .kind) bs (omega (arith, n, s .pre .1 .end)) in
+    let held = behind-is-held (f .first - 1) (kindAnswer (f .kind) bs) (omega (arith, near, s .pre .1 .order, s .pre .1 .end)) in
+    c .behind .ensures ∙ ap (movedBy (heldBehind (f .first - 1))) k ∙ held
 
 pub field-answer-spec : {M : Type 1} → statement M
 field-answer-spec =

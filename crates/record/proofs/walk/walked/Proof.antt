@@ -27,7 +27,10 @@ enum-told c = search needs
 
 returns-2 : tie.Need-returns-2
 unfolding recordAnswer
-returns-2 c = rw (eq-eqb _ _ (c .before .before .before .before .before .before .if1 .left), sym (c .before .before .before .before .named-by .ensures) ∙ c .before .before .which .given .1) (c .body-answer .ensures)
+returns-2 c =
+    let which = c .before .before in
+    let named = sym (which .before .before .named-by .ensures) ∙ which .which .given .1 in
+    rw (eq-eqb _ _ (which .before .before .before .before .if1 .left), named) (c .body-answer .ensures)
 
 returns-3 : tie.Need-returns-3
 unfolding recordAnswer
