@@ -35,9 +35,13 @@ is-of-requires c κs = search needs
 
 returns-2 : tie.Need-returns-2 Inv-loop μ-loop
 returns-2 c =
-    let a = c .before .before .before .before .before .before .args in
-    let full = sym (length-map (a .t1 .lanes) _) ∙ c .before .before .before .before .before .before .good .0 .1 .1 .0 .1 .0 .1 in
-    sym (c .before .before .before .before .before .loop .inv .1 ∙ index-here (a .issuer) (a .t1) full (c .before .before .before .before .before .loop .i) (c .before .before .before .if1 .left) (c .before .before .before .before .loop-test .taken) (sym (c .before .is-of .ensures) ∙ c .if2 .taken))
+    let loop = c .before .before .before .before .before in
+    let a = loop .before .args in
+    let full = sym (length-map (a .t1 .lanes) _) ∙ loop .before .good .0 .1 .1 .0 .1 .0 .1 in
+    let more = c .before .before .before .before .loop-test .taken in
+    let used = c .before .before .before .if1 .left in
+    let found = sym (c .before .is-of .ensures) ∙ c .if2 .taken in
+    sym (loop .loop .inv .1 ∙ index-here (a .issuer) (a .t1) full (loop .loop .i) used more found)
 
 add-i : tie.Need-add-i Inv-loop μ-loop
 add-i c = search needs
@@ -47,9 +51,13 @@ loop-less c = search needs
 
 loop-again : tie.Need-loop-again Inv-loop μ-loop
 loop-again c =
-    let a = c .before .before .before .before .before .before .args in
-    let full = sym (length-map (a .t1 .lanes) _) ∙ c .before .before .before .before .before .before .good .0 .1 .1 .0 .1 .0 .1 in
-    (omega arith, c .before .before .before .before .before .loop .inv .1 ∙ index-on (a .issuer) (a .t1) full (c .before .before .before .before .before .loop .i) (c .before .before .before .if1 .left) (c .before .before .before .before .loop-test .taken) (sym (c .before .is-of .ensures) ∙ c .if2 .left))
+    let loop = c .before .before .before .before .before in
+    let a = loop .before .args in
+    let full = sym (length-map (a .t1 .lanes) _) ∙ loop .before .good .0 .1 .1 .0 .1 .0 .1 in
+    let more = c .before .before .before .before .loop-test .taken in
+    let used = c .before .before .before .if1 .left in
+    let other = sym (c .before .is-of .ensures) ∙ c .if2 .left in
+    (omega arith, loop .loop .inv .1 ∙ index-on (a .issuer) (a .t1) full (loop .loop .i) used more other)
 
 returns-3 : tie.Need-returns-3 Inv-loop μ-loop
 returns-3 c =
