@@ -23,16 +23,22 @@ fits-with-requires c κs = search needs
 
 returns-2 : tie.Need-returns-2
 returns-2 c =
-    let a = c .before .before .before .before .before .before .args in
-    own-passed (a .self) (a .payment) _ (c .before .before .before .before .if1 .left) (c .before .before .before .own .ensures) (sym (c .before .fits-with .ensures) ∙ not-true _ (c .if2 .taken))
+    let own = c .before .before .before in
+    let a = own .before .before .before .args in
+    let passed = sym (c .before .fits-with .ensures) ∙ not-true _ (c .if2 .taken) in
+    own-passed (a .self) (a .payment) _ (own .before .if1 .left) (own .own .ensures) passed
 
 fits-with-requires-2 : tie.Need-fits-with-requires-2
 fits-with-requires-2 c κs = search needs
 
 returns-3 : tie.Need-returns-3
 returns-3 c =
-    let a = c .before .before .before .before .before .before .before .before .args in
-    total-passed (a .self) (a .payment) _ (c .before .before .before .before .before .before .if1 .left) (c .before .before .before .before .before .own .ensures) (sym (c .before .before .before .fits-with .ensures) ∙ not-false _ (c .before .before .if2 .left)) (sym (c .before .fits-with2 .ensures) ∙ not-true _ (c .if3 .taken))
+    let fits = c .before .before in
+    let own = fits .before .before .before in
+    let a = own .before .before .before .args in
+    let lane = sym (fits .before .fits-with .ensures) ∙ not-false _ (fits .if2 .left) in
+    let passed = sym (c .before .fits-with2 .ensures) ∙ not-true _ (c .if3 .taken) in
+    total-passed (a .self) (a .payment) _ (own .before .if1 .left) (own .own .ensures) lane passed
 
 plus-requires : tie.Need-plus-requires
 plus-requires c κs = sym (c .before .before .before .before .fits-with .ensures) ∙ not-false _ (c .before .before .before .if2 .left)
@@ -45,8 +51,14 @@ plus-requires-2 c κs = sym (c .before .before .before .before .fits-with2 .ensu
 
 returns-4 : tie.Need-returns-4
 returns-4 c =
-    let a = c .before .before .before .before .before .before .before .before .before .before .before .before .args in
-    within (a .self) (a .payment) _ (c .before .before .before .before .before .before .before .before .before .before .if1 .left) (c .before .before .before .before .before .before .before .before .before .own .ensures) (sym (c .before .before .before .before .before .before .before .fits-with .ensures) ∙ not-false _ (c .before .before .before .before .before .before .if2 .left)) (sym (c .before .before .before .before .before .fits-with2 .ensures) ∙ not-false _ (c .before .before .before .before .if3 .left)) (c .before .before .plus .ensures) (c .before .used-after .ensures) (c .plus2 .ensures)
+    let all-fits = c .before .before .before .before in
+    let fits = all-fits .before .before in
+    let own = fits .before .before .before in
+    let a = own .before .before .before .args in
+    let lane = sym (fits .before .fits-with .ensures) ∙ not-false _ (fits .if2 .left) in
+    let total = sym (all-fits .before .fits-with2 .ensures) ∙ not-false _ (all-fits .if3 .left) in
+    within (a .self) (a .payment) _ (own .before .if1 .left) (own .own .ensures) lane total
+    (c .before .before .plus .ensures) (c .before .used-after .ensures) (c .plus2 .ensures)
 
 pub post-spec : {M : Type 1} → statement M
 post-spec =
