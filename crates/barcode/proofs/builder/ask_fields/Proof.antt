@@ -19,14 +19,23 @@ is-kind-requires c κs = search needs
 
 returns-2 : tie.Need-returns-2
 unfolding fieldsAnswer
-returns-2 c = goes _ _ _ (sym (c .before .before .before .is-segment .ensures) ∙ not-false _ (c .before .before .if1 .left)) (stops _ _ _ _ (sym (c .before .is-kind .ensures) ∙ not-true _ (c .if2 .taken)))
+returns-2 c =
+    let first = c .before .before in
+    let segment = sym (first .before .is-segment .ensures) ∙ not-false _ (first .if1 .left) in
+    let kind = sym (c .before .is-kind .ensures) ∙ not-true _ (c .if2 .taken) in
+    goes _ _ _ segment (stops _ _ _ _ kind)
 
 ask-numbers-requires : tie.Need-ask-numbers-requires
 ask-numbers-requires c κs = search needs
 
 returns-3 : tie.Need-returns-3
 unfolding fieldsAnswer
-returns-3 c = goes _ _ _ (sym (c .before .before .before .before .is-segment .ensures) ∙ not-false _ (c .before .before .before .if1 .left)) (goes _ _ _ (sym (c .before .before .is-kind .ensures) ∙ not-false _ (c .before .if2 .left)) (c .ask-numbers .ensures))
+returns-3 c =
+    let second = c .before in
+    let first = second .before .before in
+    let segment = sym (first .before .is-segment .ensures) ∙ not-false _ (first .if1 .left) in
+    let kind = sym (second .before .is-kind .ensures) ∙ not-false _ (second .if2 .left) in
+    goes _ _ _ segment (goes _ _ _ kind (c .ask-numbers .ensures))
 
 pub ask-fields-spec : {M : Type 1} → statement M
 ask-fields-spec =

@@ -25,14 +25,23 @@ sub-if1 c = search needs
 
 returns : tie.Need-returns
 unfolding numbersAnswer
-returns c = stops _ _ _ _ (no-room (c .before .before .before .args .issuer .segment) (c .before .before .before .args .free .now) (c .before .issuer-end .ensures .0) (c .if1 .taken))
+returns c =
+    let end = c .before in
+    let a = end .before .before .args in
+    stops _ _ _ _ (no-room (a .issuer .segment) (a .free .now) (end .issuer-end .ensures .0) (c .if1 .taken))
 
 fits-width-requires : tie.Need-fits-width-requires
 fits-width-requires c κs = search needs
 
 returns-2 : tie.Need-returns-2
 unfolding numbersAnswer
-returns-2 c = goes _ _ _ (has-room (c .before .before .before .before .before .args .issuer .segment) (c .before .before .before .before .before .args .free .now) (c .before .before .before .issuer-end .ensures .0) (c .before .before .if1 .left)) (stops _ _ _ _ (sym (c .before .fits-width .ensures) ∙ not-true _ (c .if2 .taken)))
+returns-2 c =
+    let sized = c .before .before in
+    let end = sized .before in
+    let a = end .before .before .args in
+    let room = has-room (a .issuer .segment) (a .free .now) (end .issuer-end .ensures .0) (sized .if1 .left) in
+    let wide = sym (c .before .fits-width .ensures) ∙ not-true _ (c .if2 .taken) in
+    goes _ _ _ room (stops _ _ _ _ wide)
 
 sub-fits-width : tie.Need-sub-fits-width
 sub-fits-width c = search needs
@@ -42,7 +51,17 @@ fits-width-requires-2 c κs = search needs
 
 returns-3 : tie.Need-returns-3
 unfolding numbersAnswer
-returns-3 c = goes _ _ _ (has-room (c .before .before .before .before .before .before .before .args .issuer .segment) (c .before .before .before .before .before .before .before .args .free .now) (c .before .before .before .before .before .issuer-end .ensures .0) (c .before .before .before .before .if1 .left)) (goes _ _ _ (sym (c .before .before .before .fits-width .ensures) ∙ not-false _ (c .before .before .if2 .left)) (stops _ _ _ _ (ap (λ (e : ℕ). ltb (c .before .before .before .before .before .before .before .args .issuer .number) (10 ^ (e - 15))) (sym (c .before .before .before .before .before .issuer-end .ensures .0)) ∙ sym (c .before .fits-width2 .ensures) ∙ not-true _ (c .if3 .taken))))
+returns-3 c =
+    let valued = c .before .before in
+    let sized = valued .before .before in
+    let end = sized .before in
+    let a = end .before .before .args in
+    let told = end .issuer-end .ensures .0 in
+    let room = has-room (a .issuer .segment) (a .free .now) told (sized .if1 .left) in
+    let value = sym (valued .before .fits-width .ensures) ∙ not-false _ (valued .if2 .left) in
+    let width = ap (λ (e : ℕ). ltb (a .issuer .number) (10 ^ (e - 15))) (sym told) in
+    let wide = width ∙ sym (c .before .fits-width2 .ensures) ∙ not-true _ (c .if3 .taken) in
+    goes _ _ _ room (goes _ _ _ value (stops _ _ _ _ wide))
 
 first-not-requires : tie.Need-first-not-requires
 first-not-requires c κs = search needs
@@ -53,11 +72,22 @@ behind-requires c κs = search needs
 returns-4 : tie.Need-returns-4
 unfolding numbersAnswer
 returns-4 c =
-    let free = c .before .before .before .before .before .before .before .before .before .args .free .now in
+    let numbered = c .before .before in
+    let valued = numbered .before .before in
+    let sized = valued .before .before in
+    let end = sized .before in
+    let a = end .before .before .args in
+    let free = a .free .now in
+    let told = end .issuer-end .ensures .0 in
     let near = each-place (isOf Digit) NoDigit 1 free in
-    let held = behind-is-held (c .before .before .before .before .before .before .before .issuer-end .result) (eachIs (isOf Digit) NoDigit 1 free) (omega (arith, near, c .before .before .before .before .before .before .if1 .left)) in
-    let place = ap (λ (e : ℕ). movedBy (behind e) (eachIs (isOf Digit) NoDigit 1 (c .before .before .before .before .before .before .before .before .before .args .free .now))) (c .before .before .before .before .before .before .before .issuer-end .ensures .0) in
-    goes _ _ _ (has-room (c .before .before .before .before .before .before .before .before .before .args .issuer .segment) (c .before .before .before .before .before .before .before .before .before .args .free .now) (c .before .before .before .before .before .before .before .issuer-end .ensures .0) (c .before .before .before .before .before .before .if1 .left)) (goes _ _ _ (sym (c .before .before .before .before .before .fits-width .ensures) ∙ not-false _ (c .before .before .before .before .if2 .left)) (goes _ _ _ (ap (λ (e : ℕ). ltb (c .before .before .before .before .before .before .before .before .before .args .issuer .number) (10 ^ (e - 15))) (sym (c .before .before .before .before .before .before .before .issuer-end .ensures .0)) ∙ sym (c .before .before .before .fits-width2 .ensures) ∙ not-false _ (c .before .before .if3 .left)) (c .behind .ensures ∙ ap (movedBy (heldBehind (c .before .before .before .before .before .before .before .issuer-end .result))) (c .before .first-not .ensures) ∙ held ∙ place)))
+    let held = behind-is-held (end .issuer-end .result) (eachIs (isOf Digit) NoDigit 1 free) (omega (arith, near, sized .if1 .left)) in
+    let place = ap (λ (e : ℕ). movedBy (behind e) (eachIs (isOf Digit) NoDigit 1 free)) told in
+    let digits = c .behind .ensures ∙ ap (movedBy (heldBehind (end .issuer-end .result))) (c .before .first-not .ensures) ∙ held ∙ place in
+    let room = has-room (a .issuer .segment) free told (sized .if1 .left) in
+    let value = sym (valued .before .fits-width .ensures) ∙ not-false _ (valued .if2 .left) in
+    let width = ap (λ (e : ℕ). ltb (a .issuer .number) (10 ^ (e - 15))) (sym told) in
+    let number = width ∙ sym (numbered .before .fits-width2 .ensures) ∙ not-false _ (numbered .if3 .left) in
+    goes _ _ _ room (goes _ _ _ value (goes _ _ _ number digits))
 
 pub ask-numbers-spec : {M : Type 1} → statement M
 ask-numbers-spec =

@@ -29,7 +29,11 @@ same-length : tie.Need-same-length
 same-length c = search needs
 
 returns-3 : tie.Need-returns-3
-returns-3 c = (goes _ _ _ (eq-eqb _ _ (c .before .before .before .before .before .before .before .if1 .left)) (onward (c .before .before .before .before .before .before .ask-fields .ensures) (c .before .before .before .before .enum-told2 .given .1) (c .before .before .finish .ensures .0)), c .before .before .finish .ensures .1)
+returns-3 c = (
+  goes _ _ _ (eq-eqb _ _ (c .before .before .before .before .before .before .before .if1 .left))
+      (onward (c .before .before .before .before .before .before .ask-fields .ensures) (c .before .before .before .before .enum-told2 .given .1) (c .before .before .finish .ensures .0)),
+  c .before .before .finish .ensures .1,
+)
 
 pub build-spec : {M : Type 1} → statement M
 build-spec =

@@ -40,9 +40,12 @@ same-length c = search needs
 
 returns-2 : tie.Need-returns-2
 returns-2 c =
-    let a = c .before .before .before .before .before .before .before .before .before .before .before .before .before .args in
-    finished (a .issuer) (a .kind) (a .value) (a .free .now) (c .before .before .before .before .before .before .before .before .before .before .before .before .before .pre .1) (a .out .now) (c .before .before .before .before .before .before .before .before .before .before .before .before .before .pre .0) (c .before .before .before .before .before .before .before .before .before .put-fields .ensures) (c .before .before .before .before .before .before .general-check .ensures .0)
-    (c .before .before .before .before .before .before .general-check .ensures .1) (c .before .before .put .ensures)
+    let checked = c .before .before .before .before .before .before in
+    let put = checked .before .before .before in
+    let start = put .before .before .before .before in
+    let a = start .args in
+    finished (a .issuer) (a .kind) (a .value) (a .free .now) (start .pre .1) (a .out .now) (start .pre .0)
+    (put .put-fields .ensures) (checked .general-check .ensures .0) (checked .general-check .ensures .1) (c .before .before .put .ensures)
 
 pub finish-spec : {M : Type 1} → statement M
 finish-spec =

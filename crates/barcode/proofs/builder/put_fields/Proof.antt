@@ -27,9 +27,14 @@ same-length c = search needs
 
 returns : tie.Need-returns
 returns c =
-    let a = c .before .before .before .before .before .before .before .before .before .before .before .before .before .before .before .before .before .before .before .args in
-    pieces (a .issuer) (a .kind) (a .value) (a .free .now) (a .code .now) (c .before .before .before .before .before .before .before .before .before .before .before .before .before .before .before .before .before .before .before .pre .1) (c .before .before .before .before .before .before .before .before .before .before .before .before .before .before .before .before .before .before .before .pre .0) (c .before .before .before .before .before .before .before .before .before .before .before .before .before .before .before .before .issuer-end .ensures .0) (c .before .before .before .before .before .before .before .before .before .before .before .before .before .before .put-head .ensures)
-    (c .before .before .before .before .before .before .before .before .before .before .put-number .ensures .0) (c .before .before .before .before .before .before .before .before .before .before .put-number .ensures .1) (c .before .before .before .before .before .before .put-number2 .ensures .0) (c .before .before .before .before .before .before .put-number2 .ensures .1) (c .before .before .put .ensures)
+    let number = c .before .before .before .before .before .before in
+    let value = number .before .before .before .before in
+    let head = value .before .before .before .before in
+    let end = head .before .before in
+    let start = end .before .before .before in
+    let a = start .args in
+    pieces (a .issuer) (a .kind) (a .value) (a .free .now) (a .code .now) (start .pre .1) (start .pre .0) (end .issuer-end .ensures .0) (head .put-head .ensures)
+    (value .put-number .ensures .0) (value .put-number .ensures .1) (number .put-number2 .ensures .0) (number .put-number2 .ensures .1) (c .before .before .put .ensures)
 
 pub put-fields-spec : {M : Type 1} → statement M
 put-fields-spec =
