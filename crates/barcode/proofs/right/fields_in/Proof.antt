@@ -39,8 +39,10 @@ read-date-requires c κs = search needs
 
 returns : tie.Need-returns
 returns c =
-    let s = c .before .before .before .before .before .before .before in
-    digits-fields (s .args .code .now) (s .pre .0) (s .pre .1 .0) (s .pre .1 .1) (c .before .before .before .before .before .issuer-end .ensures .0) (c .before .before .before .before .digit .ensures) (c .before .before .low-number .ensures) (c .read-date .ensures)
+    let digit = c .before .before .before .before in
+    let s = digit .before .before .before in
+    digits-fields (s .args .code .now) (s .pre .0) (s .pre .1 .0) (s .pre .1 .1) (digit .before .issuer-end .ensures .0)
+    (digit .digit .ensures) (c .before .before .low-number .ensures) (c .read-date .ensures)
 
 pub fields-in-spec : {M : Type 1} → statement M
 fields-in-spec =

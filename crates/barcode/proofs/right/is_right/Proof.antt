@@ -19,8 +19,11 @@ enum-told-2 c = search needs
 
 returns : tie.Need-returns
 returns c =
-    let code = c .before .before .before .before .args .code .now in
-    not-right code (c .before .before .before .before .pre) (λ e. never (sym (c .before .before .lead .ensures) ∙ c .enum-told2 .given .1) (lead-accepted code (c .before .before .before .before .pre) e))
+    let lead = c .before .before in
+    let start = lead .before .before in
+    let code = start .args .code .now in
+    let refused = sym (lead .lead .ensures) ∙ c .enum-told2 .given .1 in
+    not-right code (start .pre) (λ e. never refused (lead-accepted code (start .pre) e))
 
 sub-sums-of-forty : tie.Need-sub-sums-of-forty
 sub-sums-of-forty c = search needs
@@ -42,8 +45,11 @@ enum-told-3 c = search needs
 
 returns-2 : tie.Need-returns-2
 returns-2 c =
-    let code = c .before .before .before .before .before .before .before .before .args .code .now in
-    not-right code (c .before .before .before .before .before .before .before .before .pre) (λ e. has-sums code (c .before .before .before .before .before .before .before .before .pre) e (sym (c .enum-told3 .given .1) ∙ c .before .before .sums-of-forty .ensures))
+    let sums = c .before .before in
+    let start = sums .before .before .before .before .before .before in
+    let code = start .args .code .now in
+    let none = sym (c .enum-told3 .given .1) ∙ sums .sums-of-forty .ensures in
+    not-right code (start .pre) (λ e. has-sums code (start .pre) e none)
 
 digit-requires : tie.Need-digit-requires
 digit-requires c κs = search needs
@@ -56,8 +62,10 @@ enum-told-4 c = search needs
 
 right-under-requires : tie.Need-right-under-requires
 right-under-requires c κs =
-    let code = c .before .before .before .before .before .before .before .before .before .before .before .before .before .args .code .now in
-    let told = sums-tell (take 40 (drop 4 code)) (sym (c .before .before .before .before .before .ten .given .1) ∙ c .before .before .before .before .before .before .before .sums-of-forty .ensures) in
+    let tens = c .before .before .before .before .before in
+    let sums = tens .before .before in
+    let code = sums .before .before .before .before .before .before .args .code .now in
+    let told = sums-tell (take 40 (drop 4 code)) (sym (tens .ten .given .1) ∙ sums .sums-of-forty .ensures) in
     (search needs, (sym (c .enum-told4 .given .1) ∙ c .before .before .named .ensures ∙ ap modulusOf (c .before .before .before .digit .ensures), told .1))
 
 enum-told-5 : tie.Need-enum-told-5
@@ -65,21 +73,35 @@ enum-told-5 c = search needs
 
 right-under-requires-2 : tie.Need-right-under-requires-2
 right-under-requires-2 c κs =
-    let code = c .before .before .before .before .before .before .before .before .before .before .before .before .before .args .code .now in
-    let told = sums-tell (take 40 (drop 4 code)) (sym (c .before .before .before .before .before .ten .given .1) ∙ c .before .before .before .before .before .before .before .sums-of-forty .ensures) in
+    let tens = c .before .before .before .before .before in
+    let sums = tens .before .before in
+    let code = sums .before .before .before .before .before .before .args .code .now in
+    let told = sums-tell (take 40 (drop 4 code)) (sym (tens .ten .given .1) ∙ sums .sums-of-forty .ensures) in
     (search needs, (sym (c .enum-told5 .given .1) ∙ c .before .before .named .ensures ∙ ap modulusOf (c .before .before .before .digit .ensures), told .2))
 
 returns-3 : tie.Need-returns-3
 returns-3 c =
-    let code = c .before .before .before .before .before .before .before .before .before .before .before .before .before .before .args .code .now in
-    let told = sums-tell (take 40 (drop 4 code)) (sym (c .before .before .before .before .before .before .ten .given .1) ∙ c .before .before .before .before .before .before .before .before .sums-of-forty .ensures) in
-    as-right code (c .before .before .before .before .before .before .before .before .before .before .before .before .before .before .pre) (sym (c .before .before .before .before .before .before .before .before .before .before .before .before .lead .ensures) ∙ c .before .before .before .before .before .before .before .before .before .before .enum-told .given .1) (told .0) (c .right-under .ensures)
+    let tens = c .before .before .before .before .before .before in
+    let sums = tens .before .before in
+    let passed = sums .before .before in
+    let lead = passed .before .before in
+    let start = lead .before .before in
+    let code = start .args .code .now in
+    let told = sums-tell (take 40 (drop 4 code)) (sym (tens .ten .given .1) ∙ sums .sums-of-forty .ensures) in
+    let accepted = sym (lead .lead .ensures) ∙ passed .enum-told .given .1 in
+    as-right code (start .pre) accepted (told .0) (c .right-under .ensures)
 
 returns-4 : tie.Need-returns-4
 returns-4 c =
-    let code = c .before .before .before .before .before .before .before .before .before .before .before .before .before .before .args .code .now in
-    let told = sums-tell (take 40 (drop 4 code)) (sym (c .before .before .before .before .before .before .ten .given .1) ∙ c .before .before .before .before .before .before .before .before .sums-of-forty .ensures) in
-    as-right code (c .before .before .before .before .before .before .before .before .before .before .before .before .before .before .pre) (sym (c .before .before .before .before .before .before .before .before .before .before .before .before .lead .ensures) ∙ c .before .before .before .before .before .before .before .before .before .before .enum-told .given .1) (told .0) (c .right-under2 .ensures)
+    let tens = c .before .before .before .before .before .before in
+    let sums = tens .before .before in
+    let passed = sums .before .before in
+    let lead = passed .before .before in
+    let start = lead .before .before in
+    let code = start .args .code .now in
+    let told = sums-tell (take 40 (drop 4 code)) (sym (tens .ten .given .1) ∙ sums .sums-of-forty .ensures) in
+    let accepted = sym (lead .lead .ensures) ∙ passed .enum-told .given .1 in
+    as-right code (start .pre) accepted (told .0) (c .right-under2 .ensures)
 
 pub is-right-spec : {M : Type 1} → statement M
 is-right-spec =

@@ -20,7 +20,9 @@ issuer-in-requires : tie.Need-issuer-in-requires
 issuer-in-requires c κs = (search needs, all-digits (c .before .before .before .before .args .code .now) (c .before .before .if1 .left) (c .before .is-right .ensures .0 (not-false _ (c .if2 .left))))
 
 returns-3 : tie.Need-returns-3
-returns-3 c = pays-to (c .before .before .before .before .before .args .code .now) (c .before .before .before .if1 .left) (c .before .before .is-right .ensures .0 (not-false _ (c .before .if2 .left))) (c .issuer-in .ensures)
+returns-3 c =
+    let right = c .before .before .is-right .ensures .0 (not-false _ (c .before .if2 .left)) in
+    pays-to (c .before .before .before .before .before .args .code .now) (c .before .before .before .if1 .left) right (c .issuer-in .ensures)
 
 pub pays-spec : {M : Type 1} → statement M
 pays-spec = tie.close (tie.spec returns is-right-requires returns-2 issuer-in-requires returns-3)
