@@ -34,13 +34,19 @@ read-fields-requires : tie.Need-read-fields-requires
 read-fields-requires c κs = search needs
 
 returns : tie.Need-returns
-returns c = paid-reads (c .before .before .before .before .before .before .args .code .now) (sym (c .before .before .issuer .given .1) ∙ c .before .before .before .before .pays .ensures) (c .fields-in .ensures)
+returns c =
+    let asked = c .before .before .before .before in
+    let to = sym (c .before .before .issuer .given .1) ∙ asked .pays .ensures in
+    paid-reads (asked .before .before .args .code .now) to (c .fields-in .ensures)
 
 returns-2 : tie.Need-returns-2
 returns-2 c = as-refused (c .before .before .before .before .before .before .before .before .args .code .now) (c .before .before .before .walked .ensures) (c .before .why .given .1)
 
 returns-3 : tie.Need-returns-3
-returns-3 c = as-read (c .before .before .before .before .before .before .before .before .args .code .now) (c .before .before .before .walked .ensures) (c .before .enum-told2 .given .1) (c .read-fields .ensures)
+returns-3 c =
+    let walked = c .before .before .before in
+    let code = walked .before .before .before .before .before .args .code .now in
+    as-read code (walked .walked .ensures) (c .before .enum-told2 .given .1) (c .read-fields .ensures)
 
 pub decode-spec : {M : Type 1} → statement M
 decode-spec =

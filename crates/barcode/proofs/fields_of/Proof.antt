@@ -42,7 +42,11 @@ read-date-requires c κs = search needs
 
 returns : tie.Need-returns
 returns c =
-    as-fields (c .before .before .before .before .before .before .before .before .args .code .now) (c .before .before .before .before .before .before .before .before .pre) (c .before .before .before .before .before .before .issuer-of .ensures) (c .before .before .before .before .before .issuer-end .ensures .0) (c .before .before .before .before .digit .ensures) (c .before .before .number .ensures) (c .read-date .ensures)
+    let digit = c .before .before .before .before in
+    let issuer = digit .before .before in
+    let start = issuer .before .before in
+    as-fields (start .args .code .now) (start .pre) (issuer .issuer-of .ensures) (digit .before .issuer-end .ensures .0)
+    (digit .digit .ensures) (c .before .before .number .ensures) (c .read-date .ensures)
 
 pub fields-of-spec : {M : Type 1} → statement M
 fields-of-spec =

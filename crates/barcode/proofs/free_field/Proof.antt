@@ -33,7 +33,10 @@ part-result-end-2 : tie.Need-part-result-end-2
 part-result-end-2 c = search needs
 
 returns : tie.Need-returns
-returns c = absurd (c .before .if1 .taken (accepted-length (c .before .before .before .before .before .before .args .code .now) (sym (c .before .before .before .before .check .ensures) ∙ c .before .before .enum-told2 .given .1)))
+returns c =
+    let asked = c .before .before .before .before in
+    let accepted = sym (asked .check .ensures) ∙ c .before .before .enum-told2 .given .1 in
+    absurd (c .before .if1 .taken (accepted-length (asked .before .before .args .code .now) accepted))
 
 digit-requires : tie.Need-digit-requires
 digit-requires c κs = search needs
@@ -54,7 +57,11 @@ returns-2 : tie.Need-returns-2
 returns-2 c = no-free (c .before .before .before .before .before .args .code .now) (c .before .before .before .check .ensures) (c .before .enum-told .given .1)
 
 returns-3 : tie.Need-returns-3
-returns-3 c = as-free (c .before .before .before .before .before .before .before .before .args .code .now) (c .before .before .before .before .before .before .check .ensures) (c .before .before .before .before .enum-told2 .given .1) (c .before .issuer-end .ensures .0) (c .before .before .digit .ensures)
+returns-3 c =
+    let accepted = c .before .before .before .before in
+    let asked = accepted .before .before in
+    let code = asked .before .before .args .code .now in
+    as-free code (asked .check .ensures) (accepted .enum-told2 .given .1) (c .before .issuer-end .ensures .0) (c .before .before .digit .ensures)
 
 pub free-field-spec : {M : Type 1} → statement M
 free-field-spec =

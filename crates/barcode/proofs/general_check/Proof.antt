@@ -52,11 +52,15 @@ rule-requires : tie.Need-rule-requires
 rule-requires c κs = search needs
 
 returns : tie.Need-returns
-returns c = (
-  general-as (c .before .before .before .before .before .before .before .before .before .args .code .now) (c .before .before .before .before .before .before .before .before .before .pre) (c .before .before .before .before .before .before .before .digit .ensures) (c .before .before .before .before .before .before .named .ensures) (c .before .before .before .before .rest .ensures) (c .before .before .rest2 .ensures) (c .before .remainder .ensures)
-      (c .rule .ensures),
-  rw (c .rule .ensures) (rule-small (c .before .before .before .before .before .before .named .result) (c .before .remainder .result)),
-)
+returns c =
+    let rest = c .before .before in
+    let first = rest .before .before in
+    let named = first .before .before in
+    let start = named .before .before .before in (
+      general-as (start .args .code .now) (start .pre) (named .before .digit .ensures) (named .named .ensures)
+          (first .rest .ensures) (rest .rest2 .ensures) (c .before .remainder .ensures) (c .rule .ensures),
+      rw (c .rule .ensures) (rule-small (named .named .result) (c .before .remainder .result)),
+    )
 
 pub general-check-spec : {M : Type 1} → statement M
 general-check-spec =

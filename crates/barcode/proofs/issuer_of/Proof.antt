@@ -23,7 +23,10 @@ number-requires : tie.Need-number-requires
 number-requires c κs = search needs
 
 returns : tie.Need-returns
-returns c = as-issuer (c .before .before .before .before .before .args .code .now) (c .before .before .before .before .before .pre) (c .before .before .before .digit .ensures) (c .before .before .issuer-end .ensures .0) (c .number .ensures)
+returns c =
+    let digit = c .before .before .before in
+    let start = digit .before .before in
+    as-issuer (start .args .code .now) (start .pre) (digit .digit .ensures) (c .before .before .issuer-end .ensures .0) (c .number .ensures)
 
 pub issuer-of-spec : {M : Type 1} → statement M
 issuer-of-spec =

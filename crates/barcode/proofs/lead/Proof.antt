@@ -22,7 +22,11 @@ is-segment-requires c κs = search needs
 
 returns-2 : tie.Need-returns-2
 unfolding leadAnswer
-returns-2 c = goes _ _ _ (eq-eqb _ _ (sym (c .before .before .before .before .digit .ensures) ∙ c .before .before .before .if1 .left)) (stops _ _ _ _ (sym (c .before .is-segment .ensures ∙ ap isSegment (c .before .before .digit2 .ensures)) ∙ not-true _ (c .if2 .taken)))
+returns-2 c =
+    let first = c .before .before .before in
+    let product = sym (first .before .digit .ensures) ∙ first .if1 .left in
+    let segment = sym (c .before .is-segment .ensures ∙ ap isSegment (c .before .before .digit2 .ensures)) ∙ not-true _ (c .if2 .taken) in
+    goes _ _ _ (eq-eqb _ _ product) (stops _ _ _ _ segment)
 
 digit-requires-3 : tie.Need-digit-requires-3
 digit-requires-3 c κs = search needs
@@ -32,11 +36,23 @@ is-kind-requires c κs = search needs
 
 returns-3 : tie.Need-returns-3
 unfolding leadAnswer
-returns-3 c = goes _ _ _ (eq-eqb _ _ (sym (c .before .before .before .before .before .before .before .digit .ensures) ∙ c .before .before .before .before .before .before .if1 .left)) (goes _ _ _ (sym (c .before .before .before .before .is-segment .ensures ∙ ap isSegment (c .before .before .before .before .before .digit2 .ensures)) ∙ not-false _ (c .before .before .before .if2 .left)) (stop _ _ _ (sym (c .before .is-kind .ensures ∙ ap isKind (c .before .before .digit3 .ensures)) ∙ not-true _ (c .if3 .taken))))
+returns-3 c =
+    let second = c .before .before .before in
+    let first = second .before .before .before in
+    let product = sym (first .before .digit .ensures) ∙ first .if1 .left in
+    let segment = sym (second .before .is-segment .ensures ∙ ap isSegment (second .before .before .digit2 .ensures)) ∙ not-false _ (second .if2 .left) in
+    let kind = sym (c .before .is-kind .ensures ∙ ap isKind (c .before .before .digit3 .ensures)) ∙ not-true _ (c .if3 .taken) in
+    goes _ _ _ (eq-eqb _ _ product) (goes _ _ _ segment (stop _ _ _ kind))
 
 returns-4 : tie.Need-returns-4
 unfolding leadAnswer
-returns-4 c = goes _ _ _ (eq-eqb _ _ (sym (c .before .before .before .before .before .before .before .digit .ensures) ∙ c .before .before .before .before .before .before .if1 .left)) (goes _ _ _ (sym (c .before .before .before .before .is-segment .ensures ∙ ap isSegment (c .before .before .before .before .before .digit2 .ensures)) ∙ not-false _ (c .before .before .before .if2 .left)) (pass _ _ _ (sym (c .before .is-kind .ensures ∙ ap isKind (c .before .before .digit3 .ensures)) ∙ not-false _ (c .if3 .left))))
+returns-4 c =
+    let second = c .before .before .before in
+    let first = second .before .before .before in
+    let product = sym (first .before .digit .ensures) ∙ first .if1 .left in
+    let segment = sym (second .before .is-segment .ensures ∙ ap isSegment (second .before .before .digit2 .ensures)) ∙ not-false _ (second .if2 .left) in
+    let kind = sym (c .before .is-kind .ensures ∙ ap isKind (c .before .before .digit3 .ensures)) ∙ not-false _ (c .if3 .left) in
+    goes _ _ _ (eq-eqb _ _ product) (goes _ _ _ segment (pass _ _ _ kind))
 
 pub lead-spec : {M : Type 1} → statement M
 lead-spec =
