@@ -24,8 +24,12 @@ returns-3 c = never
 
 returns-4 : tie.Need-returns-4
 returns-4 c =
-    let a = c .before .before .before .before .before .before .args in
-    λ e. common (a .century) (a .month) (a .day) (sym (c .before .before .before .before .before .between .ensures) ∙ not-false _ (c .before .before .before .before .if1 .left)) (sym (c .before .before .before .between2 .ensures) ∙ not-false _ (c .before .before .if2 .left)) (c .before .if3 .left) (c .if4 .taken)
+    let months = c .before .before in
+    let years = months .before .before in
+    let a = years .before .before .args in
+    let century = sym (years .before .between .ensures) ∙ not-false _ (years .if1 .left) in
+    let month = sym (months .before .between2 .ensures) ∙ not-false _ (months .if2 .left) in
+    λ e. common (a .century) (a .month) (a .day) century month (c .before .if3 .left) (c .if4 .taken)
 
 returns-5 : tie.Need-returns-5
 returns-5 c = never
@@ -35,8 +39,13 @@ month-end-requires c κs = within-is 1 12 _ (sym (c .before .before .before .bef
 
 returns-6 : tie.Need-returns-6
 returns-6 c =
-    let a = c .before .before .before .before .before .before .before .before .args in
-    λ e. late (a .century) (a .month) (a .day) (sym (c .before .before .before .before .before .before .before .between .ensures) ∙ not-false _ (c .before .before .before .before .before .before .if1 .left)) (sym (c .before .before .before .before .before .between2 .ensures) ∙ not-false _ (c .before .before .before .before .if2 .left)) (c .before .before .before .if3 .left) (c .before .if5 .left) (c .month-end .ensures) (leb-true (a .day) (c .month-end .result) e)
+    let days = c .before .before .before in
+    let months = days .before in
+    let years = months .before .before in
+    let a = years .before .before .args in
+    let century = sym (years .before .between .ensures) ∙ not-false _ (years .if1 .left) in
+    let month = sym (months .before .between2 .ensures) ∙ not-false _ (months .if2 .left) in
+    λ e. late (a .century) (a .month) (a .day) century month (days .if3 .left) (c .before .if5 .left) (c .month-end .ensures) (leb-true (a .day) (c .month-end .result) e)
 
 pub is-common-spec : {M : Type 1} → statement M
 is-common-spec =

@@ -52,19 +52,27 @@ is-date-requires c κs = search needs
 
 returns-3 : tie.Need-returns-3
 returns-3 c =
-    let bs = c .before .before .before .before .before .before .before .before .before .before .args .bytes .now in
-    let n = c .before .before .before .before .before .before .before .before .if1 .left in
-    let all = sym (c .before .before .before .before .before .before .before .all-of .ensures) ∙ not-false _ (c .before .before .before .before .before .before .if2 .left) in
-    let d = as-spelled bs n (c .before .before .before .before .before .pair .ensures .0) (c .before .before .before .before .pair2 .ensures .0) (c .before .before .before .pair3 .ensures .0) (c .before .before .pair4 .ensures .0) in
+    let day = c .before .before in
+    let digits = day .before .before .before .before in
+    let sized = digits .before .before in
+    let bs = sized .before .before .args .bytes .now in
+    let n = sized .if1 .left in
+    let all = sym (digits .before .all-of .ensures) ∙ not-false _ (digits .if2 .left) in
+    let year = day .before .before in
+    let d = as-spelled bs n (year .before .pair .ensures .0) (year .pair2 .ensures .0) (day .before .pair3 .ensures .0) (day .pair4 .ensures .0) in
     let t = sym (c .if3 .taken) ∙ c .before .is-date .ensures in
     judged bs n all d t
 
 returns-4 : tie.Need-returns-4
 returns-4 c =
-    let bs = c .before .before .before .before .before .before .before .before .before .before .args .bytes .now in
-    let n = c .before .before .before .before .before .before .before .before .if1 .left in
-    let all = sym (c .before .before .before .before .before .before .before .all-of .ensures) ∙ not-false _ (c .before .before .before .before .before .before .if2 .left) in
-    let d = as-spelled bs n (c .before .before .before .before .before .pair .ensures .0) (c .before .before .before .before .pair2 .ensures .0) (c .before .before .before .pair3 .ensures .0) (c .before .before .pair4 .ensures .0) in
+    let day = c .before .before in
+    let digits = day .before .before .before .before in
+    let sized = digits .before .before in
+    let bs = sized .before .before .args .bytes .now in
+    let n = sized .if1 .left in
+    let all = sym (digits .before .all-of .ensures) ∙ not-false _ (digits .if2 .left) in
+    let year = day .before .before in
+    let d = as-spelled bs n (year .before .pair .ensures .0) (year .pair2 .ensures .0) (day .before .pair3 .ensures .0) (day .pair4 .ensures .0) in
     let t = sym (c .if3 .left) ∙ c .before .is-date .ensures in
     judged bs n all d t
 

@@ -42,8 +42,12 @@ is-common-requires c κs = search needs
 
 returns-3 : tie.Need-returns-3
 returns-3 c =
-    let all = sym (c .before .before .before .before .before .before .all-of .ensures) ∙ not-false _ (c .before .before .before .before .before .if2 .left) in
-    common-date (c .before .before .before .before .before .before .before .before .before .args .bytes .now) (c .before .before .before .before .before .before .before .if1 .left) all (c .before .before .before .before .pair .ensures .0) (c .before .before .before .pair2 .ensures .0) (c .before .before .pair3 .ensures .0) (c .before .is-common .ensures (c .if3 .taken))
+    let pairs = c .before .before in
+    let digits = pairs .before .before .before in
+    let sized = digits .before .before in
+    let all = sym (digits .before .all-of .ensures) ∙ not-false _ (digits .if2 .left) in
+    common-date (sized .before .before .args .bytes .now) (sized .if1 .left) all
+    (pairs .before .before .pair .ensures .0) (pairs .before .pair2 .ensures .0) (pairs .pair3 .ensures .0) (c .before .is-common .ensures (c .if3 .taken))
 
 read-date-requires : tie.Need-read-date-requires
 read-date-requires c κs = search needs
