@@ -59,12 +59,13 @@ loop-less c = search needs
 
 loop-again : tie.Need-loop-again Inv-loop μ-loop
 loop-again c =
-    let a = c .before .before .before .before .before .before .before .args in
+    let loop = c .before .before .before .before .before in
+    let a = loop .before .before .args in
     let bs = a .digits .now in
-    let end = c .before .before .before .before .before .loop .end in
+    let l = loop .loop in
     let start = c .before .before .before .block-start .result in
-    let behind = (a .right % 8 + (length bs - end)) % 8 in
-    let step = blocks-step (a .m) (a .right) bs start end behind (c .before .before .before .before .before .loop .sum) (omega arith) (omega arith) (omega arith) (c .before .short-sum .ensures) (c .before .before .before .before .before .loop .inv .2) in
+    let behind = (a .right % 8 + (length bs - l .end)) % 8 in
+    let step = blocks-step (a .m) (a .right) bs start (l .end) behind (l .sum) (omega arith) (omega arith) (omega arith) (c .before .short-sum .ensures) (l .inv .2) in
     (omega arith, rw (c .remainder .ensures) (remainder-small (a .m) _), c .remainder .ensures ∙ step)
 
 returns : tie.Need-returns Inv-loop μ-loop

@@ -17,7 +17,9 @@ cast-part : tie.Need-cast-part
 cast-part c = record { fits = rw (c .value .ensures) (omega (arith, value-small (c .before .before .args .b))) }
 
 mul-part : tie.Need-mul-part
-mul-part c = record { fits = rw (c .before .weight .ensures, c .value .ensures) (omega (arith, product-small (c .before .before .args .m) (c .before .before .args .right) (c .before .before .args .b))) }
+mul-part c =
+    let a = c .before .before .args in
+    record { fits = rw (c .before .weight .ensures, c .value .ensures) (omega (arith, product-small (a .m) (a .right) (a .b))) }
 
 part-requires : tie.Need-part-requires
 part-requires c κs = search needs

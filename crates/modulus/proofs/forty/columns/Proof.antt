@@ -71,9 +71,13 @@ loop-less c = search needs
 
 loop-again : tie.Need-loop-again Inv-loop μ-loop
 loop-again c =
-    let a = c .before .before .before .before .before .before .before .before .before .before .before .before .before .before .before .before .before .args in
-    let p = c .before .before .before .before .before .before .before .before .before .before .before .before .before .before .before .before .before .pre in
-    let l = c .before .before .before .before .before .before .before .before .before .before .before .before .before .loop in
+    let loop = c .before .before .before .before .before .before .before .before .before .before .before .before .before in
+    let start = loop .before .before .before .before in
+    let x = start .args .x .now in
+    let y = start .args .y .now in
+    let z = start .args .z .now in
+    let p = start .pre in
+    let l = loop .loop in
     let more = c .before .before .before .before .before .before .before .before .before .before .before .before .loop-test .taken in
     let low = c .before .before .before .before .before .before .before .before .before .before .low .ensures .0 in
     let low2 = c .before .before .before .before .before .before .before .before .low2 .ensures .0 in
@@ -81,8 +85,11 @@ loop-again c =
       search needs,
       search needs,
       search needs,
-      digits-step (a .x .now) (a .y .now) (a .z .now) (p .0) (p .1) (p .2) (l .i) more (l .bad) (c .before .before .flag-of .ensures) (l .inv .3),
-      λ d. (sum-goes (a .x .now) (a .y .now) (a .z .now) (p .0) (p .1) (p .2) (l .i) more Ten (l .tens) d low low2 late (c .before .ten .ensures .0) (l .inv .4 d .0), sum-goes (a .x .now) (a .y .now) (a .z .now) (p .0) (p .1) (p .2) (l .i) more Eleven (l .elevens) d low low2 late (λ _ _ _. c .eleven .ensures .0) (l .inv .4 d .1)),
+      digits-step x y z (p .0) (p .1) (p .2) (l .i) more (l .bad) (c .before .before .flag-of .ensures) (l .inv .3),
+      λ d. (
+        sum-goes x y z (p .0) (p .1) (p .2) (l .i) more Ten (l .tens) d low low2 late (c .before .ten .ensures .0) (l .inv .4 d .0),
+        sum-goes x y z (p .0) (p .1) (p .2) (l .i) more Eleven (l .elevens) d low low2 late (λ _ _ _. c .eleven .ensures .0) (l .inv .4 d .1),
+      ),
     )
 
 returns : tie.Need-returns Inv-loop μ-loop

@@ -16,7 +16,9 @@ flag-requires-3 : tie.Need-flag-requires-3
 flag-requires-3 c κs = search needs
 
 returns : tie.Need-returns
-returns c = let a = c .before .before .before .args in three-flags (isOf Digit (a .x)) (isOf Digit (a .y)) (isOf Digit (a .z)) (c .before .before .flag .ensures) (c .before .flag2 .ensures) (c .flag3 .ensures)
+returns c =
+    let a = c .before .before .before .args in
+    three-flags (isOf Digit (a .x)) (isOf Digit (a .y)) (isOf Digit (a .z)) (c .before .before .flag .ensures) (c .before .flag2 .ensures) (c .flag3 .ensures)
 
 pub flag-of-spec : {M : Type 1} → statement M
 flag-of-spec = tie.close (tie.spec flag-requires flag-requires-2 flag-requires-3 returns)

@@ -39,7 +39,10 @@ columns-requires : tie.Need-columns-requires
 columns-requires c κs = search needs
 
 returns-2 : tie.Need-returns-2
-returns-2 c = no-sum (c .before .before .before .before .before .before .before .before .args .digits .now) (c .before .before .before .before .before .before .if1 .left) _ (c .before .before .columns .ensures .0) (c .if2 .taken)
+returns-2 c =
+    let sums = c .before .before in
+    let sized = sums .before .before .before .before in
+    no-sum (sized .before .before .args .digits .now) (sized .if1 .left) _ (sums .columns .ensures .0) (c .if2 .taken)
 
 cast-t16 : tie.Need-cast-t16
 cast-t16 c = search needs
@@ -48,7 +51,11 @@ cast-t17 : tie.Need-cast-t17
 cast-t17 c = search needs
 
 returns-3 : tie.Need-returns-3
-returns-3 c = both-sums (c .before .before .before .before .before .before .before .before .before .before .args .digits .now) (c .before .before .before .before .before .before .before .before .if1 .left) _ (c .before .before .before .before .columns .ensures .0) (c .before .before .if2 .left) (c .before .before .before .before .columns .ensures .1 .0) (c .before .before .before .before .columns .ensures .1 .1)
+returns-3 c =
+    let sums = c .before .before .before .before in
+    let sized = sums .before .before .before .before in
+    let told = sums .columns .ensures in
+    both-sums (sized .before .before .args .digits .now) (sized .if1 .left) _ (told .0) (c .before .before .if2 .left) (told .1 .0) (told .1 .1)
 
 pub sums-of-forty-spec : {M : Type 1} → statement M
 sums-of-forty-spec =

@@ -49,8 +49,9 @@ cast-result-2 c = search needs
 
 returns-2 : tie.Need-returns-2
 returns-2 c =
-    let a = c .before .before .before .before .args in
-    (column-twice (a .i) (a .a) (a .b) (a .c) (search needs) (c .before .before .carry .ensures .0) (c .before .carry2 .ensures .0) (c .carry3 .ensures .0) (c .before .before .before .if1 .left), search needs)
+    let first = c .before .before in
+    let a = first .before .before .args in
+    (column-twice (a .i) (a .a) (a .b) (a .c) (search needs) (first .carry .ensures .0) (c .before .carry2 .ensures .0) (c .carry3 .ensures .0) (first .before .if1 .left), search needs)
 
 pub ten-spec : {M : Type 1} → statement M
 ten-spec =
