@@ -20,13 +20,21 @@ is-expected-requires : tie.Need-is-expected-requires
 is-expected-requires c κs = search needs
 
 returns-2 : tie.Need-returns-2
-returns-2 c = took-go _ _ _ _ _ (eq-eqb _ _ (c .before .before .before .before .if1 .left)) (took-stop _ _ _ _ _ (sym (c .before .is-expected .ensures ∙ ap (expects (c .before .before .before .before .before .before .args .self .opened)) (c .before .before .named-by .ensures)) ∙ not-true _ (c .if2 .taken)))
+returns-2 c =
+    let asked = c .before in
+    let sized = asked .before .before .before in
+    let expected = asked .is-expected .ensures ∙ ap (expects (sized .before .before .args .self .opened)) (asked .before .named-by .ensures) in
+    took-go _ _ _ _ _ (eq-eqb _ _ (sized .if1 .left)) (took-stop _ _ _ _ _ (sym expected ∙ not-true _ (c .if2 .taken)))
 
 meet-requires : tie.Need-meet-requires
 meet-requires c κs = search needs
 
 returns-3 : tie.Need-returns-3
-returns-3 c = took-go _ _ _ _ _ (eq-eqb _ _ (c .before .before .before .before .before .if1 .left)) (took-go _ _ _ _ _ (sym (c .before .before .is-expected .ensures ∙ ap (expects (c .before .before .before .before .before .before .before .args .self .opened)) (c .before .before .before .named-by .ensures)) ∙ not-false _ (c .before .if2 .left)) (c .meet .ensures))
+returns-3 c =
+    let asked = c .before .before in
+    let sized = asked .before .before .before in
+    let expected = asked .is-expected .ensures ∙ ap (expects (sized .before .before .args .self .opened)) (asked .before .named-by .ensures) in
+    took-go _ _ _ _ _ (eq-eqb _ _ (sized .if1 .left)) (took-go _ _ _ _ _ (sym expected ∙ not-false _ (c .before .if2 .left)) (c .meet .ensures))
 
 pub take-spec : {M : Type 1} → statement M
 take-spec =
