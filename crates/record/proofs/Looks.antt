@@ -17,7 +17,7 @@ use Rattle.answer.specs.Orders.{asked, _then_}
 use Rattle.answer.proofs.Orders.{asked-accepts, then-accepts}
 use Rattle.decimal.specs.declared.Class.the-variants.{Digit, Blank, Text}
 use Rattle.decimal.specs.Bytes.{isOf, all, within, eachIs}
-use Rattle.decimal.proofs.Bytes.{flag-on, row-fails, last-row, two-flags, all-joins, all-of-part, each-accepts}
+use Rattle.decimal.proofs.Bytes.{flag-on, row-fails, row-passes, last-row, two-flags, all-joins, all-of-part, each-accepts}
 use Rattle.decimal.specs.Places.{places}
 use Rattle.decimal.proofs.Finite.{never}
 use Rattle.calendar.specs.declared.Date.{Date}
@@ -209,10 +209,7 @@ mark (b ∷ rec) n e = asked-accepts (same (b ∷ []) (71 ∷ [])) FixedDiffers 
 -- neighbouring parts
 pub joined : (ok : ℕ → Bool) (rec : List ℕ) (k i j : ℕ) → all ok (take i (drop k rec)) ≡ true → all ok (take j (drop (k + i) rec)) ≡ true
     → all ok (take (i + j) (drop k rec)) ≡ true
-joined ok rec k i j t u =
-    let later : all ok (take j (drop i (drop k rec))) ≡ true = rw (drop-drop i k rec) u in
-    rw (take-add i j (drop k rec), all-joins ok (take i (drop k rec)) (take j (drop i (drop k rec))))
-    (and-eq-true-iff (all ok (take i (drop k rec))) (all ok (take j (drop i (drop k rec)))) .1 (t, later))
+joined ok rec k i j t u = row-passes ok (drop k rec) i j refl (rw (drop-drop i k rec) u) t
 
 pub one-byte : (bs : List ℕ) → length bs ≡ 1 → isOf Text (getD bs 0 0) ≡ true → all (isOf Text) bs ≡ true
 one-byte [] n t = absurd (omega arith)

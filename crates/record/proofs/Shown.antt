@@ -6,8 +6,7 @@ use mathlib.Core.Path.{_≡_, refl, sym, _∙_}
 use native.Mathlib.Omega.{arith}
 use borrow.Author.Tests.{eq-eqb, eqb-true}
 use lib.Dec.{eqb}
-use lib.ListN.{length, getD, drop, length-drop}
-use lib.Seq.{length-take-le}
+use lib.ListN.{length, getD}
 use Rattle.answer.specs.declared.Reason.the-variants.{WrongLength}
 use Rattle.answer.specs.declared.Answer.{Answer}
 use Rattle.answer.specs.declared.Answer.the-variants.{Accepted, Refused}
@@ -24,6 +23,7 @@ use Rattle.layout.specs.Layouts.{recordLength, namedBy, layoutOf, InRecord}
 use Rattle.kinds.specs.Kinds.{kindAnswer}
 use Rattle.record.specs.Records.{partOf, fieldAnswer, bodyAnswer, namedAnswer, recordAnswer}
 use Rattle.record.specs.Values.{shownOf, answerOf, unlessRefused, DecodeAnswers, RightFieldsAreAccepted, FieldsAreTheirPlaces}
+use Rattle.record.proofs.Looks.{places-length}
 
 -- an accepted record has 150 bytes, and its named layout accepts
 pub accepted-is : (rec : List ℕ) → recordAnswer rec ≡ Accepted
@@ -39,8 +39,7 @@ unfolding recordAnswer
 named-is r rec n e = rw (eq-eqb (length rec) recordLength n, e)
 
 pub part-length : (f : Field) (rec : List ℕ) → InRecord f → length rec ≡ recordLength → length (partOf f rec) ≡ f .last - (f .first - 1)
-part-length f rec l n =
-    length-take-le (f .last - (f .first - 1)) (drop (f .first - 1) rec) (omega (arith, length-drop (f .first - 1) rec, l .start, l .order, l .end))
+part-length f rec l n = places-length rec n (f .first) (f .last) (l .end)
 
 pub number-held : (f : Field) (rec : List ℕ) {r : ℕ} → InRecord f → f .last ≤ f .first + 18 → length rec ≡ recordLength → r ≡ heldOf (numberOf (partOf f rec))
     → r ≡ numberOf (partOf f rec)

@@ -163,7 +163,7 @@ fn number_of(rec: &[u8], f: Field) -> u64
     decimal::low_number(walk::part_of(rec, f))
 }
 
-fn date_of(rec: &[u8], f: Field) -> Dated
+pub(crate) fn date_of(rec: &[u8], f: Field) -> Dated
     requires { ⌜ length (now rec) ≡ recordLength ⌝ }
     requires { ⌜ InRecord f ⌝ }
     ensures { λ r. ⌜ r ≡ dateOf (partOf f (now (rec .entry))) ⌝ }

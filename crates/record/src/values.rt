@@ -39,7 +39,7 @@ fn date_in(rec: &[u8], f: Field) -> Date
     requires { ⌜ InRecord f ⌝ }
     ensures { λ r. ⌜ r ≡ dayOf (dateOf (partOf f (now (rec .entry)))) ⌝ }
 {
-    match calendar::read_date(walk::part_of(rec, f)) {
+    match quick::date_of(rec, f) {
         Dated::On(date) => date,
         Dated::NoDate => Date {
             year: 0,

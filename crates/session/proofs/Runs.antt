@@ -19,7 +19,7 @@ use Rattle.session.specs.declared.Ran.{Ran}
 use Rattle.session.specs.declared.Took.{Took}
 use Rattle.session.specs.declared.running.Paid.{Paid}
 use Rattle.session.specs.Sessions.{takeAnswer, follows, takeOf}
-use Rattle.session.specs.Runs.{piecesUpTo, piecesOf, closedBy, ranOut, after, unlessRefused, runAll, runOf, AllTaken, takenAll, answerNext, RunIsItsTakes, withPaid, PaidOf}
+use Rattle.session.specs.Runs.{piecesUpTo, piecesOf, closedBy, ranOut, after, unlessRefused, runAll, runOf, AllTaken, takenAll, nextAnswer, RunIsItsTakes, withPaid, PaidOf}
 
 -- more fuel than bytes changes nothing
 fuel : (n m : ℕ) (bytes : List ℕ) → length bytes ≤ n → length bytes ≤ m → piecesUpTo n bytes ≡ piecesUpTo m bytes
@@ -122,7 +122,7 @@ module _ (self s : Session) (bytes : List ℕ) (at records files : ℕ) (inv : a
 record Tells (s : Session) (recs : List (List ℕ)) (r : Ran) : Type 0 where
   taken : AllTaken s (take (r .records) recs)
   session : r .session ≡ takenAll s (take (r .records) recs)
-  answer : r .answer ≡ answerNext (r .session) (drop (r .records) recs)
+  answer : r .answer ≡ nextAnswer (r .session) (drop (r .records) recs)
   whole : r .answer ≡ Accepted → r .records ≡ length recs
 
 -- one record more in front
@@ -133,7 +133,7 @@ tells-more rec recs s c r e t =
     record {
       taken = subst (λ (m : ℕ). AllTaken s (take m (rec ∷ recs))) (sym one) (e, t .taken);
       session = t .session ∙ ap (λ (m : ℕ). takenAll s (take m (rec ∷ recs))) (sym one);
-      answer = t .answer ∙ ap (λ (m : ℕ). answerNext (r .session) (drop m (rec ∷ recs))) (sym one);
+      answer = t .answer ∙ ap (λ (m : ℕ). nextAnswer (r .session) (drop m (rec ∷ recs))) (sym one);
       whole = λ x. omega (arith, t .whole x);
     }
 

@@ -78,16 +78,16 @@ abbrev pub takenAll : Session → List (List ℕ) → Session
 takenAll s [] = s
 takenAll s (r ∷ rs) = takenAll (takeOf s r .session) rs
 
-abbrev pub answerNext : Session → List (List ℕ) → Answer
-answerNext s [] = Accepted
-answerNext s (r ∷ rs) = takeOf s r .answer
+abbrev pub nextAnswer : Session → List (List ℕ) → Answer
+nextAnswer s [] = Accepted
+nextAnswer s (r ∷ rs) = takeOf s r .answer
 
 abbrev pub RunIsItsTakes : Type 0
 RunIsItsTakes =
     (s : Session) (bytes : List ℕ)
     → let r = runOf s bytes in
     let taken = take (r .records) (piecesOf bytes) in
-    AllTaken s taken × (r .session ≡ takenAll s taken) × (r .answer ≡ answerNext (r .session) (drop (r .records) (piecesOf bytes)))
+    AllTaken s taken × (r .session ≡ takenAll s taken) × (r .answer ≡ nextAnswer (r .session) (drop (r .records) (piecesOf bytes)))
     × (r .answer ≡ Accepted → r .records ≡ length (piecesOf bytes))
 
 -- What serves the run's loop alone.
