@@ -10,13 +10,13 @@ use Rattle.answer.specs.declared.Reason.{Reason}
 use Rattle.answer.specs.declared.Answer.{Answer}
 use Rattle.answer.specs.declared.Answer.the-variants.{Accepted, Refused}
 use Rattle.answer.specs.Refusals.{answerPlace}
-use Rattle.answer.specs.Orders.{asked, _then_, first, lastPlace, StopsAt, AskedAccepts, ThenAccepts, ThenRefuses, ThenGroups, FirstAccepts, FirstRefuses, FirstJoins, MovedNumber, MovedAccepts, MovedThen, MovedTwice, BehindIsHeld, RefusalKeeps, AcceptedTakes, KeptSeen}
+use Rattle.answer.specs.Orders.{require, _then_, firstRefusal, largestPlace, StopsAt, RequireAccepts, ThenAccepts, ThenRefuses, ThenGroups, FirstAccepts, FirstRefuses, FirstJoins, MovedNumber, MovedAccepts, MovedThen, MovedTwice, BehindIsExact, RefusalKeeps, AcceptedTakes, SeenIfAccepted}
 
 -- an answer is accepted or refused, not both
 pub not-both : {X : Type 0} (a : Answer) {why : Reason} {p : ℕ} → a ≡ Refused why p → a ≡ Accepted → X
 not-both a e f = let z : _≡_ {A = ℕ} 0 1 = cc in absurd (omega arith)
 
-pub asked-accepts : AskedAccepts
+pub asked-accepts : RequireAccepts
 asked-accepts true why p = (λ e. refl, λ e. refl)
 asked-accepts false why p = (λ e. cc, λ e. cc)
 
@@ -35,16 +35,16 @@ then-groups (Refused why p) b c = refl
 pub first-accepts : {A : Type 0} → FirstAccepts A
 first-accepts question [] = (λ e. tt, λ h. refl)
 first-accepts question (x ∷ xs) =
-    let both = then-accepts (question x) (first question xs) in
+    let both = then-accepts (question x) (firstRefusal question xs) in
     let rest = first-accepts question xs in
     (λ e. (both .0 e .0, rest .0 (both .0 e .1)), λ h. both .1 (h .0, rest .1 (h .1)))
 
 pub first-joins : {A : Type 0} → FirstJoins A
 first-joins question [] ys = refl
 first-joins question (x ∷ xs) ys =
-    ap (λ (a : Answer). question x then a) (first-joins question xs ys) ∙ sym (then-groups (question x) (first question xs) (first question ys))
+    ap (λ (a : Answer). question x then a) (first-joins question xs ys) ∙ sym (then-groups (question x) (firstRefusal question xs) (firstRefusal question ys))
 
-stops : {A : Type 0} (question : A → Answer) (why : Reason) (p : ℕ) (xs : List A) → first question xs ≡ Refused why p → StopsAt question why p xs
+stops : {A : Type 0} (question : A → Answer) (why : Reason) (p : ℕ) (xs : List A) → firstRefusal question xs ≡ Refused why p → StopsAt question why p xs
 stops question why p [] e = not-both Accepted e refl
 stops question why p (x ∷ xs) e =
     ⊎-elim (λ r. record { before = []; here = x; after = xs; is = refl; accepts = refl; refuses = r })
@@ -55,10 +55,10 @@ stops question why p (x ∷ xs) e =
       here = later .here;
       after = later .after;
       is = ap (λ l. x ∷ l) (later .is);
-      accepts = then-accepts (question x) (first question (later .before)) .1 (r .0, later .accepts);
+      accepts = then-accepts (question x) (firstRefusal question (later .before)) .1 (r .0, later .accepts);
       refuses = later .refuses;
     })
-    (then-refuses (question x) (first question xs) why p .0 e)
+    (then-refuses (question x) (firstRefusal question xs) why p .0 e)
 
 pub first-refuses : {A : Type 0} → FirstRefuses A
 first-refuses question why p xs = (
@@ -82,11 +82,11 @@ pub moved-twice : MovedTwice
 moved-twice move on Accepted = refl
 moved-twice move on (Refused why p) = refl
 
-pub behind-is-held : BehindIsHeld
+pub behind-is-held : BehindIsExact
 behind-is-held n Accepted h = refl
 behind-is-held n (Refused why p) h =
-    let fits : (t : Bool) → min (cond t 0 (p + n)) lastPlace ≡ cond t 0 (p + n) =
-    λ t. elim t as (λ (b : Bool). min (cond b 0 (p + n)) lastPlace ≡ cond b 0 (p + n)) [ true ↦ omega arith | false ↦ omega arith ] in
+    let fits : (t : Bool) → min (cond t 0 (p + n)) largestPlace ≡ cond t 0 (p + n) =
+    λ t. elim t as (λ (b : Bool). min (cond b 0 (p + n)) largestPlace ≡ cond b 0 (p + n)) [ true ↦ omega arith | false ↦ omega arith ] in
     ap (Refused why) (fits (eqb p 0))
 
 pub refusal-keeps : {S : Type 0} → RefusalKeeps S
@@ -97,12 +97,12 @@ pub accepted-takes : {S : Type 0} → AcceptedTakes S
 accepted-takes Accepted new old h = refl
 accepted-takes (Refused why p) new old h = not-both _ refl h
 
-pub kept-seen : {S R : Type 0} → KeptSeen S R
+pub kept-seen : {S R : Type 0} → SeenIfAccepted S R
 kept-seen see Accepted new old = refl
 kept-seen see (Refused why p) new old = refl
 
 -- no place is past n where none of the questions' is
-pub asked-place : (n : ℕ) (t : Bool) (why : Reason) (p : ℕ) → p ≤ n → answerPlace (asked t why p) ≤ n
+pub asked-place : (n : ℕ) (t : Bool) (why : Reason) (p : ℕ) → p ≤ n → answerPlace (require t why p) ≤ n
 asked-place n true why p h = omega arith
 asked-place n false why p h = h
 

@@ -8,7 +8,7 @@ use lib.ListN.{getD}
 use Rattle.answer.specs.declared.Reason.{Reason}
 use Rattle.answer.specs.declared.Reason.the-variants.{WrongLength, NoDigit, WrongProduct, UnknownSegment, UnknownKind, WrongBoxCheck, WrongGeneralCheck, NoText, NotExpected, FixedDiffers, NoDate, UnknownCode, CountDiffers, TotalDiffers, FileFull, FileTotalPassed, BoardFull, BoardTotalPassed, FileOpen, CheckTwoPlaces, TooWide}
 use Rattle.answer.specs.declared.Answer.the-variants.{Accepted, Refused}
-use Rattle.answer.specs.Refusals.{numberOf, answerNumber, NumbersDiffer, ZeroIsAccepted}
+use Rattle.answer.specs.Refusals.{reasonNumber, answerNumber, NumbersDiffer, ZeroIsAccepted}
 
 -- the reasons by their numbers; 0 names none, and stands in as the first
 named : ℕ → Reason
@@ -19,7 +19,7 @@ named n =
     ∷ BoardTotalPassed ∷ FileOpen ∷ CheckTwoPlaces ∷ TooWide ∷ [])
     n WrongLength
 
-named-back : (a : Reason) → (named (numberOf a) ≡ a) × (0 < numberOf a)
+named-back : (a : Reason) → (named (reasonNumber a) ≡ a) × (0 < reasonNumber a)
 unfolding named
 named-back WrongLength = (refl, lit< tt)
 named-back NoDigit = (refl, lit< tt)

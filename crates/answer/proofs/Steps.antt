@@ -5,24 +5,24 @@ use mathlib.Core.Path.{_≡_, refl}
 use Rattle.answer.specs.declared.Reason.{Reason}
 use Rattle.answer.specs.declared.Answer.{Answer}
 use Rattle.answer.specs.declared.Answer.the-variants.{Accepted, Refused}
-use Rattle.answer.specs.Orders.{asked, _then_, movedBy}
+use Rattle.answer.specs.Orders.{require, _then_, movedBy}
 
 -- one question
 module _ (t : Bool) (why : Reason) (p : ℕ) where
-  pub stop : t ≡ false → Refused why p ≡ asked t why p
+  pub stop : t ≡ false → Refused why p ≡ require t why p
   stop h = rw h
 
-  pub pass : t ≡ true → Accepted ≡ asked t why p
+  pub pass : t ≡ true → Accepted ≡ require t why p
   pass h = rw h
 
-  pub stops : (next : Answer) → t ≡ false → Refused why p ≡ asked t why p then next
+  pub stops : (next : Answer) → t ≡ false → Refused why p ≡ require t why p then next
   stops next h = rw h
 
-  pub goes : {next b : Answer} → t ≡ true → b ≡ next → b ≡ asked t why p then next
+  pub goes : {next b : Answer} → t ≡ true → b ≡ next → b ≡ require t why p then next
   goes h e = rw h e
 
 -- a row that accepts: its first test held, and the rest accepts
-pub passed : (t : Bool) (why : Reason) (p : ℕ) {next : Answer} → asked t why p then next ≡ Accepted → (t ≡ true) × (next ≡ Accepted)
+pub passed : (t : Bool) (why : Reason) (p : ℕ) {next : Answer} → require t why p then next ≡ Accepted → (t ≡ true) × (next ≡ Accepted)
 passed true why p h = (refl, h)
 passed false why p h = (cc, cc)
 

@@ -11,9 +11,9 @@ use Rattle.answer.specs.declared.Answer.the-variants.{Accepted, Refused}
 use Rattle.answer.specs.Refusals.{answerNumber, answerPlace}
 
 -- one question: refused for this reason at this place, unless the test holds
-abbrev pub asked : Bool → Reason → ℕ → Answer
-asked true why place = Accepted
-asked false why place = Refused why place
+abbrev pub require : Bool → Reason → ℕ → Answer
+require true why place = Accepted
+require false why place = Refused why place
 
 -- the first refusal of two
 infixr 20 _then_
@@ -22,9 +22,9 @@ Accepted then next = next
 (Refused why place) then next = Refused why place
 
 -- the first refusal of a row of questions
-abbrev pub first {ℓ} : {A : Type ℓ} → (A → Answer) → List A → Answer
-first question [] = Accepted
-first question (x ∷ xs) = question x then first question xs
+abbrev pub firstRefusal {ℓ} : {A : Type ℓ} → (A → Answer) → List A → Answer
+firstRefusal question [] = Accepted
+firstRefusal question (x ∷ xs) = question x then firstRefusal question xs
 
 -- an answer about a part, moved to the part's place in the whole
 abbrev pub movedBy : (ℕ → ℕ) → Answer → Answer
@@ -36,21 +36,21 @@ abbrev pub behind : ℕ → ℕ → ℕ
 behind n place = cond (eqb place 0) 0 (place + n)
 
 -- a place is a number of 64 bits: past the largest it stays the largest
-abbrev pub lastPlace : ℕ
-lastPlace = 18446744073709551615
+abbrev pub largestPlace : ℕ
+largestPlace = 18446744073709551615
 
-abbrev pub heldBehind : ℕ → ℕ → ℕ
-heldBehind n place = min (behind n place) lastPlace
+abbrev pub cappedBehind : ℕ → ℕ → ℕ
+cappedBehind n place = min (behind n place) largestPlace
 
 -- the new state where it is accepted, else the old
-abbrev pub kept {ℓ} : {S : Type ℓ} → Answer → S → S → S
-kept Accepted new old = new
-kept (Refused why place) new old = old
+abbrev pub ifAccepted {ℓ} : {S : Type ℓ} → Answer → S → S → S
+ifAccepted Accepted new old = new
+ifAccepted (Refused why place) new old = old
 
 -- Promises: of a question, of two, of a row.
 
-abbrev pub AskedAccepts : Type 0
-AskedAccepts = (t : Bool) (why : Reason) (p : ℕ) → (asked t why p ≡ Accepted) ↔ (t ≡ true)
+abbrev pub RequireAccepts : Type 0
+RequireAccepts = (t : Bool) (why : Reason) (p : ℕ) → (require t why p ≡ Accepted) ↔ (t ≡ true)
 
 abbrev pub ThenAccepts : Type 0
 ThenAccepts = (a b : Answer) → (a then b ≡ Accepted) ↔ ((a ≡ Accepted) × (b ≡ Accepted))
@@ -71,7 +71,7 @@ Each P (x ∷ xs) = P x × Each P xs
 abbrev pub FirstAccepts : Type 0 → Type 0
 FirstAccepts A =
     (question : A → Answer) (xs : List A)
-    → (first question xs ≡ Accepted) ↔ Each (λ x. question x ≡ Accepted) xs
+    → (firstRefusal question xs ≡ Accepted) ↔ Each (λ x. question x ≡ Accepted) xs
 
 -- the row stops at a question that refuses, when all before it accept
 pub record StopsAt {A : Type 0} (question : A → Answer) (why : Reason) (p : ℕ) (row : List A) : Type 0 where
@@ -79,18 +79,18 @@ pub record StopsAt {A : Type 0} (question : A → Answer) (why : Reason) (p : �
   pub here : A
   pub after : List A
   pub is : row ≡ before ++ here ∷ after
-  pub accepts : first question before ≡ Accepted
+  pub accepts : firstRefusal question before ≡ Accepted
   pub refuses : question here ≡ Refused why p
 
 abbrev pub FirstRefuses : Type 0 → Type 0
 FirstRefuses A =
     (question : A → Answer) (why : Reason) (p : ℕ) (xs : List A)
-    → (first question xs ≡ Refused why p) ↔ StopsAt question why p xs
+    → (firstRefusal question xs ≡ Refused why p) ↔ StopsAt question why p xs
 
 abbrev pub FirstJoins : Type 0 → Type 0
 FirstJoins A =
     (question : A → Answer) (xs ys : List A)
-    → first question (xs ++ ys) ≡ first question xs then first question ys
+    → firstRefusal question (xs ++ ys) ≡ firstRefusal question xs then firstRefusal question ys
 
 -- Promises: of an answer that is moved.
 
@@ -107,16 +107,16 @@ abbrev pub MovedTwice : Type 0
 MovedTwice = (move on : ℕ → ℕ) (a : Answer) → movedBy on (movedBy move a) ≡ movedBy (λ p. on (move p)) a
 
 -- within 64 bits no place is cut
-abbrev pub BehindIsHeld : Type 0
-BehindIsHeld = (n : ℕ) (a : Answer) → answerPlace a + n ≤ lastPlace → movedBy (heldBehind n) a ≡ movedBy (behind n) a
+abbrev pub BehindIsExact : Type 0
+BehindIsExact = (n : ℕ) (a : Answer) → answerPlace a + n ≤ largestPlace → movedBy (cappedBehind n) a ≡ movedBy (behind n) a
 
 -- Promises: of a state. A refusal changes nothing; what is seen of the kept state is what is kept of what is seen.
 
 abbrev pub RefusalKeeps : Type 0 → Type 0
-RefusalKeeps S = (a : Answer) (new old : S) → (a ≡ Accepted → ⊥) → kept a new old ≡ old
+RefusalKeeps S = (a : Answer) (new old : S) → (a ≡ Accepted → ⊥) → ifAccepted a new old ≡ old
 
 abbrev pub AcceptedTakes : Type 0 → Type 0
-AcceptedTakes S = (a : Answer) (new old : S) → a ≡ Accepted → kept a new old ≡ new
+AcceptedTakes S = (a : Answer) (new old : S) → a ≡ Accepted → ifAccepted a new old ≡ new
 
-abbrev pub KeptSeen : Type 0 → Type 0 → Type 0
-KeptSeen S R = (see : S → R) (a : Answer) (new old : S) → see (kept a new old) ≡ kept a (see new) (see old)
+abbrev pub SeenIfAccepted : Type 0 → Type 0 → Type 0
+SeenIfAccepted S R = (see : S → R) (a : Answer) (new old : S) → see (ifAccepted a new old) ≡ ifAccepted a (see new) (see old)

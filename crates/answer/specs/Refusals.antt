@@ -8,33 +8,33 @@ use Rattle.answer.specs.declared.Answer.{Answer}
 use Rattle.answer.specs.declared.Answer.the-variants.{Accepted, Refused}
 
 -- the paper's number of each reason, and when it is given
-abbrev pub numberOf : Reason → ℕ
-numberOf WrongLength = 1  -- a length is not exactly the one called for
-numberOf NoDigit = 2  -- a byte is no digit
-numberOf WrongProduct = 3  -- product not 8
-numberOf UnknownSegment = 4  -- segment not 1 to 7 or 9
-numberOf UnknownKind = 5  -- value kind not 6 to 9
-numberOf WrongBoxCheck = 6  -- a box check is wrong
-numberOf WrongGeneralCheck = 7  -- general check is wrong
-numberOf NoText = 8  -- no text byte
-numberOf NotExpected = 9  -- first byte names no record expected now
-numberOf FixedDiffers = 10  -- fixed field differs
-numberOf NoDate = 11  -- eight digits, no date
-numberOf UnknownCode = 12  -- capture or payment form unknown
-numberOf CountDiffers = 13  -- trailer count differs
-numberOf TotalDiffers = 14  -- trailer total differs
-numberOf FileFull = 15  -- a G when as many were taken as a file can have
-numberOf FileTotalPassed = 16  -- G takes the file's total past its limit
-numberOf BoardFull = 17  -- new issuer, all lanes taken
-numberOf BoardTotalPassed = 18  -- G takes a board total past its limit
-numberOf FileOpen = 19  -- end with a file open
-numberOf CheckTwoPlaces = 20  -- a computed check needs two places
-numberOf TooWide = 21  -- builder's or writer's number too wide
+abbrev pub reasonNumber : Reason → ℕ
+reasonNumber WrongLength = 1  -- a length is not exactly the one called for
+reasonNumber NoDigit = 2  -- a byte is no digit
+reasonNumber WrongProduct = 3  -- product not 8
+reasonNumber UnknownSegment = 4  -- segment not 1 to 7 or 9
+reasonNumber UnknownKind = 5  -- value kind not 6 to 9
+reasonNumber WrongBoxCheck = 6  -- a box check is wrong
+reasonNumber WrongGeneralCheck = 7  -- general check is wrong
+reasonNumber NoText = 8  -- no text byte
+reasonNumber NotExpected = 9  -- first byte names no record expected now
+reasonNumber FixedDiffers = 10  -- fixed field differs
+reasonNumber NoDate = 11  -- eight digits, no date
+reasonNumber UnknownCode = 12  -- capture or payment form unknown
+reasonNumber CountDiffers = 13  -- trailer count differs
+reasonNumber TotalDiffers = 14  -- trailer total differs
+reasonNumber FileFull = 15  -- a G when as many were taken as a file can have
+reasonNumber FileTotalPassed = 16  -- G takes the file's total past its limit
+reasonNumber BoardFull = 17  -- new issuer, all lanes taken
+reasonNumber BoardTotalPassed = 18  -- G takes a board total past its limit
+reasonNumber FileOpen = 19  -- end with a file open
+reasonNumber CheckTwoPlaces = 20  -- a computed check needs two places
+reasonNumber TooWide = 21  -- builder's or writer's number too wide
 
 -- 0 is accepted, with place 0
 abbrev pub answerNumber : Answer → ℕ
 answerNumber Accepted = 0
-answerNumber (Refused why place) = numberOf why
+answerNumber (Refused why place) = reasonNumber why
 
 abbrev pub answerPlace : Answer → ℕ
 answerPlace Accepted = 0
@@ -52,7 +52,7 @@ issuerPlace = 53
 
 -- a number names one reason
 abbrev pub NumbersDiffer : Type 0
-NumbersDiffer = (a b : Reason) → numberOf a ≡ numberOf b → a ≡ b
+NumbersDiffer = (a b : Reason) → reasonNumber a ≡ reasonNumber b → a ≡ b
 
 -- 0 names acceptance alone
 abbrev pub ZeroIsAccepted : Type 0

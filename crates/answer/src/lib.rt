@@ -1,7 +1,7 @@
 // What a call answers: accepted, or one refusal with its place.
 ghost use mathlib.Core.Path.{_≡_};
-ghost use Rattle.answer.specs.Refusals.{numberOf, answerNumber, answerPlace};
-ghost use Rattle.answer.specs.Orders.{movedBy, heldBehind};
+ghost use Rattle.answer.specs.Refusals.{reasonNumber, answerNumber, answerPlace};
+ghost use Rattle.answer.specs.Orders.{movedBy, cappedBehind};
 
 // What is wrong, in the order of document 01's refusal numbers.
 pub enum Reason {
@@ -41,7 +41,7 @@ pub enum Answer {
 
 impl Reason {
     pub fn number(self) -> u8
-        ensures { λ r. ⌜ r ≡ numberOf self ⌝ }
+        ensures { λ r. ⌜ r ≡ reasonNumber self ⌝ }
     {
         match self {
             Reason::WrongLength => 1,
@@ -70,7 +70,7 @@ impl Reason {
 }
 
 fn place_behind(before: usize, place: usize) -> usize
-    ensures { λ r. ⌜ r ≡ heldBehind before place ⌝ }
+    ensures { λ r. ⌜ r ≡ cappedBehind before place ⌝ }
 {
     if place == 0 {
         return 0;
@@ -103,7 +103,7 @@ impl Answer {
     }
     // The same answer about a part, where the part stands behind so many bytes of the whole.
     pub fn behind(self, before: usize) -> Answer
-        ensures { λ r. ⌜ r ≡ movedBy (heldBehind before) self ⌝ }
+        ensures { λ r. ⌜ r ≡ movedBy (cappedBehind before) self ⌝ }
     {
         match self {
             Answer::Accepted => self,

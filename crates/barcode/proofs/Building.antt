@@ -12,7 +12,7 @@ use lib.Seq.{take-all}
 use Rattle.answer.specs.declared.Answer.{Answer}
 use Rattle.answer.specs.declared.Answer.the-variants.{Accepted}
 use Rattle.answer.specs.declared.Reason.the-variants.{WrongLength, UnknownSegment, UnknownKind, CheckTwoPlaces, TooWide}
-use Rattle.answer.specs.Orders.{kept}
+use Rattle.answer.specs.Orders.{ifAccepted}
 use Rattle.answer.proofs.Steps.{pass, passed}
 use Rattle.decimal.specs.Bytes.{within}
 use Rattle.decimal.specs.Numbers.{digitsOf, widthAnswer}
@@ -32,14 +32,14 @@ four-set (p ∷ q ∷ []) a b c d h = absurd (omega arith)
 four-set (p ∷ q ∷ r ∷ []) a b c d h = absurd (omega arith)
 four-set (p ∷ q ∷ r ∷ s ∷ l) a b c d h = refl
 
-number-put : (w n at : ℕ) (l : List ℕ) {r : Answer} {q : List ℕ} → n < 10 ^ w → r ≡ widthAnswer w n → q ≡ kept r (putAt at (digitsOf w n) l) l → q ≡ putAt at (digitsOf w n) l
+number-put : (w n at : ℕ) (l : List ℕ) {r : Answer} {q : List ℕ} → n < 10 ^ w → r ≡ widthAnswer w n → q ≡ ifAccepted r (putAt at (digitsOf w n) l) l → q ≡ putAt at (digitsOf w n) l
 number-put w n at l h e f = f ∙ rw (e, lt-ltb n (10 ^ w) h)
 
 -- the four pieces one behind the other
 pub pieces : (i : Issuer) (kind amount : ℕ) (rest old : List ℕ) → Fit i kind amount rest → length old ≡ 44
     → {e : ℕ} {r s : Answer} {one two three four : List ℕ} → e ≡ issuerEnd (i .segment) → one ≡ headOf (i .segment) kind ++ 48 ∷ drop 4 old
-    → r ≡ widthAnswer 11 amount → two ≡ kept r (putAt 4 (digitsOf 11 amount) one) one
-    → s ≡ widthAnswer (e - 15) (i .number) → three ≡ kept s (putAt 15 (digitsOf (e - 15) (i .number)) two) two
+    → r ≡ widthAnswer 11 amount → two ≡ ifAccepted r (putAt 4 (digitsOf 11 amount) one) one
+    → s ≡ widthAnswer (e - 15) (i .number) → three ≡ ifAccepted s (putAt 15 (digitsOf (e - 15) (i .number)) two) two
     → four ≡ putAt e rest three → four ≡ codeWith 0 i kind amount rest
 pieces i kind amount rest old fit n {e} {r} {s} {one} {two} {three} {four} ee e1 er e2 es e3 e4 =
     let range = issuer-end-range (i .segment) in

@@ -14,23 +14,23 @@ use Rattle.answer.specs.declared.Reason.the-variants.{WrongLength, NoDigit, Wro
 use Rattle.answer.specs.declared.Answer.{Answer}
 use Rattle.answer.specs.declared.Answer.the-variants.{Accepted, Refused}
 use Rattle.answer.specs.Refusals.{answerPlace}
-use Rattle.answer.specs.Orders.{asked, _then_}
+use Rattle.answer.specs.Orders.{require, _then_}
 use Rattle.answer.proofs.Orders.{asked-accepts, then-accepts, asked-place, then-place}
 use Rattle.decimal.specs.declared.Class.the-variants.{Digit}
 use Rattle.decimal.specs.Bytes.{isOf, eachIs}
-use Rattle.decimal.specs.Numbers.{valueOf, numberOf, heldOf}
+use Rattle.decimal.specs.Numbers.{valueOf, numberOf, capped}
 use Rattle.decimal.specs.Places.{gather}
 use Rattle.decimal.proofs.Bytes.{each-place}
 use Rattle.decimal.proofs.Numbers.{nineteen-are-held}
-use Rattle.calendar.specs.declared.Dated.{Dated}
+use Rattle.calendar.specs.declared.MaybeDate.{MaybeDate}
 use Rattle.calendar.specs.Dates.{dateOf}
 use Rattle.modulus.specs.declared.Modulus.{Modulus}
-use Rattle.modulus.specs.Checks.{sizeOf, sumOf, ruleOf, checkOf}
+use Rattle.modulus.specs.Checks.{sizeOf, weightedSum, digitOfRemainder, checkOf}
 use Rattle.modulus.proofs.Sums.{parts-compose}
 use Rattle.barcode.specs.declared.Fields.{Fields}
 use Rattle.barcode.specs.declared.Issuer.{Issuer}
 use Rattle.barcode.specs.declared.Decoded.the-variants as decoding
-use Rattle.barcode.specs.Codes.{issuerOf, digitAt, product, isSegment, isKind, modulusOf, checked, issuerEnd, leadAnswer, generalCheck, generalRight, frontAnswer, bodyAnswer, barcodeAnswer, fieldsOf, readOf, decodeOf, shownFree}
+use Rattle.barcode.specs.Codes.{issuerOf, digitAt, product, isSegment, isKind, modulusOf, checked, issuerEnd, firstThreeAnswer, generalCheck, generalRight, prefixAnswer, fullLengthAnswer, barcodeAnswer, fieldsOf, readOf, decodedBarcode, shownFree}
 
 -- past the end
 pub no-digit : 0 ≡ valueOf 0
@@ -38,44 +38,44 @@ unfolding valueOf isOf
 no-digit = refl
 
 -- the check of the 43 digits from the remainders of their two stretches
-pub general-check : (m : Modulus) (code : List ℕ) → length code ≡ 44 → {x y : ℕ} → x ≡ sumOf m 40 (take 3 code) % sizeOf m
-    → y ≡ sumOf m 0 (take 40 (drop 4 code)) % sizeOf m → ruleOf m ((x + y) % sizeOf m) ≡ checkOf m (gather checked code)
+pub general-check : (m : Modulus) (code : List ℕ) → length code ≡ 44 → {x y : ℕ} → x ≡ weightedSum m 40 (take 3 code) % sizeOf m
+    → y ≡ weightedSum m 0 (take 40 (drop 4 code)) % sizeOf m → digitOfRemainder m ((x + y) % sizeOf m) ≡ checkOf m (gather checked code)
 general-check m code n ex ey =
     let b = take 40 (drop 4 code) in
     let l : length (b ++ []) ≡ 40 = rw (append-nil b) (length-take-le 40 (drop 4 code) (omega (arith, length-drop 4 code))) in
-    let s : sumOf m 0 (gather checked code) ≡ sumOf m 40 (take 3 code) + sumOf m 0 b
+    let s : weightedSum m 0 (gather checked code) ≡ weightedSum m 40 (take 3 code) + weightedSum m 0 b
     = rw l at (parts-compose m 0 (take 3 code) (b ++ [])) ∙ rw (append-nil b) in
     rw (ex, ey, mod-add-mod, add-mod-mod, s)
 
 pub general-as : (code : List ℕ) → length code ≡ 44 → {m : Modulus} {d x y r k : ℕ} → d ≡ digitAt 3 code → m ≡ modulusOf d
-    → x ≡ sumOf m 40 (take 3 code) % sizeOf m → y ≡ sumOf m 0 (take 40 (drop 4 code)) % sizeOf m → r ≡ (x + y) % sizeOf m → k ≡ ruleOf m r
+    → x ≡ weightedSum m 40 (take 3 code) % sizeOf m → y ≡ weightedSum m 0 (take 40 (drop 4 code)) % sizeOf m → r ≡ (x + y) % sizeOf m → k ≡ digitOfRemainder m r
     → k ≡ generalCheck code
 general-as code n {m} ed em ex ey er ek =
     let e : m ≡ modulusOf (digitAt 3 code) = em ∙ ap modulusOf ed in
     rw (ek, er, ← e, general-check m code n ex ey)
 
 -- 3, 4 and 5 look at three bytes alone
-pub lead-same : (l k : List ℕ) → getD l 0 0 ≡ getD k 0 0 → getD l 1 0 ≡ getD k 1 0 → getD l 2 0 ≡ getD k 2 0 → leadAnswer l ≡ leadAnswer k
-unfolding leadAnswer
+pub lead-same : (l k : List ℕ) → getD l 0 0 ≡ getD k 0 0 → getD l 1 0 ≡ getD k 1 0 → getD l 2 0 ≡ getD k 2 0 → firstThreeAnswer l ≡ firstThreeAnswer k
+unfolding firstThreeAnswer
 lead-same l k a b c = rw (a, b, c)
 
 -- no place of its answer is past its end
-lead-place : (l : List ℕ) → answerPlace (leadAnswer l) ≤ 45
-unfolding leadAnswer
+lead-place : (l : List ℕ) → answerPlace (firstThreeAnswer l) ≤ 45
+unfolding firstThreeAnswer
 lead-place l =
-    let a = asked (eqb (digitAt 1 l) product) WrongProduct 1 in
-    let b = asked (isSegment (digitAt 2 l)) UnknownSegment 2 in
-    let c = asked (isKind (digitAt 3 l)) UnknownKind 3 in
+    let a = require (eqb (digitAt 1 l) product) WrongProduct 1 in
+    let b = require (isSegment (digitAt 2 l)) UnknownSegment 2 in
+    let c = require (isKind (digitAt 3 l)) UnknownKind 3 in
     then-place 45 a (b then c) (asked-place 45 (eqb (digitAt 1 l) product) WrongProduct 1 (omega arith))
     (then-place 45 b c (asked-place 45 (isSegment (digitAt 2 l)) UnknownSegment 2 (omega arith)) (asked-place 45 (isKind (digitAt 3 l)) UnknownKind 3 (omega arith)))
 
 pub code-place : (code : List ℕ) → answerPlace (barcodeAnswer code) ≤ 45
 code-place code = go (eqb (length code) 44) refl
   where
-    go : (t : Bool) → eqb (length code) 44 ≡ t → answerPlace (asked t WrongLength 0 then bodyAnswer code) ≤ 45
+    go : (t : Bool) → eqb (length code) 44 ≡ t → answerPlace (require t WrongLength 0 then fullLengthAnswer code) ≤ 45
     go false e = omega arith
     go true e =
-        then-place 45 (frontAnswer code) (asked (generalRight code) WrongGeneralCheck 4) (then-place 45 (eachIs (isOf Digit) NoDigit 1 code) (leadAnswer code) (omega (arith, each-place (isOf Digit) NoDigit 1 code, eqb-true (length code) 44 e))
+        then-place 45 (prefixAnswer code) (require (generalRight code) WrongGeneralCheck 4) (then-place 45 (eachIs (isOf Digit) NoDigit 1 code) (firstThreeAnswer code) (omega (arith, each-place (isOf Digit) NoDigit 1 code, eqb-true (length code) 44 e))
         (lead-place code))
         (asked-place 45 (generalRight code) WrongGeneralCheck 4 (omega arith))
 
@@ -88,7 +88,7 @@ issuer-end-range s = go (eqb s 6)
 
 -- The fields, from what each part was read as.
 module _ (code : List ℕ) (n : length code ≡ 44) where
-  held : {r : ℕ} (from count : ℕ) → count ≤ 19 → from + count ≤ 44 → r ≡ heldOf (numberOf (take count (drop from code))) → r ≡ numberOf (take count (drop from code))
+  held : {r : ℕ} (from count : ℕ) → count ≤ 19 → from + count ≤ 44 → r ≡ capped (numberOf (take count (drop from code))) → r ≡ numberOf (take count (drop from code))
   held from count small fits e =
       e ∙ nineteen-are-held (take count (drop from code)) (omega (arith, length-take-le count (drop from code) (omega (arith, length-drop from code))))
 
@@ -98,7 +98,7 @@ module _ (code : List ℕ) (n : length code ≡ 44) where
       let b : e + 1 - 1 ≡ e = omega arith in
       rw (a, b) (sym (take-take 8 (44 - e) (drop e code) (omega arith)))
 
-  pub as-issuer : {s e i : ℕ} → s ≡ digitAt 2 code → e ≡ issuerEnd s → i ≡ heldOf (numberOf (take (e - 15) (drop 15 code)))
+  pub as-issuer : {s e i : ℕ} → s ≡ digitAt 2 code → e ≡ issuerEnd s → i ≡ capped (numberOf (take (e - 15) (drop 15 code)))
       → _≡_ {A = Issuer} (record { segment = s; number = i }) (issuerOf code)
   as-issuer {s} {e} es ee ei =
       let range = issuer-end-range s in
@@ -106,8 +106,8 @@ module _ (code : List ℕ) (n : length code ≡ 44) where
       let f : e ≡ issuerEnd (digitAt 2 code) = ee ∙ ap issuerEnd es in
       rw (fi, f, es)
 
-  pub as-fields : {i : Issuer} {e k v : ℕ} {d : Dated} → i ≡ issuerOf code → e ≡ issuerEnd (i .segment) → k ≡ digitAt 3 code
-      → v ≡ heldOf (numberOf (take 11 (drop 4 code))) → d ≡ dateOf (take (e + 8 - e) (drop e code))
+  pub as-fields : {i : Issuer} {e k v : ℕ} {d : MaybeDate} → i ≡ issuerOf code → e ≡ issuerEnd (i .segment) → k ≡ digitAt 3 code
+      → v ≡ capped (numberOf (take 11 (drop 4 code))) → d ≡ dateOf (take (e + 8 - e) (drop e code))
       → _≡_ {A = Fields} (record { kind = k; value = v; issuer = i; due = d }) (fieldsOf code)
   as-fields {i} {e} ei ee ek ev ed =
       let range = issuer-end-range (i .segment) in
@@ -121,13 +121,13 @@ module _ (code : List ℕ) (n : length code ≡ 44) where
 pub accepted-length : (code : List ℕ) → barcodeAnswer code ≡ Accepted → length code ≡ 44
 accepted-length code e =
     eqb-true (length code) 44
-    (asked-accepts (eqb (length code) 44) WrongLength 0 .0 (then-accepts (asked (eqb (length code) 44) WrongLength 0) (bodyAnswer code) .0 e .0))
+    (asked-accepts (eqb (length code) 44) WrongLength 0 .0 (then-accepts (require (eqb (length code) 44) WrongLength 0) (fullLengthAnswer code) .0 e .0))
 
 module _ (code : List ℕ) where
-  pub as-refused : {a : Answer} {why : Reason} {p : ℕ} → a ≡ barcodeAnswer code → a ≡ Refused why p → decoding.Refused why p ≡ decodeOf code
+  pub as-refused : {a : Answer} {why : Reason} {p : ℕ} → a ≡ barcodeAnswer code → a ≡ Refused why p → decoding.Refused why p ≡ decodedBarcode code
   as-refused {a} {why} {p} e f = let g : barcodeAnswer code ≡ Refused why p = cc in rw g
 
-  pub as-read : {a : Answer} {f : Fields} → a ≡ barcodeAnswer code → a ≡ Accepted → f ≡ readOf code → decoding.Read f ≡ decodeOf code
+  pub as-read : {a : Answer} {f : Fields} → a ≡ barcodeAnswer code → a ≡ Accepted → f ≡ readOf code → decoding.Read f ≡ decodedBarcode code
   as-read {a} e g h =
       let k : barcodeAnswer code ≡ Accepted = cc in
       rw (h, k, eq-eqb (length code) 44 (accepted-length code k))

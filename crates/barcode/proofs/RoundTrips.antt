@@ -11,7 +11,7 @@ use lib.Seq.{length-take-le, take-all, take-at, drop-at, drop-drop}
 use Rattle.answer.specs.declared.Reason.the-variants.{WrongLength, NoDigit, WrongProduct, UnknownSegment, UnknownKind, WrongGeneralCheck, TooWide}
 use Rattle.answer.specs.declared.Answer.{Answer}
 use Rattle.answer.specs.declared.Answer.the-variants.{Accepted, Refused}
-use Rattle.answer.specs.Orders.{asked, behind}
+use Rattle.answer.specs.Orders.{require, behind}
 use Rattle.answer.proofs.Orders.{then-accepts, asked-accepts, moved-accepts, refusal-keeps}
 use Rattle.answer.proofs.Steps.{passed}
 use Rattle.decimal.specs.declared.Class.the-variants.{Digit}
@@ -24,16 +24,16 @@ use Rattle.decimal.proofs.Numbers.{digit-range, value-digit, digit-back, digits
 use Rattle.modulus.specs.Checks.{checkOf}
 use Rattle.modulus.proofs.Sums.{check-is-one-digit}
 use Rattle.barcode.specs.declared.Issuer.{Issuer}
-use Rattle.barcode.specs.Codes.{digitAt, product, isSegment, isKind, modulusOf, checked, value, issuerEnd, issuer, free, issuerOf, freeOf, fieldsOf, leadAnswer, frontAnswer, generalCheck, generalRight, barcodeAnswer, decoded}
+use Rattle.barcode.specs.Codes.{digitAt, product, isSegment, isKind, modulusOf, checked, value, issuerEnd, issuer, free, issuerOf, freeOf, fieldsOf, firstThreeAnswer, prefixAnswer, generalCheck, generalRight, barcodeAnswer, decoded}
 use Rattle.barcode.specs.Building.{headOf, tailOf, checkFor, builtOf, numbersAnswer, fieldsAnswer, checkAnswer, buildAnswer, Fit}
-use Rattle.barcode.specs.RoundTrips.{answerOf, ShowsItsPlaces, DecodedAnswers, FieldsAreItsPlaces, CodeIsItsFields, BuiltIsRead, FieldsWithinRangesBuild, RefusedBuildKeeps}
+use Rattle.barcode.specs.RoundTrips.{answerOfBarcode, ShowsItsPlaces, DecodedAnswers, FieldsAreItsPlaces, CodeIsItsFields, BuiltIsRead, FieldsWithinRangesBuild, RefusedBuildKeeps}
 use Rattle.barcode.proofs.Codes.{issuer-end-range}
 use Rattle.barcode.proofs.Building.{fit-of, written-check, code-length}
 
 pub decoded-answers : DecodedAnswers
 decoded-answers code = go (barcodeAnswer code)
   where
-    go : (a : Answer) → answerOf (decoded a (fieldsOf code)) ≡ a
+    go : (a : Answer) → answerOfBarcode (decoded a (fieldsOf code)) ≡ a
     go Accepted = refl
     go (Refused why p) = refl
 
@@ -50,11 +50,11 @@ pub record Good (code : List ℕ) : Type 0 where
   pub general : generalRight code ≡ true
 
 pub good : (code : List ℕ) → barcodeAnswer code ≡ Accepted → Good code
-unfolding leadAnswer
+unfolding firstThreeAnswer
 good code e =
     let l = passed (eqb (length code) 44) WrongLength 0 e in
-    let body = then-accepts (frontAnswer code) (asked (generalRight code) WrongGeneralCheck 4) .0 (l .1) in
-    let front = then-accepts (eachIs (isOf Digit) NoDigit 1 code) (leadAnswer code) .0 (body .0) in
+    let body = then-accepts (prefixAnswer code) (require (generalRight code) WrongGeneralCheck 4) .0 (l .1) in
+    let front = then-accepts (eachIs (isOf Digit) NoDigit 1 code) (firstThreeAnswer code) .0 (body .0) in
     let p = passed (eqb (digitAt 1 code) product) WrongProduct 1 (front .1) in
     let s = passed (isSegment (digitAt 2 code)) UnknownSegment 2 (p .1) in
     record {
@@ -67,7 +67,7 @@ good code e =
     }
 
 pub accepted : (code : List ℕ) → Good code → barcodeAnswer code ≡ Accepted
-unfolding leadAnswer
+unfolding firstThreeAnswer
 accepted code g =
     rw (eq-eqb _ _ (g .long), each-accepts (isOf Digit) NoDigit 1 code .1 (g .digits), eq-eqb _ _ (g .first), g .segment, g .kind, g .general)
 

@@ -6,7 +6,7 @@ use lib.Dec.{leb, ltb, eqb}
 use lib.ListN.{length}
 use Rattle.answer.specs.declared.Reason.the-variants.{WrongLength, NoDigit, UnknownSegment, UnknownKind, CheckTwoPlaces, TooWide}
 use Rattle.answer.specs.declared.Answer.{Answer}
-use Rattle.answer.specs.Orders.{asked, _then_, behind, movedBy}
+use Rattle.answer.specs.Orders.{require, _then_, behind, movedBy}
 use Rattle.decimal.specs.declared.Class.the-variants.{Digit}
 use Rattle.decimal.specs.Bytes.{isOf, eachIs}
 use Rattle.decimal.specs.Numbers.{digitsOf}
@@ -34,23 +34,23 @@ builtOf i kind amount rest = codeWith (checkFor i kind amount rest) i kind amoun
 -- 1 for the free field, 21 value, 21 issuer, 2
 unfoldable pub numbersAnswer : Issuer → ℕ → List ℕ → Answer
 numbersAnswer i amount rest =
-    asked (eqb (length rest) (widthOf (free (i .segment)))) WrongLength 0
-    then asked (ltb amount (10 ^ widthOf value)) TooWide (value .first)
-    then asked (ltb (i .number) (10 ^ widthOf (issuer (i .segment)))) TooWide ((issuer (i .segment)) .first)
+    require (eqb (length rest) (widthOf (free (i .segment)))) WrongLength 0
+    then require (ltb amount (10 ^ widthOf value)) TooWide (value .first)
+    then require (ltb (i .number) (10 ^ widthOf (issuer (i .segment)))) TooWide ((issuer (i .segment)) .first)
     then movedBy (behind (issuerEnd (i .segment))) (eachIs (isOf Digit) NoDigit 1 rest)
 
 -- 4, 5, then these
 unfoldable pub fieldsAnswer : Issuer → ℕ → ℕ → List ℕ → Answer
 fieldsAnswer i kind amount rest =
-    asked (isSegment (i .segment)) UnknownSegment 2 then asked (isKind kind) UnknownKind 3 then numbersAnswer i amount rest
+    require (isSegment (i .segment)) UnknownSegment 2 then require (isKind kind) UnknownKind 3 then numbersAnswer i amount rest
 
 -- 20
 abbrev pub checkAnswer : Issuer → ℕ → ℕ → List ℕ → Answer
-checkAnswer i kind amount rest = asked (leb (checkFor i kind amount rest) 9) CheckTwoPlaces 4
+checkAnswer i kind amount rest = require (leb (checkFor i kind amount rest) 9) CheckTwoPlaces 4
 
 -- builder: 1 for the 44 bytes lent, 4, 5, 1 for the free field, 21 value, 21 issuer, 2, 20; every place but 0 is a place in the barcode
 abbrev pub buildAnswer : ℕ → Issuer → ℕ → ℕ → List ℕ → Answer
-buildAnswer lent i kind amount rest = asked (eqb lent codeLength) WrongLength 0 then fieldsAnswer i kind amount rest then checkAnswer i kind amount rest
+buildAnswer lent i kind amount rest = require (eqb lent codeLength) WrongLength 0 then fieldsAnswer i kind amount rest then checkAnswer i kind amount rest
 
 -- what accepted fields have at least: each fits its places
 pub record Fit (i : Issuer) (kind amount : ℕ) (rest : List ℕ) : Type 0 where

@@ -7,20 +7,20 @@ use lib.ListN.{length, getD, take}
 use Rattle.answer.specs.declared.Reason.the-variants.{WrongLength, NoDigit, WrongProduct, UnknownSegment, UnknownKind, WrongGeneralCheck}
 use Rattle.answer.specs.declared.Answer.{Answer}
 use Rattle.answer.specs.declared.Answer.the-variants as answer
-use Rattle.answer.specs.Orders.{asked, _then_, kept}
+use Rattle.answer.specs.Orders.{require, _then_, ifAccepted}
 use Rattle.decimal.specs.declared.Class.the-variants.{Digit}
 use Rattle.decimal.specs.Bytes.{within, isOf, eachIs}
 use Rattle.decimal.specs.Numbers.{valueOf, numberOf}
 use Rattle.decimal.specs.Places.{Stretch, partAt, gather}
-use Rattle.calendar.specs.declared.Dated.the-variants.{NoDate}
+use Rattle.calendar.specs.declared.MaybeDate.the-variants.{NoDate}
 use Rattle.calendar.specs.Dates.{dateOf}
 use Rattle.modulus.specs.declared.Modulus.{Modulus}
 use Rattle.modulus.specs.declared.Modulus.the-variants.{Ten, Eleven}
 use Rattle.modulus.specs.Checks.{checkOf}
 use Rattle.barcode.specs.declared.Issuer.{Issuer}
 use Rattle.barcode.specs.declared.Fields.{Fields}
-use Rattle.barcode.specs.declared.Payee.{Payee}
-use Rattle.barcode.specs.declared.Payee.the-variants.{To, Nobody}
+use Rattle.barcode.specs.declared.MaybeIssuer.{MaybeIssuer}
+use Rattle.barcode.specs.declared.MaybeIssuer.the-variants.{To, Nobody}
 use Rattle.barcode.specs.declared.Decoded.{Decoded}
 use Rattle.barcode.specs.declared.Decoded.the-variants.{Read, Refused}
 
@@ -80,15 +80,15 @@ fieldsOf code =
 -- The answer.
 
 -- 3, 4, 5
-unfoldable pub leadAnswer : List ℕ → Answer
-leadAnswer l =
-    asked (eqb (digitAt 1 l) product) WrongProduct 1
-    then asked (isSegment (digitAt 2 l)) UnknownSegment 2
-    then asked (isKind (digitAt 3 l)) UnknownKind 3
+unfoldable pub firstThreeAnswer : List ℕ → Answer
+firstThreeAnswer l =
+    require (eqb (digitAt 1 l) product) WrongProduct 1
+    then require (isSegment (digitAt 2 l)) UnknownSegment 2
+    then require (isKind (digitAt 3 l)) UnknownKind 3
 
 -- what a barcode and a typed line are asked first: 2 over all digits, 3, 4, 5
-abbrev pub frontAnswer : List ℕ → Answer
-frontAnswer l = eachIs (isOf Digit) NoDigit 1 l then leadAnswer l
+abbrev pub prefixAnswer : List ℕ → Answer
+prefixAnswer l = eachIs (isOf Digit) NoDigit 1 l then firstThreeAnswer l
 
 abbrev pub generalCheck : List ℕ → ℕ
 generalCheck code = checkOf (modulusOf (digitAt 3 code)) (gather checked code)
@@ -97,20 +97,20 @@ unfoldable pub generalRight : List ℕ → Bool
 generalRight code = eqb (getD code 3 0) (48 + generalCheck code)
 
 -- of 44 bytes, wherever they stand
-abbrev pub bodyAnswer : List ℕ → Answer
-bodyAnswer code = frontAnswer code then asked (generalRight code) WrongGeneralCheck 4
+abbrev pub fullLengthAnswer : List ℕ → Answer
+fullLengthAnswer code = prefixAnswer code then require (generalRight code) WrongGeneralCheck 4
 
 -- barcode: 1, 2 over all digits, 3, 4, 5, 7
 abbrev pub barcodeAnswer : List ℕ → Answer
-barcodeAnswer code = asked (eqb (length code) codeLength) WrongLength 0 then bodyAnswer code
+barcodeAnswer code = require (eqb (length code) codeLength) WrongLength 0 then fullLengthAnswer code
 
 -- whom it pays: the issuer of a right barcode
-abbrev pub paysTo : Answer → Issuer → Payee
-paysTo answer.Accepted issuer = To issuer
-paysTo (answer.Refused why place) issuer = Nobody
+abbrev pub issuerIfAccepted : Answer → Issuer → MaybeIssuer
+issuerIfAccepted answer.Accepted issuer = To issuer
+issuerIfAccepted (answer.Refused why place) issuer = Nobody
 
-abbrev pub payeeOf : List ℕ → Payee
-payeeOf code = paysTo (barcodeAnswer code) (issuerOf code)
+abbrev pub acceptedIssuer : List ℕ → MaybeIssuer
+acceptedIssuer code = issuerIfAccepted (barcodeAnswer code) (issuerOf code)
 
 -- What is shown: the fields of an accepted barcode, and its free field; of a refused one the refusal, and the empty stretch.
 
@@ -125,8 +125,8 @@ noFields = record { kind = 0; value = 0; issuer = record { segment = 0; number =
 abbrev pub readOf : List ℕ → Fields
 readOf code = cond (eqb (length code) codeLength) (fieldsOf code) noFields
 
-abbrev pub decodeOf : List ℕ → Decoded
-decodeOf code = decoded (barcodeAnswer code) (fieldsOf code)
+abbrev pub decodedBarcode : List ℕ → Decoded
+decodedBarcode code = decoded (barcodeAnswer code) (fieldsOf code)
 
 abbrev pub shownFree : List ℕ → List ℕ
-shownFree code = kept (barcodeAnswer code) (freeOf code) []
+shownFree code = ifAccepted (barcodeAnswer code) (freeOf code) []

@@ -6,7 +6,7 @@ use mathlib.Core.Path.{_≡_}
 use lib.ListN.{length, take}
 use Rattle.answer.specs.declared.Answer.{Answer}
 use Rattle.answer.specs.declared.Answer.the-variants as answer
-use Rattle.answer.specs.Orders.{kept}
+use Rattle.answer.specs.Orders.{ifAccepted}
 use Rattle.decimal.specs.declared.Class.the-variants.{Digit}
 use Rattle.decimal.specs.Bytes.{isOf, all}
 use Rattle.decimal.specs.Numbers.{digitsOf}
@@ -16,20 +16,20 @@ use Rattle.barcode.specs.declared.Issuer.{Issuer}
 use Rattle.barcode.specs.declared.Fields.{Fields}
 use Rattle.barcode.specs.declared.Decoded.{Decoded}
 use Rattle.barcode.specs.declared.Decoded.the-variants.{Read, Refused}
-use Rattle.barcode.specs.Codes.{codeLength, isSegment, isKind, value, issuer, free, fieldsOf, freeOf, barcodeAnswer, noFields, decodeOf, shownFree}
+use Rattle.barcode.specs.Codes.{codeLength, isSegment, isKind, value, issuer, free, fieldsOf, freeOf, barcodeAnswer, noFields, decodedBarcode, shownFree}
 use Rattle.barcode.specs.Building.{builtOf, buildAnswer}
 
 -- the paper's answer to a decoded barcode, by its cases, and the fields that it shows
-abbrev pub answerOf : Decoded → Answer
-answerOf (Read fields) = answer.Accepted
-answerOf (Refused why place) = answer.Refused why place
+abbrev pub answerOfBarcode : Decoded → Answer
+answerOfBarcode (Read fields) = answer.Accepted
+answerOfBarcode (Refused why place) = answer.Refused why place
 
 abbrev pub shownFields : Decoded → Fields
 shownFields (Read fields) = fields
 shownFields (Refused why place) = noFields
 
 abbrev pub DecodedAnswers : Type 0
-DecodedAnswers = (code : List ℕ) → answerOf (decodeOf code) ≡ barcodeAnswer code
+DecodedAnswers = (code : List ℕ) → answerOfBarcode (decodedBarcode code) ≡ barcodeAnswer code
 
 -- a barcode built of these fields and free field
 abbrev pub builtFrom : Fields → List ℕ → List ℕ
@@ -45,7 +45,7 @@ pub record ShowsItsPlaces (code : List ℕ) (f : Fields) : Type 0 where
   pub rest : shownFree code ≡ partAt (free (f .issuer .segment)) code
 
 abbrev pub FieldsAreItsPlaces : Type 0
-FieldsAreItsPlaces = (code : List ℕ) → answerOf (decodeOf code) ≡ answer.Accepted → ShowsItsPlaces code (shownFields (decodeOf code))
+FieldsAreItsPlaces = (code : List ℕ) → answerOfBarcode (decodedBarcode code) ≡ answer.Accepted → ShowsItsPlaces code (shownFields (decodedBarcode code))
 
 -- the fields of an accepted barcode and its free field build the same 44 bytes
 abbrev pub CodeIsItsFields : Type 0
@@ -57,7 +57,7 @@ CodeIsItsFields =
 abbrev pub BuiltIsRead : Type 0
 BuiltIsRead =
     (i : Issuer) (kind amount : ℕ) (rest : List ℕ) → buildAnswer codeLength i kind amount rest ≡ answer.Accepted
-    → (decodeOf (builtOf i kind amount rest) ≡ Read (record { kind = kind; value = amount; issuer = i; due = dateOf (take 8 rest) }))
+    → (decodedBarcode (builtOf i kind amount rest) ≡ Read (record { kind = kind; value = amount; issuer = i; due = dateOf (take 8 rest) }))
     × (shownFree (builtOf i kind amount rest) ≡ rest)
 
 -- nothing is refused that the layout allows
@@ -71,4 +71,4 @@ FieldsWithinRangesBuild =
 abbrev pub RefusedBuildKeeps : Type 0
 RefusedBuildKeeps =
     (out : List ℕ) (i : Issuer) (kind amount : ℕ) (rest : List ℕ) → (buildAnswer (length out) i kind amount rest ≡ answer.Accepted → ⊥)
-    → kept (buildAnswer (length out) i kind amount rest) (builtOf i kind amount rest) out ≡ out
+    → ifAccepted (buildAnswer (length out) i kind amount rest) (builtOf i kind amount rest) out ≡ out

@@ -3,7 +3,7 @@ ghost use mathlib.Core.Path.{_≡_};
 ghost use Prim.Native.Nat.{_≤_};
 ghost use lib.ListN.{length, drop};
 ghost use mathlib.Core.List.{_∷_, _++_};
-ghost use Rattle.answer.specs.Orders.{kept};
+ghost use Rattle.answer.specs.Orders.{ifAccepted};
 ghost use Rattle.barcode.specs.Codes.{codeLength};
 ghost use Rattle.barcode.specs.Building.{headOf, numbersAnswer, fieldsAnswer, checkAnswer, buildAnswer, codeWith, builtOf, Fit};
 use crate::Issuer;
@@ -12,7 +12,7 @@ use answer::Reason;
 use decimal::Class;
 
 // The free field's length, the widths of value and issuer, then the free field's digits; places in the barcode.
-fn ask_numbers(issuer: Issuer, value: u64, free: &[u8]) -> Answer
+fn check_numbers(issuer: Issuer, value: u64, free: &[u8]) -> Answer
     ensures { λ r. ⌜ r ≡ numbersAnswer issuer value (now (free .entry)) ⌝ }
 {
     let end = crate::issuer_end(issuer.segment);
@@ -25,11 +25,11 @@ fn ask_numbers(issuer: Issuer, value: u64, free: &[u8]) -> Answer
     if !decimal::fits_width(issuer.number, end - 15) {
         return Answer::Refused(Reason::TooWide, 16);
     }
-    let a = decimal::first_not(Class::Digit, Reason::NoDigit, free);
+    let a = decimal::require_class(Class::Digit, Reason::NoDigit, free);
     a.behind(end)
 }
 
-fn ask_fields(issuer: Issuer, kind: u64, value: u64, free: &[u8]) -> Answer
+fn check_fields(issuer: Issuer, kind: u64, value: u64, free: &[u8]) -> Answer
     ensures { λ r. ⌜ r ≡ fieldsAnswer issuer kind value (now (free .entry)) ⌝ }
 {
     if !crate::is_segment(issuer.segment) {
@@ -38,7 +38,7 @@ fn ask_fields(issuer: Issuer, kind: u64, value: u64, free: &[u8]) -> Answer
     if !crate::is_kind(kind) {
         return Answer::Refused(Reason::UnknownKind, 3);
     }
-    ask_numbers(issuer, value, free)
+    check_numbers(issuer, value, free)
 }
 
 // Places 1 to 4, with 0 for the check.
@@ -70,7 +70,7 @@ fn finish(issuer: Issuer, kind: u64, value: u64, free: &[u8], out: &mut [u8]) ->
     requires { ⌜ length (now out) ≡ codeLength ⌝ }
     requires { ⌜ Fit issuer kind value (now free) ⌝ }
     ensures answer { λ r. ⌜ r ≡ checkAnswer issuer kind value (now (free .entry)) ⌝ }
-    ensures bytes { λ r. ⌜ now (out .exit) ≡ kept r (builtOf issuer kind value (now (free .entry))) (now (out .entry)) ⌝ }
+    ensures bytes { λ r. ⌜ now (out .exit) ≡ ifAccepted r (builtOf issuer kind value (now (free .entry))) (now (out .entry)) ⌝ }
 {
     let mut code = [48u8; crate::LENGTH];
     put_fields(issuer, kind, value, free, &mut code);
@@ -86,12 +86,12 @@ fn finish(issuer: Issuer, kind: u64, value: u64, free: &[u8], out: &mut [u8]) ->
 // Builds the barcode into 44 lent bytes; a refusal leaves them as they were.
 pub fn build(issuer: Issuer, kind: u64, value: u64, free: &[u8], out: &mut [u8]) -> Answer
     ensures answer { λ r. ⌜ r ≡ buildAnswer (length (now (out .entry))) issuer kind value (now (free .entry)) ⌝ }
-    ensures bytes { λ r. ⌜ now (out .exit) ≡ kept r (builtOf issuer kind value (now (free .entry))) (now (out .entry)) ⌝ }
+    ensures bytes { λ r. ⌜ now (out .exit) ≡ ifAccepted r (builtOf issuer kind value (now (free .entry))) (now (out .entry)) ⌝ }
 {
     if out.len() != crate::LENGTH {
         return Answer::Refused(Reason::WrongLength, 0);
     }
-    let asked = ask_fields(issuer, kind, value, free);
+    let asked = check_fields(issuer, kind, value, free);
     match asked {
         Answer::Refused(_, _) => asked,
         Answer::Accepted => finish(issuer, kind, value, free, out),

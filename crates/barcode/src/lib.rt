@@ -1,19 +1,19 @@
 // The collection barcode of 44 digits: checked, decoded, and built from its fields.
 pub mod builder;
-mod right;
+mod fast;
 
 ghost use mathlib.Core.Path.{_≡_};
 ghost use Prim.Native.Nat.{_≤_};
 ghost use lib.ListN.{length, getD};
-ghost use Rattle.answer.specs.Orders.{heldBehind, movedBy};
+ghost use Rattle.answer.specs.Orders.{cappedBehind, movedBy};
 ghost use Rattle.decimal.specs.Numbers.{valueOf};
-ghost use Rattle.barcode.specs.Codes.{codeLength, isSegment, isKind, modulusOf, issuerEnd, leadAnswer, frontAnswer, generalCheck, generalRight, bodyAnswer, barcodeAnswer, issuerOf, fieldsOf, readOf, decodeOf, shownFree};
+ghost use Rattle.barcode.specs.Codes.{codeLength, isSegment, isKind, modulusOf, issuerEnd, firstThreeAnswer, prefixAnswer, generalCheck, generalRight, fullLengthAnswer, barcodeAnswer, issuerOf, fieldsOf, readOf, decodedBarcode, shownFree};
 use answer::Answer;
 use answer::Reason;
-use calendar::Dated;
+use calendar::MaybeDate;
 use decimal::Class;
+pub use fast::accepted_issuer;
 use modulus::Modulus;
-pub use right::pays;
 
 // The bytes of a barcode.
 pub const LENGTH: usize = 44;
@@ -29,7 +29,7 @@ pub struct Fields {
     pub kind: u64,
     pub value: u64,
     pub issuer: Issuer,
-    pub due: Dated,
+    pub due: MaybeDate,
 }
 
 pub enum Decoded {
@@ -38,7 +38,7 @@ pub enum Decoded {
 }
 
 // Whom a barcode pays.
-pub enum Payee {
+pub enum MaybeIssuer {
     To(Issuer),
     Nobody,
 }
@@ -59,7 +59,7 @@ pub fn is_kind(kind: u64) -> bool
 }
 
 // The modulus that a value kind names.
-pub fn named(kind: u64) -> Modulus
+pub fn modulus_of_kind(kind: u64) -> Modulus
     ensures { λ r. ⌜ r ≡ modulusOf kind ⌝ }
 {
     if kind <= 7 {
@@ -82,8 +82,8 @@ fn digit(l: &[u8], i: usize) -> u64
     if i < l.len() { decimal::value(l[i]) } else { 0 }
 }
 
-fn lead(l: &[u8]) -> Answer
-    ensures { λ r. ⌜ r ≡ leadAnswer (now (l .entry)) ⌝ }
+fn check_first_three(l: &[u8]) -> Answer
+    ensures { λ r. ⌜ r ≡ firstThreeAnswer (now (l .entry)) ⌝ }
 {
     if digit(l, 0) != 8 {
         return Answer::Refused(Reason::WrongProduct, 1);
@@ -98,13 +98,13 @@ fn lead(l: &[u8]) -> Answer
 }
 
 // What a barcode and a typed line are asked first.
-pub fn front(l: &[u8]) -> Answer
-    ensures { λ r. ⌜ r ≡ frontAnswer (now (l .entry)) ⌝ }
+pub fn check_prefix(l: &[u8]) -> Answer
+    ensures { λ r. ⌜ r ≡ prefixAnswer (now (l .entry)) ⌝ }
 {
-    let digits = decimal::first_not(Class::Digit, Reason::NoDigit, l);
+    let digits = decimal::require_class(Class::Digit, Reason::NoDigit, l);
     match digits {
         Answer::Refused(_, _) => digits,
-        Answer::Accepted => lead(l),
+        Answer::Accepted => check_first_three(l),
     }
 }
 
@@ -114,10 +114,10 @@ fn general_check(code: &[u8]) -> u64
     ensures { λ r. ⌜ r ≡ generalCheck (now (code .entry)) ⌝ }
     ensures small { λ r. ⌜ r ≤ 9 ⌝ }
 {
-    let m = named(digit(code, 2));
-    let left = modulus::rest(m, &code[0..3], 40);
-    let right = modulus::rest(m, &code[4..LENGTH], 0);
-    modulus::rule(m, modulus::remainder(m, left + right))
+    let m = modulus_of_kind(digit(code, 2));
+    let left = modulus::weighted_remainder(m, &code[0..3], 40);
+    let right = modulus::weighted_remainder(m, &code[4..LENGTH], 0);
+    modulus::digit_of_remainder(m, modulus::remainder(m, left + right))
 }
 
 fn general_right(code: &[u8]) -> bool
@@ -129,9 +129,9 @@ fn general_right(code: &[u8]) -> bool
 
 fn body(code: &[u8]) -> Answer
     requires { ⌜ length (now code) ≡ codeLength ⌝ }
-    ensures { λ r. ⌜ r ≡ bodyAnswer (now (code .entry)) ⌝ }
+    ensures { λ r. ⌜ r ≡ fullLengthAnswer (now (code .entry)) ⌝ }
 {
-    let lead = front(code);
+    let lead = check_prefix(code);
     match lead {
         Answer::Refused(_, _) => lead,
         Answer::Accepted => {
@@ -145,7 +145,7 @@ fn body(code: &[u8]) -> Answer
 }
 
 // The checks in their order.
-fn walked(code: &[u8]) -> Answer
+fn check_in_order(code: &[u8]) -> Answer
     ensures { λ r. ⌜ r ≡ barcodeAnswer (now (code .entry)) ⌝ }
 {
     if code.len() != LENGTH {
@@ -158,15 +158,15 @@ fn walked(code: &[u8]) -> Answer
 pub fn check(code: &[u8]) -> Answer
     ensures { λ r. ⌜ r ≡ barcodeAnswer (now (code .entry)) ⌝ }
 {
-    match pays(code) {
-        Payee::To(_) => Answer::Accepted,
-        Payee::Nobody => walked(code),
+    match accepted_issuer(code) {
+        MaybeIssuer::To(_) => Answer::Accepted,
+        MaybeIssuer::Nobody => check_in_order(code),
     }
 }
 
 // The same of a barcode that stands behind other bytes, as in a G record.
 pub fn check_behind(code: &[u8], before: usize) -> Answer
-    ensures { λ r. ⌜ r ≡ movedBy (heldBehind before) (barcodeAnswer (now (code .entry))) ⌝ }
+    ensures { λ r. ⌜ r ≡ movedBy (cappedBehind before) (barcodeAnswer (now (code .entry))) ⌝ }
 {
     let a = check(code);
     a.behind(before)
@@ -218,18 +218,18 @@ pub fn read_fields(code: &[u8]) -> Fields
                 segment: 0,
                 number: 0,
             },
-            due: Dated::NoDate,
+            due: MaybeDate::NoDate,
         };
     }
     fields_of(code)
 }
 
 pub fn decode(code: &[u8]) -> Decoded
-    ensures { λ r. ⌜ r ≡ decodeOf (now (code .entry)) ⌝ }
+    ensures { λ r. ⌜ r ≡ decodedBarcode (now (code .entry)) ⌝ }
 {
-    match pays(code) {
-        Payee::To(issuer) => Decoded::Read(right::fields_in(code, issuer)),
-        Payee::Nobody => match walked(code) {
+    match accepted_issuer(code) {
+        MaybeIssuer::To(issuer) => Decoded::Read(fast::fields_in(code, issuer)),
+        MaybeIssuer::Nobody => match check_in_order(code) {
             Answer::Refused(why, place) => Decoded::Refused(why, place),
             Answer::Accepted => Decoded::Read(read_fields(code)),
         },

@@ -13,7 +13,7 @@ use lib.Seq.{getD-take}
 use Rattle.answer.specs.Refusals.{receivedPlace, issuerPlace}
 use Rattle.answer.specs.declared.Reason.the-variants.{BoardFull, BoardTotalPassed}
 use Rattle.answer.specs.declared.Answer.the-variants.{Accepted}
-use Rattle.answer.specs.Orders.{asked, _then_}
+use Rattle.answer.specs.Orders.{require, _then_}
 use Rattle.answer.proofs.Orders.{then-accepts}
 use Rattle.barcode.specs.declared.Issuer.{Issuer}
 use Rattle.board.specs.declared.Tally.{Tally}
@@ -23,14 +23,14 @@ use Rattle.board.proofs.Tallies.{low, low-fits, plus-swap, plus-groups,
 use Rattle.board.proofs.Find.{index-within}
 use Rattle.board.proofs.Lanes.{place-kept, sum-is-kept, one-payment-more}
 use Rattle.board.proofs.Posting.{place-found, place-new, length-lanes, Fit, fit, with-placed, with-sound, stays-sound}
-use Rattle.board.specs.Lanes.{mostLanes, none, plus, fits, isOf, grown, place, gather, lanesFrom, sumOf, issuersOf, named}
-use Rattle.board.specs.Boards.{blank, freshBoard, lanesOf, indexOf, slotOf, ownOf, slotAnswer, postAnswer, boardWith, postAnswers, boardWithAll, Sound, AnswersAsPayments, PostAccepts, FreshBoardTakes, FreshBoardHolds}
+use Rattle.board.specs.Lanes.{mostLanes, none, plus, fits, isLaneOf, grown, place, placedAll, lanesFrom, tallySum, issuersOf, isAmong}
+use Rattle.board.specs.Boards.{blank, freshBoard, lanesOf, indexOf, slotOf, ownOf, slotAnswer, postAnswer, boardWith, postAnswers, boardWithAll, SoundBoard, AnswersAsPayments, PostAccepts, FreshBoardTakes, FreshBoardHolds}
 
 -- What a sound board accepts.
 
 -- a lane has no more than the sum
 lane-below : (ls : List Lane) (k : ℕ) → k < length ls
-    → (getD ls k blank .tally .payments ≤ sumOf ls .payments) × (getD ls k blank .tally .centavos ≤ sumOf ls .centavos)
+    → (getD ls k blank .tally .payments ≤ tallySum ls .payments) × (getD ls k blank .tally .centavos ≤ tallySum ls .centavos)
 lane-below [] k h = absurd (omega arith)
 lane-below (l ∷ ls) zero h = (omega arith, omega arith)
 lane-below (l ∷ ls) (suc k) h =
@@ -38,7 +38,7 @@ lane-below (l ∷ ls) (suc k) h =
     (omega arith, omega arith)
 
 -- where the total fits, the lane does
-own-fits : (b : Board) (p : Lane) → Sound b → (k : ℕ) → k ≤ length (lanesOf b) → fits (plus (b .total) (p .tally)) ≡ true
+own-fits : (b : Board) (p : Lane) → SoundBoard b → (k : ℕ) → k ≤ length (lanesOf b) → fits (plus (b .total) (p .tally)) ≡ true
     → (t : Bool) → ltb k (b .used) ≡ t → fits (plus (cond t (getD (b .lanes) k blank .tally) none) (p .tally)) ≡ true
 own-fits b p s k h e true t =
     let f = low (plus (b .total) (p .tally)) e in
@@ -49,7 +49,7 @@ own-fits b p s k h e false t =
     let f = low (plus (b .total) (p .tally)) e in
     low-fits _ (record { payments = omega (arith, f .payments); centavos = omega (arith, f .centavos) })
 
-pub sound-fit : (b : Board) (p : Lane) → Sound b → indexOf (p .issuer) (lanesOf b) < mostLanes → fits (plus (b .total) (p .tally)) ≡ true → Fit b p
+pub sound-fit : (b : Board) (p : Lane) → SoundBoard b → indexOf (p .issuer) (lanesOf b) < mostLanes → fits (plus (b .total) (p .tally)) ≡ true → Fit b p
 unfolding ownOf
 sound-fit b p s free e =
     record {
@@ -59,13 +59,13 @@ sound-fit b p s free e =
     }
 
 -- an issuer is among the lanes where its index is
-known : (i : Issuer) (ls : List Lane) (t : Bool) → named i (issuersOf ls) ≡ t → cond t (indexOf i ls < length ls) (indexOf i ls ≡ length ls)
+known : (i : Issuer) (ls : List Lane) (t : Bool) → isAmong i (issuersOf ls) ≡ t → cond t (indexOf i ls < length ls) (indexOf i ls ≡ length ls)
 known i [] true e = absurd (false≢true e)
 known i [] false e = refl
-known i (l ∷ ls) t e = go (isOf i l) t e (known i ls t)
+known i (l ∷ ls) t e = go (isLaneOf i l) t e (known i ls t)
   where
-    go : (u t : Bool) → cond u true (named i (issuersOf ls)) ≡ t
-        → (named i (issuersOf ls) ≡ t → cond t (indexOf i ls < length ls) (indexOf i ls ≡ length ls))
+    go : (u t : Bool) → cond u true (isAmong i (issuersOf ls)) ≡ t
+        → (isAmong i (issuersOf ls) ≡ t → cond t (indexOf i ls < length ls) (indexOf i ls ≡ length ls))
         → cond t (cond u 0 (suc (indexOf i ls)) < suc (length ls)) (cond u 0 (suc (indexOf i ls)) ≡ suc (length ls))
     go true true q later = omega arith
     go true false q later = absurd (false≢true (sym q))
@@ -78,11 +78,11 @@ post-accepts b p s =
     let n = length-lanes b s in (
       λ e.
           let f = fit b p .0 e in
-          (room f (named i (issuersOf (lanesOf b))) refl, f .low),
+          (room f (isAmong i (issuersOf (lanesOf b))) refl, f .low),
       λ h. fit b p .1 (sound-fit b p s (⊎-elim (λ k. let r = known i (lanesOf b) true k in omega (arith, s .few)) (λ k. omega (arith, index-within i (lanesOf b))) (h .0)) (h .1)),
     )
   where
-    room : Fit b p → (t : Bool) → named (p .issuer) (issuersOf (lanesOf b)) ≡ t → (named (p .issuer) (issuersOf (lanesOf b)) ≡ true) ⊎ (b .used < mostLanes)
+    room : Fit b p → (t : Bool) → isAmong (p .issuer) (issuersOf (lanesOf b)) ≡ t → (isAmong (p .issuer) (issuersOf (lanesOf b)) ≡ true) ⊎ (b .used < mostLanes)
     room f true e = inl e
     room f false e = let r = known (p .issuer) (lanesOf b) false e in inr (omega (arith, f .free, length-lanes b s))
 
@@ -102,7 +102,7 @@ free-lane p ls few = go (ltb (indexOf (p .issuer) ls) (length ls)) refl
         rw (last, ← place-new p ls h, length-append ls (p ∷ []), add-one (length ls))
 
 -- of a sound board, the lane's own sums need no question
-own-follows : (b : Board) (p : Lane) → Sound b
+own-follows : (b : Board) (p : Lane) → SoundBoard b
     → (fits (plus (ownOf (slotOf b (p .issuer))) (p .tally)) && fits (plus (b .total) (p .tally))) ≡ fits (plus (b .total) (p .tally))
 unfolding ownOf
 own-follows b p s = go (fits (plus (b .total) (p .tally))) refl
@@ -119,9 +119,9 @@ pub answers-as-payments : AnswersAsPayments
 unfolding slotAnswer
 answers-as-payments b ps p s e =
     let after : place p (lanesOf b) ≡ lanesFrom (ps ++ (p ∷ [])) = ap (place p) e ∙ sym (one-payment-more ps p) in
-    let sum : plus (b .total) (p .tally) ≡ sumOf (ps ++ (p ∷ [])) =
-    plus-swap (b .total) (p .tally) ∙ ap (plus (p .tally)) (s .total) ∙ sym (place-kept p (lanesOf b)) ∙ ap sumOf after ∙ sum-is-kept (ps ++ (p ∷ [])) in
-    ap₂ (λ (t u : Bool). asked t BoardFull issuerPlace then asked u BoardTotalPassed receivedPlace)
+    let sum : plus (b .total) (p .tally) ≡ tallySum (ps ++ (p ∷ [])) =
+    plus-swap (b .total) (p .tally) ∙ ap (plus (p .tally)) (s .total) ∙ sym (place-kept p (lanesOf b)) ∙ ap tallySum after ∙ sum-is-kept (ps ++ (p ∷ [])) in
+    ap₂ (λ (t u : Bool). require t BoardFull issuerPlace then require u BoardTotalPassed receivedPlace)
     (free-lane p (lanesOf b) (omega (arith, length-lanes b s, s .few)) ∙ ap (λ (ls : List Lane). leb (length ls) mostLanes) after)
     (own-follows b p s ∙ ap fits sum)
 
@@ -130,7 +130,7 @@ answers-as-payments b ps p s e =
 -- a payment's place is among the lanes it leaves, and no lane goes
 place-longer : (p : Lane) (ls : List Lane) → (indexOf (p .issuer) ls < length (place p ls)) × (length ls ≤ length (place p ls))
 place-longer p [] = (omega arith, omega arith)
-place-longer p (l ∷ ls) = go (isOf (p .issuer) l) (place-longer p ls)
+place-longer p (l ∷ ls) = go (isLaneOf (p .issuer) l) (place-longer p ls)
   where
     go : (t : Bool) → (indexOf (p .issuer) ls < length (place p ls)) × (length ls ≤ length (place p ls))
         → (cond t 0 (suc (indexOf (p .issuer) ls)) < length (cond t (grown (l .tally) p ∷ ls) (l ∷ place p ls)))
@@ -138,7 +138,7 @@ place-longer p (l ∷ ls) = go (isOf (p .issuer) l) (place-longer p ls)
     go true h = (omega arith, omega arith)
     go false h = (omega arith, omega arith)
 
-gather-longer : (ls ps : List Lane) → length ls ≤ length (gather ls ps)
+gather-longer : (ls ps : List Lane) → length ls ≤ length (placedAll ls ps)
 gather-longer ls [] = omega arith
 gather-longer ls (p ∷ ps) = omega (arith, place-longer p ls .1, gather-longer (place p ls) ps)
 
@@ -148,27 +148,27 @@ fits-less a b e =
     let f = low (plus a b) e in
     low-fits a (record { payments = omega (arith, f .payments); centavos = omega (arith, f .centavos) })
 
-takes : (b : Board) → Sound b → (ps : List Lane)
-    → (postAnswers b ps ≡ Accepted) ↔ ((length (gather (lanesOf b) ps) ≤ mostLanes) × (fits (plus (b .total) (sumOf ps)) ≡ true))
+takes : (b : Board) → SoundBoard b → (ps : List Lane)
+    → (postAnswers b ps ≡ Accepted) ↔ ((length (placedAll (lanesOf b) ps) ≤ mostLanes) × (fits (plus (b .total) (tallySum ps)) ≡ true))
 takes b s [] = (λ e. (omega (arith, length-lanes b s, s .few), rw (plus-none (b .total)) (s .low)), λ h. refl)
 takes b s (p ∷ ps) =
     let two = then-accepts (postAnswer b p) (postAnswers (boardWith b p) ps) in
     let rest : Fit b p → (postAnswers (boardWith b p) ps ≡ Accepted)
-    ↔ ((length (gather (place p (lanesOf b)) ps) ≤ mostLanes) × (fits (plus (b .total) (plus (p .tally) (sumOf ps))) ≡ true)) =
-    λ f. rw (with-placed b p s (f .free), plus-groups (b .total) (p .tally) (sumOf ps)) at (takes (boardWith b p) (with-sound b p s f) ps) in (
+    ↔ ((length (placedAll (place p (lanesOf b)) ps) ≤ mostLanes) × (fits (plus (b .total) (plus (p .tally) (tallySum ps))) ≡ true)) =
+    λ f. rw (with-placed b p s (f .free), plus-groups (b .total) (p .tally) (tallySum ps)) at (takes (boardWith b p) (with-sound b p s f) ps) in (
       λ e. rest (fit b p .0 (two .0 e .0)) .0 (two .0 e .1),
       λ h.
-          let sum = fits-less (plus (b .total) (p .tally)) (sumOf ps) (rw (plus-groups (b .total) (p .tally) (sumOf ps)) (h .1)) in
+          let sum = fits-less (plus (b .total) (p .tally)) (tallySum ps) (rw (plus-groups (b .total) (p .tally) (tallySum ps)) (h .1)) in
           let free : indexOf (p .issuer) (lanesOf b) < mostLanes = omega (arith, place-longer p (lanesOf b) .0, gather-longer (place p (lanesOf b)) ps, h .0) in
           let f = sound-fit b p s free sum in
           two .1 (fit b p .1 f, rest f .1 h),
     )
 
 pub fresh-board-takes : FreshBoardTakes
-fresh-board-takes ps = rw (plus-swap none (sumOf ps), plus-none (sumOf ps)) at (takes freshBoard (stays-sound .0) ps)
+fresh-board-takes ps = rw (plus-swap none (tallySum ps), plus-none (tallySum ps)) at (takes freshBoard (stays-sound .0) ps)
 
-holds : (b : Board) → Sound b → (ps : List Lane) → postAnswers b ps ≡ Accepted
-    → (lanesOf (boardWithAll b ps) ≡ gather (lanesOf b) ps) × Sound (boardWithAll b ps)
+holds : (b : Board) → SoundBoard b → (ps : List Lane) → postAnswers b ps ≡ Accepted
+    → (lanesOf (boardWithAll b ps) ≡ placedAll (lanesOf b) ps) × SoundBoard (boardWithAll b ps)
 holds b s [] e = (refl, s)
 holds b s (p ∷ ps) e =
     let h = then-accepts (postAnswer b p) (postAnswers (boardWith b p) ps) .0 e in
@@ -178,4 +178,4 @@ holds b s (p ∷ ps) e =
 pub fresh-board-holds : FreshBoardHolds
 fresh-board-holds ps e =
     let h = holds freshBoard (stays-sound .0) ps e in
-    (h .0, h .1 .total ∙ ap sumOf (h .0) ∙ sum-is-kept ps, h .1)
+    (h .0, h .1 .total ∙ ap tallySum (h .0) ∙ sum-is-kept ps, h .1)

@@ -12,30 +12,30 @@ use lib.ListN.{length, getD, set, length-set, length-append}
 use lib.Seq.{getD-set-same, getD-set-other, getD-append-seam, take-set-lt, take-suc-set}
 use Rattle.answer.specs.declared.Answer.the-variants.{Accepted}
 use Rattle.barcode.specs.declared.Issuer.{Issuer}
-use Rattle.board.specs.declared.Entry.{Entry}
+use Rattle.board.specs.declared.SlotResult.{SlotResult}
 use Rattle.board.specs.declared.Lane.{Lane}
 use Rattle.board.specs.declared.Board.{Board}
 use Rattle.board.specs.declared.Slot.{Slot}
-use Rattle.board.specs.Lanes.{mostLanes, sameIssuer, isOf}
-use Rattle.board.specs.Boards.{blank, lanesOf, indexOf, slotAt, usedAfter, grownSlot, slotAnswer, entryOf}
+use Rattle.board.specs.Lanes.{mostLanes, sameIssuer, isLaneOf}
+use Rattle.board.specs.Boards.{blank, lanesOf, indexOf, slotAt, usedAfter, grownSlot, slotAnswer, slotResultOf}
 use Rattle.board.proofs.Find.{in-use, index-within}
 use Rattle.board.proofs.Lanes.{same-is}
 
 -- the place is the first that has its issuer
 abbrev pub FirstAt : List Lane → ℕ → Type 0
-FirstAt ls q = (i : Issuer) → q < length ls → isOf i (getD ls q blank) ≡ true → indexOf i ls ≡ q
+FirstAt ls q = (i : Issuer) → q < length ls → isLaneOf i (getD ls q blank) ≡ true → indexOf i ls ≡ q
 
 pub first-zero : (ls : List Lane) → FirstAt ls 0
 first-zero [] i h t = absurd (omega arith)
 first-zero (l ∷ ls) i h t = rw t
 
 -- where the search found a lane, it is the issuer's
-index-hit : (i : Issuer) (ls : List Lane) → indexOf i ls < length ls → isOf i (getD ls (indexOf i ls) blank) ≡ true
+index-hit : (i : Issuer) (ls : List Lane) → indexOf i ls < length ls → isLaneOf i (getD ls (indexOf i ls) blank) ≡ true
 index-hit i [] h = absurd (omega arith)
-index-hit i (l ∷ ls) h = go (isOf i l) refl h (index-hit i ls)
+index-hit i (l ∷ ls) h = go (isLaneOf i l) refl h (index-hit i ls)
   where
-    go : (t : Bool) → isOf i l ≡ t → cond t 0 (suc (indexOf i ls)) < suc (length ls) → (indexOf i ls < length ls → isOf i (getD ls (indexOf i ls) blank) ≡ true)
-        → isOf i (getD (l ∷ ls) (cond t 0 (suc (indexOf i ls))) blank) ≡ true
+    go : (t : Bool) → isLaneOf i l ≡ t → cond t 0 (suc (indexOf i ls)) < suc (length ls) → (indexOf i ls < length ls → isLaneOf i (getD ls (indexOf i ls) blank) ≡ true)
+        → isLaneOf i (getD (l ∷ ls) (cond t 0 (suc (indexOf i ls))) blank) ≡ true
     go true e k later = e
     go false e k later = later (omega arith)
 
@@ -51,7 +51,7 @@ first-found i ls k e j h t =
 index-set : (i : Issuer) (ls : List Lane) (k : ℕ) (x : Lane) → k < length ls → x .issuer ≡ getD ls k blank .issuer → indexOf i (set ls k x) ≡ indexOf i ls
 index-set i [] k x h e = absurd (omega arith)
 index-set i (l ∷ ls) zero x h e = ap (λ (j : Issuer). cond (sameIssuer j i) 0 (suc (indexOf i ls))) e
-index-set i (l ∷ ls) (suc k) x h e = ap (λ (n : ℕ). cond (isOf i l) 0 (suc n)) (index-set i ls k x (omega arith) e)
+index-set i (l ∷ ls) (suc k) x h e = ap (λ (n : ℕ). cond (isLaneOf i l) 0 (suc n)) (index-set i ls k x (omega arith) e)
 
 issuer-set : (ls : List Lane) (k q : ℕ) (x : Lane) → k < length ls → x .issuer ≡ getD ls k blank .issuer → getD (set ls k x) q blank .issuer ≡ getD ls q blank .issuer
 issuer-set ls k q x h e = go (eqb q k) refl
@@ -62,16 +62,16 @@ issuer-set ls k q x h e = go (eqb q k) refl
 
 index-more : (i : Issuer) (ls : List Lane) (x : Lane) → indexOf i ls < length ls → indexOf i (ls ++ (x ∷ [])) ≡ indexOf i ls
 index-more i [] x h = absurd (omega arith)
-index-more i (l ∷ ls) x h = go (isOf i l) h (index-more i ls x)
+index-more i (l ∷ ls) x h = go (isLaneOf i l) h (index-more i ls x)
   where
     go : (t : Bool) → cond t 0 (suc (indexOf i ls)) < suc (length ls) → (indexOf i ls < length ls → indexOf i (ls ++ (x ∷ [])) ≡ indexOf i ls)
         → cond t 0 (suc (indexOf i (ls ++ (x ∷ [])))) ≡ cond t 0 (suc (indexOf i ls))
     go true k later = refl
     go false k later = ap suc (later (omega arith))
 
-index-last : (i : Issuer) (ls : List Lane) (x : Lane) → length ls ≤ indexOf i ls → isOf i x ≡ true → indexOf i (ls ++ (x ∷ [])) ≡ length ls
+index-last : (i : Issuer) (ls : List Lane) (x : Lane) → length ls ≤ indexOf i ls → isLaneOf i x ≡ true → indexOf i (ls ++ (x ∷ [])) ≡ length ls
 index-last i [] x h t = rw t
-index-last i (l ∷ ls) x h t = go (isOf i l) h (λ k. index-last i ls x k t)
+index-last i (l ∷ ls) x h t = go (isLaneOf i l) h (λ k. index-last i ls x k t)
   where
     go : (u : Bool) → suc (length ls) ≤ cond u 0 (suc (indexOf i ls)) → (length ls ≤ indexOf i ls → indexOf i (ls ++ (x ∷ [])) ≡ length ls)
         → cond u 0 (suc (indexOf i (ls ++ (x ∷ [])))) ≡ suc (length ls)
@@ -98,18 +98,18 @@ module _ (ls : List Lane) (q : ℕ) (first : FirstAt ls q) (x : Lane) where
       last : length ls ≤ q → indexOf i (ls ++ (x ∷ [])) ≡ q
       last k =
           let s : q ≡ length ls = omega (arith, length-append ls (x ∷ [])) in
-          let u : isOf i x ≡ true = rw (s, getD-append-seam ls x [] blank) at t in
+          let u : isLaneOf i x ≡ true = rw (s, getD-append-seam ls x [] blank) at t in
           let same : x .issuer ≡ i = same-is (x .issuer) i u in
           index-last i ls x (rw same at h) u ∙ sym s
 
 -- A payment that a board took at the place of its issuer.
 module _ (b : Board) (full : length (b .lanes) ≡ mostLanes) (p : Lane) (k : ℕ) (found : k ≡ indexOf (p .issuer) (lanesOf b)) (free : k < mostLanes)
-    {e : Entry} (entered : e ≡ entryOf (slotAt b k) p) (accepted : e .answer ≡ Accepted) where
+    {e : SlotResult} (entered : e ≡ slotResultOf (slotAt b k) p) (accepted : e .answer ≡ Accepted) where
   abbrev after : Board
   after = record { lanes = set (b .lanes) k (e .slot .lane); used = e .slot .used; total = e .slot .total }
 
   taken : e .slot ≡ grownSlot (slotAt b k) p
-  taken = let a : slotAnswer (slotAt b k) p ≡ Accepted = ap (λ (x : Entry). x .answer) (sym entered) ∙ accepted in rw (entered, a)
+  taken = let a : slotAnswer (slotAt b k) p ≡ Accepted = ap (λ (x : SlotResult). x .answer) (sym entered) ∙ accepted in rw (entered, a)
 
   same : e .slot .lane .issuer ≡ p .issuer
   same = ap (λ (s : Slot). s .lane .issuer) taken

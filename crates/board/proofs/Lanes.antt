@@ -10,7 +10,7 @@ use Rattle.barcode.specs.declared.Issuer.{Issuer}
 use Rattle.board.specs.declared.Tally.{Tally}
 use Rattle.board.specs.declared.Lane.{Lane}
 use Rattle.board.proofs.Tallies.{alike}
-use Rattle.board.specs.Lanes.{plus, none, sameIssuer, isOf, grown, place, gather, lanesFrom, sumOf, sumBy, Adds, each, only, issuersOf, named, appearing, Distinct, PaymentsAdd, CentavosAdd, SumsAgree, OwnSumsAgree, SumIsKept, PastThirtyTwoBits, NoIssuerTwice, InOrderOfAppearance, OnePaymentMore}
+use Rattle.board.specs.Lanes.{plus, none, sameIssuer, isLaneOf, grown, place, placedAll, lanesFrom, tallySum, sumBy, Adds, each, only, issuersOf, isAmong, appearing, Distinct, PaymentsAdd, CentavosAdd, SumsAgree, OwnSumsAgree, SumIsKept, PastThirtyTwoBits, NoIssuerTwice, InOrderOfAppearance, OnePaymentMore}
 
 -- a fact of a choice from the fact of each side
 pub split : {A : Type 0} (P : A → Type 0) (t : Bool) {x y : A} → (t ≡ true → P x) → (t ≡ false → P y) → P (cond t x y)
@@ -37,15 +37,15 @@ same-is i j e =
 -- The sums.
 
 -- a number that a payment moves by its own, at its issuer's lane
-module _ (v : Lane → ℕ) (grows : (l p : Lane) → isOf (p .issuer) l ≡ true → v (grown (l .tally) p) ≡ v l + v p) where
+module _ (v : Lane → ℕ) (grows : (l p : Lane) → isLaneOf (p .issuer) l ≡ true → v (grown (l .tally) p) ≡ v l + v p) where
   place-sum : (p : Lane) (ls : List Lane) → sumBy v (place p ls) ≡ sumBy v ls + v p
   place-sum p [] = omega arith
   place-sum p (l ∷ ls) =
-      split (λ (m : List Lane). sumBy v m ≡ v l + sumBy v ls + v p) (isOf (p .issuer) l)
+      split (λ (m : List Lane). sumBy v m ≡ v l + sumBy v ls + v p) (isLaneOf (p .issuer) l)
       (λ t. omega (arith, grows l p t))
       (λ t. omega (arith, place-sum p ls))
 
-  gather-sum : (ls ps : List Lane) → sumBy v (gather ls ps) ≡ sumBy v ls + sumBy v ps
+  gather-sum : (ls ps : List Lane) → sumBy v (placedAll ls ps) ≡ sumBy v ls + sumBy v ps
   gather-sum ls [] = omega arith
   gather-sum ls (p ∷ ps) = omega (arith, gather-sum (place p ls) ps, place-sum p ls)
 
@@ -67,22 +67,22 @@ own-sums-agree w adds i ps = gather-sum (only i w) grows [] ps ∙ omega arith
     both a b false true e = absurd (false≢true e)
     both a b false false e = omega arith
 
-    grows : (l p : Lane) → isOf (p .issuer) l ≡ true → only i w (grown (l .tally) p) ≡ only i w l + only i w p
-    grows l p t = both (l .tally) (p .tally) (isOf i l) (isOf i p) (ap (λ (j : Issuer). sameIssuer j i) (same-is (l .issuer) (p .issuer) t))
+    grows : (l p : Lane) → isLaneOf (p .issuer) l ≡ true → only i w (grown (l .tally) p) ≡ only i w l + only i w p
+    grows l p t = both (l .tally) (p .tally) (isLaneOf i l) (isLaneOf i p) (ap (λ (j : Issuer). sameIssuer j i) (same-is (l .issuer) (p .issuer) t))
 
 -- a number of the sum is the sum of that number
-pub sum-read : (w : Tally → ℕ) → Adds w → (ls : List Lane) → w (sumOf ls) ≡ sumBy (each w) ls
+pub sum-read : (w : Tally → ℕ) → Adds w → (ls : List Lane) → w (tallySum ls) ≡ sumBy (each w) ls
 sum-read w adds [] = let h = adds none none in omega arith
-sum-read w adds (l ∷ ls) = omega (arith, adds (l .tally) (sumOf ls), sum-read w adds ls)
+sum-read w adds (l ∷ ls) = omega (arith, adds (l .tally) (tallySum ls), sum-read w adds ls)
 
 -- two sums are equal where each of their numbers is
-same-sum : (ls ms : List Lane) → ((w : Tally → ℕ) → Adds w → sumBy (each w) ls ≡ sumBy (each w) ms) → sumOf ls ≡ sumOf ms
+same-sum : (ls ms : List Lane) → ((w : Tally → ℕ) → Adds w → sumBy (each w) ls ≡ sumBy (each w) ms) → tallySum ls ≡ tallySum ms
 same-sum ls ms h = alike (number (λ t. t .payments) payments-add) (number (λ t. t .centavos) centavos-add)
   where
-    number : (w : Tally → ℕ) → Adds w → w (sumOf ls) ≡ w (sumOf ms)
+    number : (w : Tally → ℕ) → Adds w → w (tallySum ls) ≡ w (tallySum ms)
     number w adds = sum-read w adds ls ∙ h w adds ∙ sym (sum-read w adds ms)
 
-pub place-kept : (p : Lane) (ls : List Lane) → sumOf (place p ls) ≡ sumOf (p ∷ ls)
+pub place-kept : (p : Lane) (ls : List Lane) → tallySum (place p ls) ≡ tallySum (p ∷ ls)
 place-kept p ls =
     same-sum (place p ls) (p ∷ ls) (λ w adds. place-sum (each w) (λ l q t. adds (l .tally) (q .tally)) p ls ∙ omega arith)
 
@@ -96,31 +96,31 @@ past-thirty-two-bits i = rw (eq-eqb (i .segment) (i .segment) refl, eq-eqb (i .n
 
 -- a payment adds its issuer at the end, unless it is there
 pub place-issuers : (p : Lane) (ls : List Lane)
-    → issuersOf (place p ls) ≡ cond (named (p .issuer) (issuersOf ls)) (issuersOf ls) (issuersOf ls ++ (p .issuer ∷ []))
+    → issuersOf (place p ls) ≡ cond (isAmong (p .issuer) (issuersOf ls)) (issuersOf ls) (issuersOf ls ++ (p .issuer ∷ []))
 place-issuers p [] = refl
-place-issuers p (l ∷ ls) = go (isOf (p .issuer) l) refl (named (p .issuer) (issuersOf ls)) (place-issuers p ls)
+place-issuers p (l ∷ ls) = go (isLaneOf (p .issuer) l) refl (isAmong (p .issuer) (issuersOf ls)) (place-issuers p ls)
   where
-    go : (t : Bool) → isOf (p .issuer) l ≡ t → (u : Bool) → issuersOf (place p ls) ≡ cond u (issuersOf ls) (issuersOf ls ++ (p .issuer ∷ []))
+    go : (t : Bool) → isLaneOf (p .issuer) l ≡ t → (u : Bool) → issuersOf (place p ls) ≡ cond u (issuersOf ls) (issuersOf ls ++ (p .issuer ∷ []))
         → issuersOf (cond t (grown (l .tally) p ∷ ls) (l ∷ place p ls))
         ≡ cond (cond t true u) (l .issuer ∷ issuersOf ls) (l .issuer ∷ (issuersOf ls ++ (p .issuer ∷ [])))
     go true e u h = ap (λ (i : Issuer). i ∷ issuersOf ls) (sym (same-is (l .issuer) (p .issuer) e))
     go false e true h = ap (λ (is : List Issuer). l .issuer ∷ is) h
     go false e false h = ap (λ (is : List Issuer). l .issuer ∷ is) h
 
-not-last : (i j : Issuer) (is : List Issuer) → named i is ≡ false → sameIssuer j i ≡ false → named i (is ++ (j ∷ [])) ≡ false
+not-last : (i j : Issuer) (is : List Issuer) → isAmong i is ≡ false → sameIssuer j i ≡ false → isAmong i (is ++ (j ∷ [])) ≡ false
 not-last i j [] h e = rw e
 not-last i j (k ∷ is) h e = go (sameIssuer k i) h (λ q. not-last i j is q e)
   where
-    go : (t : Bool) → cond t true (named i is) ≡ false → (named i is ≡ false → named i (is ++ (j ∷ [])) ≡ false)
-        → cond t true (named i (is ++ (j ∷ []))) ≡ false
+    go : (t : Bool) → cond t true (isAmong i is) ≡ false → (isAmong i is ≡ false → isAmong i (is ++ (j ∷ [])) ≡ false)
+        → cond t true (isAmong i (is ++ (j ∷ []))) ≡ false
     go true q later = q
     go false q later = later q
 
-last-distinct : (j : Issuer) (is : List Issuer) → named j is ≡ false → Distinct is → Distinct (is ++ (j ∷ []))
+last-distinct : (j : Issuer) (is : List Issuer) → isAmong j is ≡ false → Distinct is → Distinct (is ++ (j ∷ []))
 last-distinct j [] e h = (refl, tt)
 last-distinct j (i ∷ is) e h = go (sameIssuer i j) refl e (λ f. last-distinct j is f (h .1))
   where
-    go : (t : Bool) → sameIssuer i j ≡ t → cond t true (named j is) ≡ false → (named j is ≡ false → Distinct (is ++ (j ∷ [])))
+    go : (t : Bool) → sameIssuer i j ≡ t → cond t true (isAmong j is) ≡ false → (isAmong j is ≡ false → Distinct (is ++ (j ∷ [])))
         → Distinct (i ∷ (is ++ (j ∷ [])))
     go true q f later = absurd (false≢true (sym f))
     go false q f later = (not-last i j is (h .0) (same-sym j i ∙ q), later f)
@@ -128,18 +128,18 @@ last-distinct j (i ∷ is) e h = go (sameIssuer i j) refl e (λ f. last-distinct
 pub place-distinct : (p : Lane) (ls : List Lane) → Distinct (issuersOf ls) → Distinct (issuersOf (place p ls))
 place-distinct p ls h =
     rw (place-issuers p ls)
-    (split Distinct (named (p .issuer) (issuersOf ls)) (λ t. h) (λ t. last-distinct (p .issuer) (issuersOf ls) t h))
+    (split Distinct (isAmong (p .issuer) (issuersOf ls)) (λ t. h) (λ t. last-distinct (p .issuer) (issuersOf ls) t h))
 
-gather-distinct : (ls ps : List Lane) → Distinct (issuersOf ls) → Distinct (issuersOf (gather ls ps))
+gather-distinct : (ls ps : List Lane) → Distinct (issuersOf ls) → Distinct (issuersOf (placedAll ls ps))
 gather-distinct ls [] h = h
 gather-distinct ls (p ∷ ps) h = gather-distinct (place p ls) ps (place-distinct p ls h)
 
 pub no-issuer-twice : NoIssuerTwice
 no-issuer-twice ps = gather-distinct [] ps tt
 
-gather-issuers : (ls ps : List Lane) → issuersOf (gather ls ps) ≡ issuersOf ls ++ appearing (issuersOf ls) ps
+gather-issuers : (ls ps : List Lane) → issuersOf (placedAll ls ps) ≡ issuersOf ls ++ appearing (issuersOf ls) ps
 gather-issuers ls [] = sym (append-nil (issuersOf ls))
-gather-issuers ls (p ∷ ps) = gather-issuers (place p ls) ps ∙ rw (place-issuers p ls) (go (issuersOf ls) (named (p .issuer) (issuersOf ls)))
+gather-issuers ls (p ∷ ps) = gather-issuers (place p ls) ps ∙ rw (place-issuers p ls) (go (issuersOf ls) (isAmong (p .issuer) (issuersOf ls)))
   where
     go : (seen : List Issuer) (t : Bool)
         → cond t seen (seen ++ (p .issuer ∷ [])) ++ appearing (cond t seen (seen ++ (p .issuer ∷ []))) ps
@@ -150,7 +150,7 @@ gather-issuers ls (p ∷ ps) = gather-issuers (place p ls) ps ∙ rw (place-issu
 pub in-order-of-appearance : InOrderOfAppearance
 in-order-of-appearance ps = gather-issuers [] ps
 
-gather-joins : (ls ps qs : List Lane) → gather ls (ps ++ qs) ≡ gather (gather ls ps) qs
+gather-joins : (ls ps qs : List Lane) → placedAll ls (ps ++ qs) ≡ placedAll (placedAll ls ps) qs
 gather-joins ls [] qs = refl
 gather-joins ls (p ∷ ps) qs = gather-joins (place p ls) ps qs
 

@@ -14,7 +14,7 @@ use Rattle.answer.specs.Refusals.{receivedPlace, issuerPlace}
 use Rattle.answer.specs.declared.Reason.the-variants.{BoardFull, BoardTotalPassed}
 use Rattle.answer.specs.declared.Answer.{Answer}
 use Rattle.answer.specs.declared.Answer.the-variants.{Accepted, Refused}
-use Rattle.answer.specs.Orders.{asked, kept}
+use Rattle.answer.specs.Orders.{require, ifAccepted}
 use Rattle.answer.proofs.Orders.{asked-accepts, then-accepts, refusal-keeps}
 use Rattle.board.specs.declared.Tally.{Tally}
 use Rattle.board.specs.declared.Lane.{Lane}
@@ -22,8 +22,8 @@ use Rattle.board.specs.declared.Board.{Board}
 use Rattle.board.proofs.Tallies.{low, low-fits, alike, plus-swap}
 use Rattle.board.proofs.Find.{index-within}
 use Rattle.board.proofs.Lanes.{place-distinct, place-kept}
-use Rattle.board.specs.Lanes.{mostLanes, none, plus, fits, isOf, grown, place, sumOf}
-use Rattle.board.specs.Boards.{blank, lanesOf, indexOf, slotOf, ownOf, usedAfter, grownSlot, slotAnswer, postAnswer, boardWith, Sound, RefusalKeepsBoard, PostPlaces, StaysSound}
+use Rattle.board.specs.Lanes.{mostLanes, none, plus, fits, isLaneOf, grown, place, tallySum}
+use Rattle.board.specs.Boards.{blank, lanesOf, indexOf, slotOf, ownOf, usedAfter, grownSlot, slotAnswer, postAnswer, boardWith, SoundBoard, RefusalKeepsBoard, PostPlaces, StaysSound}
 
 pub refusal-keeps-board : RefusalKeepsBoard
 refusal-keeps-board b p h = refusal-keeps (postAnswer b p) (boardWith b p) b h
@@ -37,7 +37,7 @@ module _ (p : Lane) where
   pub place-found : (ls : List Lane) → indexOf (p .issuer) ls < length ls
       → set ls (indexOf (p .issuer) ls) (grown (getD ls (indexOf (p .issuer) ls) blank .tally) p) ≡ place p ls
   place-found [] h = absurd (omega arith)
-  place-found (l ∷ ls) h = go (isOf (p .issuer) l) h (place-found ls)
+  place-found (l ∷ ls) h = go (isLaneOf (p .issuer) l) h (place-found ls)
     where
       go : (t : Bool) → cond t 0 (suc (indexOf (p .issuer) ls)) < suc (length ls)
           → (indexOf (p .issuer) ls < length ls
@@ -50,7 +50,7 @@ module _ (p : Lane) where
 
   pub place-new : (ls : List Lane) → length ls ≤ indexOf (p .issuer) ls → ls ++ (p ∷ []) ≡ place p ls
   place-new [] h = refl
-  place-new (l ∷ ls) h = go (isOf (p .issuer) l) h (place-new ls)
+  place-new (l ∷ ls) h = go (isLaneOf (p .issuer) l) h (place-new ls)
     where
       go : (t : Bool) → suc (length ls) ≤ cond t 0 (suc (indexOf (p .issuer) ls))
           → (length ls ≤ indexOf (p .issuer) ls → ls ++ (p ∷ []) ≡ place p ls)
@@ -59,7 +59,7 @@ module _ (p : Lane) where
       go false k later = ap (λ (m : List Lane). l ∷ m) (later (omega arith))
 
 -- the lanes in use of a board that is not made up
-pub length-lanes : (b : Board) → Sound b → length (lanesOf b) ≡ b .used
+pub length-lanes : (b : Board) → SoundBoard b → length (lanesOf b) ≡ b .used
 length-lanes b s = length-take-le (b .used) (b .lanes) (omega (arith, s .full, s .few))
 
 -- what an accepted payment tells
@@ -72,9 +72,9 @@ pub fit : (b : Board) (p : Lane) → (postAnswer b p ≡ Accepted) ↔ Fit b p
 unfolding slotAnswer
 fit b p =
     let s = slotOf b (p .issuer) in
-    let one = asked (ltb (s .at) mostLanes) BoardFull issuerPlace in
+    let one = require (ltb (s .at) mostLanes) BoardFull issuerPlace in
     let sums = fits (grownSlot s p .lane .tally) && fits (grownSlot s p .total) in
-    let two = then-accepts one (asked sums BoardTotalPassed receivedPlace) in
+    let two = then-accepts one (require sums BoardTotalPassed receivedPlace) in
     let first = asked-accepts (ltb (s .at) mostLanes) BoardFull issuerPlace in
     let second = asked-accepts sums BoardTotalPassed receivedPlace in
     let both = and-eq-true-iff (fits (grownSlot s p .lane .tally)) (fits (grownSlot s p .total)) in (
@@ -85,7 +85,7 @@ fit b p =
     )
 
 -- at place k, the issuer's lane or the first that is free
-module _ (b : Board) (p : Lane) (s : Sound b) (k : ℕ) (is : k ≡ indexOf (p .issuer) (lanesOf b)) (free : k < mostLanes) where
+module _ (b : Board) (p : Lane) (s : SoundBoard b) (k : ℕ) (is : k ≡ indexOf (p .issuer) (lanesOf b)) (free : k < mostLanes) where
   stored-placed : (t : Bool) → ltb k (b .used) ≡ t
       → take (cond t (b .used) (k + 1)) (set (b .lanes) k (grown (cond t (getD (b .lanes) k blank .tally) none) p))
       ≡ place p (lanesOf b)
@@ -106,7 +106,7 @@ module _ (b : Board) (p : Lane) (s : Sound b) (k : ℕ) (is : k ≡ indexOf (p .
   stored-few true = s .few
   stored-few false = omega arith
 
-module _ (b : Board) (p : Lane) (s : Sound b) where
+module _ (b : Board) (p : Lane) (s : SoundBoard b) where
   pub with-placed : indexOf (p .issuer) (lanesOf b) < mostLanes → lanesOf (boardWith b p) ≡ place p (lanesOf b)
   unfolding ownOf usedAfter
   with-placed free = stored-placed b p s (indexOf (p .issuer) (lanesOf b)) refl free (ltb (indexOf (p .issuer) (lanesOf b)) (b .used)) refl
@@ -115,13 +115,13 @@ module _ (b : Board) (p : Lane) (s : Sound b) where
   unfolding usedAfter
   with-few free = stored-few b p s (indexOf (p .issuer) (lanesOf b)) refl free (ltb (indexOf (p .issuer) (lanesOf b)) (b .used))
 
-  pub with-sound : Fit b p → Sound (boardWith b p)
+  pub with-sound : Fit b p → SoundBoard (boardWith b p)
   with-sound f =
       record {
         full = simp length-set (s .full);
         few = with-few (f .free);
         once = rw (with-placed (f .free)) (place-distinct p (lanesOf b) (s .once));
-        total = rw (with-placed (f .free), place-kept p (lanesOf b), s .total) (plus-swap (sumOf (lanesOf b)) (p .tally));
+        total = rw (with-placed (f .free), place-kept p (lanesOf b), s .total) (plus-swap (tallySum (lanesOf b)) (p .tally));
         low = f .low;
       }
 
@@ -134,6 +134,6 @@ stays-sound = (
   λ b p s. go b p s (postAnswer b p) refl,
 )
   where
-    go : (b : Board) (p : Lane) → Sound b → (a : Answer) → postAnswer b p ≡ a → Sound (kept a (boardWith b p) b)
+    go : (b : Board) (p : Lane) → SoundBoard b → (a : Answer) → postAnswer b p ≡ a → SoundBoard (ifAccepted a (boardWith b p) b)
     go b p s Accepted e = with-sound b p s (fit b p .0 e)
     go b p s (Refused why q) e = s

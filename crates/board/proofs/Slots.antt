@@ -10,60 +10,60 @@ use Rattle.answer.specs.Refusals.{receivedPlace}
 use Rattle.answer.specs.declared.Reason.the-variants.{BoardTotalPassed}
 use Rattle.answer.specs.declared.Answer.{Answer}
 use Rattle.answer.specs.declared.Answer.the-variants.{Accepted, Refused}
-use Rattle.answer.specs.Orders.{asked, kept}
+use Rattle.answer.specs.Orders.{require, ifAccepted}
 use Rattle.board.specs.declared.Tally.{Tally}
 use Rattle.board.specs.declared.Lane.{Lane}
 use Rattle.board.specs.declared.Board.{Board}
 use Rattle.board.specs.declared.Slot.{Slot}
-use Rattle.board.specs.declared.Entry.{Entry}
-use Rattle.board.specs.declared.Posted.{Posted}
+use Rattle.board.specs.declared.SlotResult.{SlotResult}
+use Rattle.board.specs.declared.PostResult.{PostResult}
 use Rattle.board.specs.Lanes.{mostLanes, plus, fits}
-use Rattle.board.specs.Boards.{blank, lanesOf, indexOf, slotAt, stored, ownOf, usedAfter, grownSlot, slotAnswer, entryOf, postedOf}
+use Rattle.board.specs.Boards.{blank, lanesOf, indexOf, slotAt, stored, ownOf, usedAfter, grownSlot, slotAnswer, slotResultOf, postResultOf}
 
 -- within the board, only the sums are left to ask: of the lane with the payment, then of the total
 module _ (s : Slot) (p : Lane) (own : Tally) (free : s .at < mostLanes) (is : own ≡ ownOf s) where
-  asked-sums : slotAnswer s p ≡ asked (fits (plus own (p .tally)) && fits (plus (s .total) (p .tally))) BoardTotalPassed receivedPlace
+  asked-sums : slotAnswer s p ≡ require (fits (plus own (p .tally)) && fits (plus (s .total) (p .tally))) BoardTotalPassed receivedPlace
   unfolding slotAnswer
   asked-sums = rw (lt-ltb (s .at) mostLanes free, is)
 
   entered : (t u : Bool) → fits (plus own (p .tally)) ≡ t → fits (plus (s .total) (p .tally)) ≡ u
-      → (a : Answer) → a ≡ asked (t && u) BoardTotalPassed receivedPlace → record { answer = a; slot = kept a (grownSlot s p) s } ≡ entryOf s p
+      → (a : Answer) → a ≡ require (t && u) BoardTotalPassed receivedPlace → record { answer = a; slot = ifAccepted a (grownSlot s p) s } ≡ slotResultOf s p
   entered t u e f a g =
       let h : a ≡ slotAnswer s p = g ∙ sym (asked-sums ∙ rw (e, f)) in
       rw h
 
-  pub own-passed : fits (plus own (p .tally)) ≡ false → record { answer = Refused BoardTotalPassed receivedPlace; slot = s } ≡ entryOf s p
+  pub own-passed : fits (plus own (p .tally)) ≡ false → record { answer = Refused BoardTotalPassed receivedPlace; slot = s } ≡ slotResultOf s p
   own-passed e = entered false (fits (plus (s .total) (p .tally))) e refl (Refused BoardTotalPassed receivedPlace) refl
 
   pub total-passed : fits (plus own (p .tally)) ≡ true → fits (plus (s .total) (p .tally)) ≡ false
-      → record { answer = Refused BoardTotalPassed receivedPlace; slot = s } ≡ entryOf s p
+      → record { answer = Refused BoardTotalPassed receivedPlace; slot = s } ≡ slotResultOf s p
   total-passed e f = entered true false e f (Refused BoardTotalPassed receivedPlace) refl
 
   pub within : {u : ℕ} {t v : Tally} → fits (plus own (p .tally)) ≡ true → fits (plus (s .total) (p .tally)) ≡ true
       → t ≡ plus own (p .tally) → u ≡ usedAfter s → v ≡ plus (s .total) (p .tally)
-      → record { answer = Accepted; slot = record { at = s .at; lane = record { issuer = p .issuer; tally = t }; used = u; total = v } } ≡ entryOf s p
+      → record { answer = Accepted; slot = record { at = s .at; lane = record { issuer = p .issuer; tally = t }; used = u; total = v } } ≡ slotResultOf s p
   within e f t u v = rw (t, u, v, is) (entered true true e f Accepted refl)
 
 -- what a posting left of its slot, put back: where it was refused, the board is as it was
-pub put-back : (b : Board) (p : Lane) (at : ℕ) (e : Entry) → at ≡ indexOf (p .issuer) (lanesOf b) → e ≡ entryOf (slotAt b at) p
-    → _≡_ {A = Posted}
+pub put-back : (b : Board) (p : Lane) (at : ℕ) (e : SlotResult) → at ≡ indexOf (p .issuer) (lanesOf b) → e ≡ slotResultOf (slotAt b at) p
+    → _≡_ {A = PostResult}
     (record { answer = e .answer; board = record { lanes = set (b .lanes) at (e .slot .lane); used = e .slot .used; total = e .slot .total } })
-    (postedOf b p)
+    (postResultOf b p)
 put-back b p at e i f = rw (f, i) (go (indexOf (p .issuer) (lanesOf b)) (slotAnswer (slotAt b (indexOf (p .issuer) (lanesOf b))) p))
   where
     go : (k : ℕ) (a : Answer)
-        → _≡_ {A = Posted}
+        → _≡_ {A = PostResult}
         (record {
           answer = a;
           board = record {
-            lanes = set (b .lanes) k (kept a (grownSlot (slotAt b k) p) (slotAt b k) .lane);
-            used = kept a (grownSlot (slotAt b k) p) (slotAt b k) .used;
-            total = kept a (grownSlot (slotAt b k) p) (slotAt b k) .total;
+            lanes = set (b .lanes) k (ifAccepted a (grownSlot (slotAt b k) p) (slotAt b k) .lane);
+            used = ifAccepted a (grownSlot (slotAt b k) p) (slotAt b k) .used;
+            total = ifAccepted a (grownSlot (slotAt b k) p) (slotAt b k) .total;
           };
         })
-        (record { answer = a; board = kept a (stored b (grownSlot (slotAt b k) p)) b })
+        (record { answer = a; board = ifAccepted a (stored b (grownSlot (slotAt b k) p)) b })
     go k Accepted = refl
     go k (Refused why q) =
         ap
-        {B = Posted} (λ (ls : List Lane). record { answer = Refused why q; board = record { lanes = ls; used = b .used; total = b .total } })
+        {B = PostResult} (λ (ls : List Lane). record { answer = Refused why q; board = record { lanes = ls; used = b .used; total = b .total } })
         (set-getD (b .lanes) k blank)

@@ -10,15 +10,15 @@ use Rattle.answer.specs.Refusals.{receivedPlace, issuerPlace}
 use Rattle.answer.specs.declared.Reason.the-variants.{BoardFull, BoardTotalPassed}
 use Rattle.answer.specs.declared.Answer.{Answer}
 use Rattle.answer.specs.declared.Answer.the-variants.{Accepted}
-use Rattle.answer.specs.Orders.{asked, _then_, kept}
+use Rattle.answer.specs.Orders.{require, _then_, ifAccepted}
 use Rattle.barcode.specs.declared.Issuer.{Issuer}
 use Rattle.board.specs.declared.Tally.{Tally}
 use Rattle.board.specs.declared.Lane.{Lane}
 use Rattle.board.specs.declared.Board.{Board}
 use Rattle.board.specs.declared.Slot.{Slot}
-use Rattle.board.specs.declared.Entry.{Entry}
-use Rattle.board.specs.declared.Posted.{Posted}
-use Rattle.board.specs.Lanes.{mostLanes, none, plus, fits, isOf, grown, place, lanesFrom, sumOf, issuersOf, named, Distinct}
+use Rattle.board.specs.declared.SlotResult.{SlotResult}
+use Rattle.board.specs.declared.PostResult.{PostResult}
+use Rattle.board.specs.Lanes.{mostLanes, none, plus, fits, isLaneOf, grown, place, lanesFrom, tallySum, issuersOf, isAmong, Distinct}
 
 -- what stands where no lane is in use
 abbrev pub blank : Lane
@@ -34,7 +34,7 @@ lanesOf b = take (b .used) (b .lanes)
 -- where the issuer's lane stands, counted from 0: at the end where it has none
 abbrev pub indexOf : Issuer → List Lane → ℕ
 indexOf i [] = 0
-indexOf i (l ∷ ls) = cond (isOf i l) 0 (suc (indexOf i ls))
+indexOf i (l ∷ ls) = cond (isLaneOf i l) 0 (suc (indexOf i ls))
 
 -- all that a payment at this place can change
 abbrev pub slotAt : Board → ℕ → Slot
@@ -62,11 +62,11 @@ grownSlot s p =
 -- 17, a new issuer when all lanes are taken; 18, a number of the lane or of the total that would pass the limit
 unfoldable pub slotAnswer : Slot → Lane → Answer
 slotAnswer s p =
-    asked (ltb (s .at) mostLanes) BoardFull issuerPlace
-    then asked (fits (grownSlot s p .lane .tally) && fits (grownSlot s p .total)) BoardTotalPassed receivedPlace
+    require (ltb (s .at) mostLanes) BoardFull issuerPlace
+    then require (fits (grownSlot s p .lane .tally) && fits (grownSlot s p .total)) BoardTotalPassed receivedPlace
 
-abbrev pub entryOf : Slot → Lane → Entry
-entryOf s p = record { answer = slotAnswer s p; slot = kept (slotAnswer s p) (grownSlot s p) s }
+abbrev pub slotResultOf : Slot → Lane → SlotResult
+slotResultOf s p = record { answer = slotAnswer s p; slot = ifAccepted (slotAnswer s p) (grownSlot s p) s }
 
 -- a payment posted to the slot of its issuer
 abbrev pub postAnswer : Board → Lane → Answer
@@ -75,8 +75,8 @@ postAnswer b p = slotAnswer (slotOf b (p .issuer)) p
 abbrev pub boardWith : Board → Lane → Board
 boardWith b p = stored b (grownSlot (slotOf b (p .issuer)) p)
 
-abbrev pub postedOf : Board → Lane → Posted
-postedOf b p = record { answer = postAnswer b p; board = kept (postAnswer b p) (boardWith b p) b }
+abbrev pub postResultOf : Board → Lane → PostResult
+postResultOf b p = record { answer = postAnswer b p; board = ifAccepted (postAnswer b p) (boardWith b p) b }
 
 -- payments one after the other, in the order in which they come: the first refusal, and the board with them all
 abbrev pub postAnswers : Board → List Lane → Answer
@@ -90,46 +90,46 @@ boardWithAll b (p ∷ ps) = boardWithAll (boardWith b p) ps
 -- the answer to a payment after others, with no board: 17, more issuers than there are lanes; 18, a sum that does not fit
 abbrev pub answerAfter : List Lane → Lane → Answer
 answerAfter ps p =
-    asked (leb (length (lanesFrom (ps ++ (p ∷ [])))) mostLanes) BoardFull issuerPlace
-    then asked (fits (sumOf (ps ++ (p ∷ [])))) BoardTotalPassed receivedPlace
+    require (leb (length (lanesFrom (ps ++ (p ∷ [])))) mostLanes) BoardFull issuerPlace
+    then require (fits (tallySum (ps ++ (p ∷ [])))) BoardTotalPassed receivedPlace
 
 -- what holds of every board that the methods make
-pub record Sound (b : Board) : Type 0 where
+pub record SoundBoard (b : Board) : Type 0 where
   pub full : length (b .lanes) ≡ mostLanes
   pub few : b .used ≤ mostLanes
   pub once : Distinct (issuersOf (lanesOf b))
-  pub total : b .total ≡ sumOf (lanesOf b)
+  pub total : b .total ≡ tallySum (lanesOf b)
   pub low : fits (b .total) ≡ true
 
 -- Promises: of one payment. A refusal changes nothing, and an accepted payment is placed; a sound board stays sound, and accepts exactly
 -- where the issuer has a lane or one is free and no total passes the limit.
 
 abbrev pub RefusalKeepsBoard : Type 0
-RefusalKeepsBoard = (b : Board) (p : Lane) → (postedOf b p .answer ≡ Accepted → ⊥) → postedOf b p .board ≡ b
+RefusalKeepsBoard = (b : Board) (p : Lane) → (postResultOf b p .answer ≡ Accepted → ⊥) → postResultOf b p .board ≡ b
 
 abbrev pub PostPlaces : Type 0
-PostPlaces = (b : Board) (p : Lane) → Sound b → postAnswer b p ≡ Accepted → lanesOf (boardWith b p) ≡ place p (lanesOf b)
+PostPlaces = (b : Board) (p : Lane) → SoundBoard b → postAnswer b p ≡ Accepted → lanesOf (boardWith b p) ≡ place p (lanesOf b)
 
 abbrev pub StaysSound : Type 0
-StaysSound = Sound freshBoard × ((b : Board) (p : Lane) → Sound b → Sound (postedOf b p .board))
+StaysSound = SoundBoard freshBoard × ((b : Board) (p : Lane) → SoundBoard b → SoundBoard (postResultOf b p .board))
 
 abbrev pub PostAccepts : Type 0
 PostAccepts =
-    (b : Board) (p : Lane) → Sound b
+    (b : Board) (p : Lane) → SoundBoard b
     → (postAnswer b p ≡ Accepted)
-    ↔ (((named (p .issuer) (issuersOf (lanesOf b)) ≡ true) ⊎ (b .used < mostLanes)) × (fits (plus (b .total) (p .tally)) ≡ true))
+    ↔ (((isAmong (p .issuer) (issuersOf (lanesOf b)) ≡ true) ⊎ (b .used < mostLanes)) × (fits (plus (b .total) (p .tally)) ≡ true))
 
 -- Promises: of a board that holds some payments. It answers as they do. A fresh board takes payments exactly where they have few enough
 -- issuers and a sum within the limit; its lanes are then the payments gathered by issuer, and its total is their sum.
 
 abbrev pub AnswersAsPayments : Type 0
-AnswersAsPayments = (b : Board) (ps : List Lane) (p : Lane) → Sound b → lanesOf b ≡ lanesFrom ps → postAnswer b p ≡ answerAfter ps p
+AnswersAsPayments = (b : Board) (ps : List Lane) (p : Lane) → SoundBoard b → lanesOf b ≡ lanesFrom ps → postAnswer b p ≡ answerAfter ps p
 
 abbrev pub FreshBoardTakes : Type 0
 FreshBoardTakes =
-    (ps : List Lane) → (postAnswers freshBoard ps ≡ Accepted) ↔ ((length (lanesFrom ps) ≤ mostLanes) × (fits (sumOf ps) ≡ true))
+    (ps : List Lane) → (postAnswers freshBoard ps ≡ Accepted) ↔ ((length (lanesFrom ps) ≤ mostLanes) × (fits (tallySum ps) ≡ true))
 
 abbrev pub FreshBoardHolds : Type 0
 FreshBoardHolds =
     (ps : List Lane) → postAnswers freshBoard ps ≡ Accepted
-    → (lanesOf (boardWithAll freshBoard ps) ≡ lanesFrom ps) × (boardWithAll freshBoard ps .total ≡ sumOf ps) × Sound (boardWithAll freshBoard ps)
+    → (lanesOf (boardWithAll freshBoard ps) ≡ lanesFrom ps) × (boardWithAll freshBoard ps .total ≡ tallySum ps) × SoundBoard (boardWithAll freshBoard ps)

@@ -28,12 +28,12 @@ fits t = leb (t .payments) limit && leb (t .centavos) limit
 abbrev pub sameIssuer : Issuer → Issuer → Bool
 sameIssuer i j = eqb (i .segment) (j .segment) && eqb (i .number) (j .number)
 
-abbrev pub isOf : Issuer → Lane → Bool
-isOf i l = sameIssuer (l .issuer) i
+abbrev pub isLaneOf : Issuer → Lane → Bool
+isLaneOf i l = sameIssuer (l .issuer) i
 
 -- a payment of so many centavos
-abbrev pub paymentOf : Issuer → ℕ → Lane
-paymentOf i centavos = record { issuer = i; tally = record { payments = 1; centavos = centavos } }
+abbrev pub laneOfOne : Issuer → ℕ → Lane
+laneOfOne i centavos = record { issuer = i; tally = record { payments = 1; centavos = centavos } }
 
 -- a payment's lane, with what its issuer had before
 abbrev pub grown : Tally → Lane → Lane
@@ -42,21 +42,21 @@ grown before p = record { issuer = p .issuer; tally = plus before (p .tally) }
 -- a payment put to its issuer's lane, or to a new one at the end
 abbrev pub place : Lane → List Lane → List Lane
 place p [] = p ∷ []
-place p (l ∷ ls) = cond (isOf (p .issuer) l) (grown (l .tally) p ∷ ls) (l ∷ place p ls)
+place p (l ∷ ls) = cond (isLaneOf (p .issuer) l) (grown (l .tally) p ∷ ls) (l ∷ place p ls)
 
 -- payments, in the order in which they came, put to the lanes one after the other
-abbrev pub gather : List Lane → List Lane → List Lane
-gather ls [] = ls
-gather ls (p ∷ ps) = gather (place p ls) ps
+abbrev pub placedAll : List Lane → List Lane → List Lane
+placedAll ls [] = ls
+placedAll ls (p ∷ ps) = placedAll (place p ls) ps
 
 -- the lanes of some payments, in the order in which their issuers first appear
 abbrev pub lanesFrom : List Lane → List Lane
-lanesFrom ps = gather [] ps
+lanesFrom ps = placedAll [] ps
 
 -- the sum of lanes or of payments
-abbrev pub sumOf : List Lane → Tally
-sumOf [] = none
-sumOf (l ∷ ls) = plus (l .tally) (sumOf ls)
+abbrev pub tallySum : List Lane → Tally
+tallySum [] = none
+tallySum (l ∷ ls) = plus (l .tally) (tallySum ls)
 
 -- the same of one number: the sum of what w reads of each
 abbrev pub sumBy : (Lane → ℕ) → List Lane → ℕ
@@ -71,25 +71,25 @@ abbrev pub each : (Tally → ℕ) → Lane → ℕ
 each w l = w (l .tally)
 
 abbrev pub only : Issuer → (Tally → ℕ) → Lane → ℕ
-only i w l = cond (isOf i l) (w (l .tally)) 0
+only i w l = cond (isLaneOf i l) (w (l .tally)) 0
 
 abbrev pub issuersOf : List Lane → List Issuer
 issuersOf ls = map (λ (l : Lane). l .issuer) ls
 
-abbrev pub named : Issuer → List Issuer → Bool
-named i [] = false
-named i (j ∷ js) = cond (sameIssuer j i) true (named i js)
+abbrev pub isAmong : Issuer → List Issuer → Bool
+isAmong i [] = false
+isAmong i (j ∷ js) = cond (sameIssuer j i) true (isAmong i js)
 
 -- the issuers of payments, each at its first appearance, but for those seen before
 abbrev pub appearing : List Issuer → List Lane → List Issuer
 appearing seen [] = []
 appearing seen (p ∷ ps) =
-    cond (named (p .issuer) seen) (appearing seen ps) (p .issuer ∷ appearing (seen ++ (p .issuer ∷ [])) ps)
+    cond (isAmong (p .issuer) seen) (appearing seen ps) (p .issuer ∷ appearing (seen ++ (p .issuer ∷ [])) ps)
 
 -- none of them twice
 abbrev pub Distinct : List Issuer → Type 0
 Distinct [] = Unit {0}
-Distinct (i ∷ is) = (named i is ≡ false) × Distinct is
+Distinct (i ∷ is) = (isAmong i is ≡ false) × Distinct is
 
 -- Promises: of the sums. Whatever adds up is the same of the lanes as of the payments, over all issuers and for each alone.
 
@@ -106,13 +106,13 @@ abbrev pub OwnSumsAgree : Type 0
 OwnSumsAgree = (w : Tally → ℕ) → Adds w → (i : Issuer) (ps : List Lane) → sumBy (only i w) (lanesFrom ps) ≡ sumBy (only i w) ps
 
 abbrev pub SumIsKept : Type 0
-SumIsKept = (ps : List Lane) → sumOf (lanesFrom ps) ≡ sumOf ps
+SumIsKept = (ps : List Lane) → tallySum (lanesFrom ps) ≡ tallySum ps
 
 -- 4,294,967,296 centavos, where sums of 32 bits came round to nothing
 abbrev pub PastThirtyTwoBits : Type 0
 PastThirtyTwoBits =
     (i : Issuer)
-    → lanesFrom (paymentOf i 4_294_967_295 ∷ paymentOf i 1 ∷ [])
+    → lanesFrom (laneOfOne i 4_294_967_295 ∷ laneOfOne i 1 ∷ [])
     ≡ record { issuer = i; tally = record { payments = 2; centavos = 4_294_967_296 } } ∷ []
 
 -- Promises: of the lanes. No issuer has two; they stand in the order of first appearance; one payment more is placed last.

@@ -3,8 +3,8 @@ ghost use mathlib.Core.Path.{_≡_};
 ghost use mathlib.Core.Bool.{true};
 ghost use Prim.Native.Nat.{_+_, _<_};
 ghost use lib.Dec.{leb};
-ghost use Rattle.board.specs.Lanes.{limit, mostLanes, plus, fits, isOf, paymentOf};
-ghost use Rattle.board.specs.Boards.{freshBoard, lanesOf, indexOf, ownOf, usedAfter, entryOf, postedOf};
+ghost use Rattle.board.specs.Lanes.{limit, mostLanes, plus, fits, isLaneOf, laneOfOne};
+ghost use Rattle.board.specs.Boards.{freshBoard, lanesOf, indexOf, ownOf, usedAfter, slotResultOf, postResultOf};
 use answer::Answer;
 use answer::Reason;
 use barcode::Issuer;
@@ -40,13 +40,13 @@ pub struct Slot {
 }
 
 // A refusal leaves the slot as it was.
-pub struct Entry {
+pub struct SlotResult {
     pub answer: Answer,
     pub slot: Slot,
 }
 
 // A refusal leaves the board as it was.
-pub struct Posted {
+pub struct PostResult {
     pub answer: Answer,
     pub board: Board,
 }
@@ -84,7 +84,7 @@ impl Tally {
 
 impl Lane {
     pub fn is_of(self, issuer: Issuer) -> bool
-        ensures { λ r. ⌜ r ≡ isOf issuer self ⌝ }
+        ensures { λ r. ⌜ r ≡ isLaneOf issuer self ⌝ }
     {
         if self.issuer.segment == issuer.segment {
             return self.issuer.number == issuer.number;
@@ -119,11 +119,11 @@ impl Slot {
     }
 
     // One payment, where its issuer's lane stands or would stand: 17, 18, or the slot with it.
-    pub fn post(self, payment: Lane) -> Entry
-        ensures { λ r. ⌜ r ≡ entryOf self payment ⌝ }
+    pub fn post(self, payment: Lane) -> SlotResult
+        ensures { λ r. ⌜ r ≡ slotResultOf self payment ⌝ }
     {
         if Board::LANES <= self.at {
-            return Entry {
+            return SlotResult {
                 answer: Answer::Refused(Reason::BoardFull, answer::ISSUER_PLACE),
                 slot: self,
             };
@@ -131,19 +131,19 @@ impl Slot {
         let own = self.own();
         let total = self.total;
         if !own.fits_with(payment.tally) {
-            return Entry {
+            return SlotResult {
                 answer: Answer::Refused(Reason::BoardTotalPassed, answer::RECEIVED_PLACE),
                 slot: self,
             };
         }
         if !total.fits_with(payment.tally) {
-            return Entry {
+            return SlotResult {
                 answer: Answer::Refused(Reason::BoardTotalPassed, answer::RECEIVED_PLACE),
                 slot: self,
             };
         }
         let issuer = payment.issuer;
-        Entry {
+        SlotResult {
             answer: Answer::Accepted,
             slot: Slot {
                 at: self.at,
@@ -203,12 +203,12 @@ impl Board {
     }
 
     // One payment: 17, 18, or the board with it.
-    pub fn post(mut self, issuer: Issuer, centavos: u64) -> Posted
-        ensures { λ r. ⌜ r ≡ postedOf self (paymentOf issuer centavos) ⌝ }
+    pub fn post(mut self, issuer: Issuer, centavos: u64) -> PostResult
+        ensures { λ r. ⌜ r ≡ postResultOf self (laneOfOne issuer centavos) ⌝ }
     {
         let at = self.find(issuer);
         if Self::LANES <= at {
-            return Posted {
+            return PostResult {
                 answer: Answer::Refused(Reason::BoardFull, answer::ISSUER_PLACE),
                 board: self,
             };
@@ -236,7 +236,7 @@ impl Board {
         self.used = after.used;
         self.total = total;
         let answer = entry.answer;
-        Posted {
+        PostResult {
             answer,
             board: self,
         }

@@ -14,7 +14,7 @@ use Rattle.decimal.specs.Places.{places}
 use Rattle.decimal.specs.Numbers.{numberOf}
 use Rattle.decimal.proofs.Numbers.{number-fits}
 use Rattle.calendar.specs.Common.{CommonIn}
-use Rattle.calendar.specs.Dates.{isLeap, daysIn, dateOf, isOne}
+use Rattle.calendar.specs.Dates.{isLeap, daysIn, dateOf, isFound}
 use Rattle.calendar.proofs.Dates.{by-days, as-spelled, judged}
 use Rattle.calendar.proofs.Months.{month-days}
 
@@ -47,9 +47,9 @@ module _ (c m d : ℕ) (in-century : within 19 21 c ≡ true) (in-year : within 
 
 -- eight digits that spell such a day
 pub common-date : (bs : List ℕ) {c m d : ℕ} → length bs ≡ 8 → all (isOf Digit) bs ≡ true → c ≡ numberOf (take 2 bs) → m ≡ numberOf (places 5 6 bs)
-    → d ≡ numberOf (places 7 8 bs) → CommonIn c m d → true ≡ isOne (dateOf bs)
+    → d ≡ numberOf (places 7 8 bs) → CommonIn c m d → true ≡ isFound (dateOf bs)
 common-date bs n a ec em ed h =
     let y = numberOf (places 3 4 bs) in
     let l : length (places 3 4 bs) ≡ 2 = length-take-le 2 (drop 2 bs) (omega (arith, length-drop 2 bs)) in
     let small : y < 10 ^ 2 = rw l at (number-fits (places 3 4 bs)) in
-    ap isOne (judged bs n a (as-spelled bs n ec refl em ed) (sym (h y (omega arith))))
+    ap isFound (judged bs n a (as-spelled bs n ec refl em ed) (sym (h y (omega arith))))

@@ -17,7 +17,7 @@ use Rattle.decimal.proofs.Bytes.{all-joins, all-of-part, all-at}
 use Rattle.decimal.proofs.Finite.{below, at}
 use Rattle.decimal.proofs.Numbers.{digit-range, value-digit, number-of-digits, digits-of-number, digits-fill}
 use Rattle.calendar.specs.declared.Date.{Date}
-use Rattle.calendar.specs.declared.Dated.the-variants.{On, NoDate}
+use Rattle.calendar.specs.declared.MaybeDate.the-variants.{On, NoDate}
 use Rattle.calendar.specs.Dates.{isLeap, months, daysIn, isDate, spelled, dateOf, spelling, DateIsItsSpelling, SpellingIsItsDate}
 use Rattle.calendar.proofs.Months.{no-month}
 

@@ -10,8 +10,8 @@ use Rattle.decimal.specs.Bytes.{within, isOf, all}
 use Rattle.decimal.specs.Places.{places}
 use Rattle.decimal.specs.Numbers.{numberOf, digitsOf}
 use Rattle.calendar.specs.declared.Date.{Date}
-use Rattle.calendar.specs.declared.Dated.{Dated}
-use Rattle.calendar.specs.declared.Dated.the-variants.{On, NoDate}
+use Rattle.calendar.specs.declared.MaybeDate.{MaybeDate}
+use Rattle.calendar.specs.declared.MaybeDate.the-variants.{On, NoDate}
 
 -- every fourth year, of the hundreds every fourth too
 unfoldable pub isLeap : ℕ → Bool
@@ -33,12 +33,12 @@ abbrev pub spelled : List ℕ → Date
 spelled bs = record { year = numberOf (places 1 4 bs); month = numberOf (places 5 6 bs); day = numberOf (places 7 8 bs) }
 
 -- the date of eight digits that are one
-unfoldable pub dateOf : List ℕ → Dated
+unfoldable pub dateOf : List ℕ → MaybeDate
 dateOf bs = cond (eqb (length bs) 8 && (all (isOf Digit) bs && isDate (spelled bs))) (On (spelled bs)) NoDate
 
-abbrev pub isOne : Dated → Bool
-isOne (On d) = true
-isOne NoDate = false
+abbrev pub isFound : MaybeDate → Bool
+isFound (On d) = true
+isFound NoDate = false
 
 -- a date's eight digits
 abbrev pub spelling : Date → List ℕ

@@ -4,7 +4,7 @@ use mathlib.Core.Bool.{Bool, true, false}
 use mathlib.Core.List.{List, [], _∷_, map}
 use mathlib.Core.Path.{_≡_}
 use Rattle.decimal.specs.Numbers.{digitsOf}
-use Rattle.calendar.specs.Dates.{dateOf, isOne}
+use Rattle.calendar.specs.Dates.{dateOf, isFound}
 
 pub record Sample : Type 0 where
   pub digits : ℕ
@@ -29,4 +29,4 @@ edges =
 
 -- Promise: each sample is what it is said to be.
 abbrev pub Hold : List Sample → Type 0
-Hold samples = map (λ (s : Sample). isOne (dateOf (digitsOf 8 (s .digits)))) samples ≡ map (λ (s : Sample). s .date) samples
+Hold samples = map (λ (s : Sample). isFound (dateOf (digitsOf 8 (s .digits)))) samples ≡ map (λ (s : Sample). s .date) samples

@@ -5,7 +5,7 @@ ghost use Prim.Native.Nat.{_+_, _/_, _%_, _≤_};
 ghost use lib.ListN.{length, take, drop};
 ghost use Rattle.decimal.specs.Bytes.{within, isOf, all};
 ghost use Rattle.decimal.specs.Numbers.{numberOf};
-ghost use Rattle.calendar.specs.Dates.{isLeap, daysIn, isDate, dateOf, isOne};
+ghost use Rattle.calendar.specs.Dates.{isLeap, daysIn, isDate, dateOf, isFound};
 ghost use Rattle.calendar.specs.Common.{CommonIn};
 use decimal::Class;
 
@@ -16,7 +16,7 @@ pub struct Date {
     pub day: u64,
 }
 
-pub enum Dated {
+pub enum MaybeDate {
     On(Date),
     NoDate,
 }
@@ -83,14 +83,14 @@ fn pair(bytes: &[u8], at: usize) -> u64
     (bytes[at] as u64 - 48) * 10 + (bytes[at + 1] as u64 - 48)
 }
 
-pub fn read_date(bytes: &[u8]) -> Dated
+pub fn read_date(bytes: &[u8]) -> MaybeDate
     ensures { λ r. ⌜ r ≡ dateOf (now (bytes .entry)) ⌝ }
 {
     if bytes.len() != 8 {
-        return Dated::NoDate;
+        return MaybeDate::NoDate;
     }
     if !decimal::all_of(Class::Digit, bytes) {
-        return Dated::NoDate;
+        return MaybeDate::NoDate;
     }
     let date = Date {
         year: 100 * pair(bytes, 0) + pair(bytes, 2),
@@ -98,13 +98,13 @@ pub fn read_date(bytes: &[u8]) -> Dated
         day: pair(bytes, 6),
     };
     if is_date(date) {
-        Dated::On(date)
+        MaybeDate::On(date)
     } else {
-        Dated::NoDate
+        MaybeDate::NoDate
     }
 }
 
-fn between(lo: u64, hi: u64, n: u64) -> bool
+fn in_range(lo: u64, hi: u64, n: u64) -> bool
     ensures { λ r. ⌜ r ≡ within lo hi n ⌝ }
 {
     lo <= n && n <= hi
@@ -114,10 +114,10 @@ fn between(lo: u64, hi: u64, n: u64) -> bool
 fn is_common(century: u64, month: u64, day: u64) -> bool
     ensures { λ r. ⌜ (r ≡ true → CommonIn century month day) ⌝ }
 {
-    if !between(19, 21, century) {
+    if !in_range(19, 21, century) {
         return false;
     }
-    if !between(1, 12, month) {
+    if !in_range(1, 12, month) {
         return false;
     }
     if day < 1 {
@@ -133,8 +133,8 @@ fn is_common(century: u64, month: u64, day: u64) -> bool
 }
 
 // Whether the bytes are a date; of a common day the year is not made.
-pub fn spells_date(bytes: &[u8]) -> bool
-    ensures { λ r. ⌜ r ≡ isOne (dateOf (now (bytes .entry))) ⌝ }
+pub fn is_date_text(bytes: &[u8]) -> bool
+    ensures { λ r. ⌜ r ≡ isFound (dateOf (now (bytes .entry))) ⌝ }
 {
     if bytes.len() != 8 {
         return false;
@@ -146,7 +146,7 @@ pub fn spells_date(bytes: &[u8]) -> bool
         return true;
     }
     match read_date(bytes) {
-        Dated::On(_) => true,
-        Dated::NoDate => false,
+        MaybeDate::On(_) => true,
+        MaybeDate::NoDate => false,
     }
 }

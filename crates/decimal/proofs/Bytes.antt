@@ -15,7 +15,7 @@ use Rattle.answer.specs.declared.Reason.{Reason}
 use Rattle.answer.specs.declared.Answer.{Answer}
 use Rattle.answer.specs.declared.Answer.the-variants.{Accepted, Refused}
 use Rattle.answer.specs.Refusals.{answerPlace}
-use Rattle.answer.specs.Orders.{asked, movedBy}
+use Rattle.answer.specs.Orders.{require, movedBy}
 use Rattle.answer.proofs.Orders.{asked-accepts, then-accepts, moved-then, asked-place, then-place}
 use Rattle.decimal.specs.Bytes.{all, eachIs, AllJoins, AllOfPart, EachAccepts, EachRefuses, EachMoves}
 
@@ -44,7 +44,7 @@ pub each-accepts : EachAccepts
 each-accepts ok why p [] = (λ e. refl, λ e. refl)
 each-accepts ok why p (b ∷ bs) =
     let here = asked-accepts (ok b) why p in
-    let row = then-accepts (asked (ok b) why p) (eachIs ok why (suc p) bs) in
+    let row = then-accepts (require (ok b) why p) (eachIs ok why (suc p) bs) in
     let rest = each-accepts ok why (suc p) bs in
     let both = and-eq-true-iff (ok b) (all ok bs) in
     (λ e. both .1 (here .0 (row .0 e .0), rest .0 (row .0 e .1)), λ h. row .1 (here .1 (both .0 h .0), rest .1 (both .0 h .1)))
@@ -57,7 +57,7 @@ each-refuses ok why p (suc i) (b ∷ bs) h a e =
     let later = each-refuses ok why (suc p) i bs (omega arith) (both .1) e in
     rw (both .0, later, add-suc, suc-add)
 
-asked-moves : (t : Bool) (why : Reason) (p by : ℕ) → asked t why (p + by) ≡ movedBy (λ q. q + by) (asked t why p)
+asked-moves : (t : Bool) (why : Reason) (p by : ℕ) → require t why (p + by) ≡ movedBy (λ q. q + by) (require t why p)
 asked-moves true why p by = refl
 asked-moves false why p by = refl
 
@@ -66,12 +66,12 @@ each-moves ok why p by [] = refl
 each-moves ok why p by (b ∷ bs) =
     let rest = each-moves ok why (suc p) by bs in
     let e : suc (p + by) ≡ suc p + by = sym (suc-add p by) in
-    rw (e, rest, asked-moves (ok b) why p by) (sym (moved-then (λ q. q + by) (asked (ok b) why p) (eachIs ok why (suc p) bs)))
+    rw (e, rest, asked-moves (ok b) why p by) (sym (moved-then (λ q. q + by) (require (ok b) why p) (eachIs ok why (suc p) bs)))
 
 pub each-place : (ok : ℕ → Bool) (why : Reason) (p : ℕ) (bs : List ℕ) → answerPlace (eachIs ok why p bs) ≤ p + length bs
 each-place ok why p [] = omega arith
 each-place ok why p (b ∷ bs) =
-    then-place (p + suc (length bs)) (asked (ok b) why p) (eachIs ok why (suc p) bs) (asked-place (p + suc (length bs)) (ok b) why p (omega arith))
+    then-place (p + suc (length bs)) (require (ok b) why p) (eachIs ok why (suc p) bs) (asked-place (p + suc (length bs)) (ok b) why p (omega arith))
     (omega (arith, each-place ok why (suc p) bs))
 
 -- A loop at byte i, by what is known of the bytes from i on: the byte passes, it fails, there is none.

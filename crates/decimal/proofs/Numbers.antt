@@ -13,7 +13,7 @@ use lib.Seq.{take-all, take-suc, length-take-le, drop-length, drop-cons, getD-se
 use Rattle.decimal.specs.declared.Class.the-variants.{Digit}
 use Rattle.decimal.specs.Bytes.{isOf, all}
 use Rattle.decimal.proofs.Bytes.{all-joins}
-use Rattle.decimal.specs.Numbers.{valueOf, numberFrom, numberOf, lowFrom, lowNumberOf, most, heldOf, digitsOf, NumberOfDigits, DigitsOfNumber, DigitsFill, NumberFits, LowOfDigits, NineteenAreHeld}
+use Rattle.decimal.specs.Numbers.{valueOf, numberFrom, numberOf, lowFrom, lowNumberOf, largestNumber, capped, digitsOf, NumberOfDigits, DigitsOfNumber, DigitsFill, NumberFits, LowOfDigits, NineteenFit}
 
 -- Digits.
 
@@ -61,38 +61,38 @@ from-below n (b ∷ bs) =
 pub number-fits : NumberFits
 number-fits bs = let h = from-below 0 bs in let e : (0 + 1) * 10 ^ length bs ≡ 10 ^ length bs = omega arith in rw e at h
 
-held-small : (n : ℕ) → n ≤ most → heldOf n ≡ n
+held-small : (n : ℕ) → n ≤ largestNumber → capped n ≡ n
 held-small n h = omega arith
 
-held-large : (n : ℕ) → most ≤ n → heldOf n ≡ most
+held-large : (n : ℕ) → largestNumber ≤ n → capped n ≡ largestNumber
 held-large n h = omega arith
 
-pub nineteen-are-held : NineteenAreHeld
+pub nineteen-are-held : NineteenFit
 nineteen-are-held bs h =
     let p : 10 ^ length bs ≤ 10 ^ 19 = pow-le-pow-right (lit< tt) h in
     held-small (numberOf bs) (omega (arith, number-fits bs))
 
 -- what is held of a number that goes on is what is held of the whole
-held-on : (n : ℕ) (bs : List ℕ) → heldOf (numberFrom (heldOf n) bs) ≡ heldOf (numberFrom n bs)
-held-on n bs = go (leb n most) refl
+held-on : (n : ℕ) (bs : List ℕ) → capped (numberFrom (capped n) bs) ≡ capped (numberFrom n bs)
+held-on n bs = go (leb n largestNumber) refl
   where
-    go : (t : Bool) → leb n most ≡ t → heldOf (numberFrom (heldOf n) bs) ≡ heldOf (numberFrom n bs)
-    go true e = rw (held-small n (leb-true n most e))
+    go : (t : Bool) → leb n largestNumber ≡ t → capped (numberFrom (capped n) bs) ≡ capped (numberFrom n bs)
+    go true e = rw (held-small n (leb-true n largestNumber e))
     go false e =
-        let l : most < n = leb-false n most e in
-        let m : heldOf n ≡ most = held-large n (omega arith) in
-        let a : most ≤ numberFrom most bs = from-grows most bs in
+        let l : largestNumber < n = leb-false n largestNumber e in
+        let m : capped n ≡ largestNumber = held-large n (omega arith) in
+        let a : largestNumber ≤ numberFrom largestNumber bs = from-grows largestNumber bs in
         let b : n ≤ numberFrom n bs = from-grows n bs in
-        rw m (held-large (numberFrom most bs) a ∙ sym (held-large (numberFrom n bs) (omega arith)))
+        rw m (held-large (numberFrom largestNumber bs) a ∙ sym (held-large (numberFrom n bs) (omega arith)))
 
 -- a turn of the loop that reads, and its end
 module _ (bs : List ℕ) (i n : ℕ) where
-  pub read-step : {m v r : ℕ} → i < length bs → v ≡ valueOf (getD bs i 0) → m ≡ heldOf (n * 10 + v) → heldOf (numberFrom n (drop i bs)) ≡ r
-      → (m ≤ most) × (heldOf (numberFrom m (drop (i + 1) bs)) ≡ r)
+  pub read-step : {m v r : ℕ} → i < length bs → v ≡ valueOf (getD bs i 0) → m ≡ capped (n * 10 + v) → capped (numberFrom n (drop i bs)) ≡ r
+      → (m ≤ largestNumber) × (capped (numberFrom m (drop (i + 1) bs)) ≡ r)
   read-step {m} {v} h e f q =
-      rw (f, e, add-one) (min-le-right (n * 10 + valueOf (getD bs i 0)) most, held-on (n * 10 + valueOf (getD bs i 0)) (drop (suc i) bs) ∙ (rw (drop-cons bs i 0 h) at q))
+      rw (f, e, add-one) (min-le-right (n * 10 + valueOf (getD bs i 0)) largestNumber, held-on (n * 10 + valueOf (getD bs i 0)) (drop (suc i) bs) ∙ (rw (drop-cons bs i 0 h) at q))
 
-  pub read-end : {r : ℕ} → length bs ≤ i → n ≤ most → heldOf (numberFrom n (drop i bs)) ≡ r → n ≡ r
+  pub read-end : {r : ℕ} → length bs ≤ i → n ≤ largestNumber → capped (numberFrom n (drop i bs)) ≡ r → n ≡ r
   read-end h l q = sym (held-small n l) ∙ (rw (drop-of-length-le bs h) at q)
 
 -- Numbers read by low halves.
@@ -127,7 +127,7 @@ module _ (bs : List ℕ) (i n : ℕ) where
   pub low-step : i < length bs → lowFrom n (drop i bs) ≡ lowFrom 0 bs → lowFrom (n * 10 + getD bs i 0 % 16) (drop (i + 1) bs) ≡ lowFrom 0 bs
   low-step h q = rw add-one (rw (drop-cons bs i 0 h) at q)
 
-  pub low-fit : length bs ≤ 19 → i < length bs → lowFrom n (drop i bs) ≡ lowFrom 0 bs → n * 10 + getD bs i 0 % 16 ≤ most
+  pub low-fit : length bs ≤ 19 → i < length bs → lowFrom n (drop i bs) ≡ lowFrom 0 bs → n * 10 + getD bs i 0 % 16 ≤ largestNumber
   low-fit l h q =
       let p : 10 ^ length bs ≤ 10 ^ 19 = pow-le-pow-right (lit< tt) l in
       omega (arith, low-below 0 bs, low-step h q, low-grows (n * 10 + getD bs i 0 % 16) (drop (i + 1) bs))

@@ -9,7 +9,7 @@ use lib.ListN.{length, getD, take, drop}
 use Rattle.answer.specs.declared.Reason.{Reason}
 use Rattle.answer.specs.declared.Answer.{Answer}
 use Rattle.answer.specs.declared.Answer.the-variants.{Accepted, Refused}
-use Rattle.answer.specs.Orders.{asked, _then_, movedBy}
+use Rattle.answer.specs.Orders.{require, _then_, movedBy}
 use Rattle.decimal.specs.declared.Class.{Class}
 use Rattle.decimal.specs.declared.Class.the-variants.{Digit, Blank, Text}
 
@@ -30,7 +30,7 @@ all ok (b ∷ bs) = ok b && all ok bs
 -- each byte is asked the test, from left to right: refused at the first that fails. The first byte stands at place p.
 abbrev pub eachIs : (ℕ → Bool) → Reason → ℕ → List ℕ → Answer
 eachIs ok why p [] = Accepted
-eachIs ok why p (b ∷ bs) = asked (ok b) why p then eachIs ok why (suc p) bs
+eachIs ok why p (b ∷ bs) = require (ok b) why p then eachIs ok why (suc p) bs
 
 -- Promises, over every test.
 

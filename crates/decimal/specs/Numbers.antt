@@ -7,7 +7,7 @@ use lib.Dec.{ltb, leb}
 use lib.ListN.{length}
 use Rattle.answer.specs.declared.Reason.the-variants.{TooWide}
 use Rattle.answer.specs.declared.Answer.{Answer}
-use Rattle.answer.specs.Orders.{asked}
+use Rattle.answer.specs.Orders.{require}
 use Rattle.decimal.specs.declared.Class.the-variants.{Digit}
 use Rattle.decimal.specs.Bytes.{isOf, all}
 
@@ -32,12 +32,12 @@ unfoldable pub lowNumberOf : List ℕ → ℕ
 lowNumberOf bs = cond (leb (length bs) 19) (lowFrom 0 bs) 0
 
 -- the largest number that 64 bits hold
-abbrev pub most : ℕ
-most = 18446744073709551615
+abbrev pub largestNumber : ℕ
+largestNumber = 18446744073709551615
 
 -- the number itself, or the most where it is larger: it never comes round
-abbrev pub heldOf : ℕ → ℕ
-heldOf n = min n most
+abbrev pub capped : ℕ → ℕ
+capped n = min n largestNumber
 
 -- the last w digits of n, as bytes, highest first
 unfoldable pub digitsOf : ℕ → ℕ → List ℕ
@@ -46,7 +46,7 @@ digitsOf (suc w) n = digitsOf w (n / 10) ++ ((48 + n % 10) ∷ [])
 
 -- a number has w places: refused, too wide, at the first of them where it needs more
 abbrev pub widthAnswer : ℕ → ℕ → Answer
-widthAnswer w n = asked (ltb n (10 ^ w)) TooWide 1
+widthAnswer w n = require (ltb n (10 ^ w)) TooWide 1
 
 -- Promises.
 
@@ -70,5 +70,5 @@ abbrev pub LowOfDigits : Type 0
 LowOfDigits = (bs : List ℕ) → all (isOf Digit) bs ≡ true → length bs ≤ 19 → lowNumberOf bs ≡ numberOf bs
 
 -- no number of 19 digits is cut; a field of document 01 has 17 at the most
-abbrev pub NineteenAreHeld : Type 0
-NineteenAreHeld = (bs : List ℕ) → length bs ≤ 19 → heldOf (numberOf bs) ≡ numberOf bs
+abbrev pub NineteenFit : Type 0
+NineteenFit = (bs : List ℕ) → length bs ≤ 19 → capped (numberOf bs) ≡ numberOf bs

@@ -39,24 +39,24 @@ Lies n (s ∷ plan) = (1 ≤ s .first) × (s .first ≤ s .last) × (s .last ≤
 abbrev pub Beside : Stretch → ℕ → Type 0
 Beside s i = (i + 1 < s .first) ⊎ (s .last ≤ i)
 
-abbrev pub Outside : List Stretch → ℕ → Type 0
-Outside [] i = Unit {0}
-Outside (s ∷ plan) i = Beside s i × Outside plan i
+abbrev pub OutOfPlan : List Stretch → ℕ → Type 0
+OutOfPlan [] i = Unit {0}
+OutOfPlan (s ∷ plan) i = Beside s i × OutOfPlan plan i
 
 -- the byte at index i stands in one stretch of a plan only, and at index j of what is gathered
-abbrev pub Within : List Stretch → ℕ → ℕ → Type 0
-Within [] i j = ⊥
-Within (s ∷ plan) i j =
-    ((s .first ≤ i + 1) × (i < s .last) × (j + s .first ≡ i + 1) × Outside plan i) ⊎ (Beside s i × (widthOf s ≤ j) × Within plan i (j - widthOf s))
+abbrev pub InPlan : List Stretch → ℕ → ℕ → Type 0
+InPlan [] i j = ⊥
+InPlan (s ∷ plan) i j =
+    ((s .first ≤ i + 1) × (i < s .last) × (j + s .first ≡ i + 1) × OutOfPlan plan i) ⊎ (Beside s i × (widthOf s ≤ j) × InPlan plan i (j - widthOf s))
 
 -- Promises: of one byte set in what is gathered.
 
 abbrev pub GatherOutside : Type 0
-GatherOutside = (plan : List Stretch) (l : List ℕ) (i d : ℕ) → Outside plan i → gather plan (set l i d) ≡ gather plan l
+GatherOutside = (plan : List Stretch) (l : List ℕ) (i d : ℕ) → OutOfPlan plan i → gather plan (set l i d) ≡ gather plan l
 
 abbrev pub GatherWithin : Type 0
 GatherWithin =
-    (plan : List Stretch) (l : List ℕ) (i j d : ℕ) → Lies (length l) plan → Within plan i j
+    (plan : List Stretch) (l : List ℕ) (i j d : ℕ) → Lies (length l) plan → InPlan plan i j
     → (gather plan (set l i d) ≡ set (gather plan l) j d) × (getD (gather plan l) j 0 ≡ getD l i 0) × (j < length (gather plan l))
 
 -- pieces put one behind the other make one piece

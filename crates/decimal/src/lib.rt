@@ -4,10 +4,10 @@ ghost use mathlib.Core.Bool.{cond};
 ghost use Prim.Native.Nat.{_+_, _*_, _%_, _^_};
 ghost use lib.Dec.{ltb};
 ghost use lib.ListN.{length};
-ghost use Rattle.answer.specs.Orders.{kept};
+ghost use Rattle.answer.specs.Orders.{ifAccepted};
 ghost use Rattle.decimal.specs.Bytes.{within, isOf, all, eachIs};
 ghost use Rattle.decimal.specs.Places.{putAt};
-ghost use Rattle.decimal.specs.Numbers.{valueOf, numberOf, lowNumberOf, digitsOf, heldOf, widthAnswer};
+ghost use Rattle.decimal.specs.Numbers.{valueOf, numberOf, lowNumberOf, digitsOf, capped, widthAnswer};
 use answer::Answer;
 use answer::Reason;
 
@@ -17,7 +17,7 @@ pub enum Class {
     Text,
 }
 
-fn between(lo: u8, hi: u8, b: u8) -> bool
+fn in_range(lo: u8, hi: u8, b: u8) -> bool
     ensures { λ r. ⌜ r ≡ within lo hi b ⌝ }
 {
     lo <= b && b <= hi
@@ -27,14 +27,14 @@ pub fn is_of(class: Class, b: u8) -> bool
     ensures { λ r. ⌜ r ≡ isOf class b ⌝ }
 {
     match class {
-        Class::Digit => between(48, 57, b),
+        Class::Digit => in_range(48, 57, b),
         Class::Blank => b == 32,
-        Class::Text => between(32, 126, b) || between(160, 255, b),
+        Class::Text => in_range(32, 126, b) || in_range(160, 255, b),
     }
 }
 
 // 0 for a byte of the class, else 1: many are joined by one `or`.
-pub fn flag(class: Class, b: u8) -> u8
+pub fn class_error_bit(class: Class, b: u8) -> u8
     ensures { λ r. ⌜ r ≡ cond (isOf class b) 0 1 ⌝ }
 {
     if is_of(class, b) { 0 } else { 1 }
@@ -47,7 +47,7 @@ pub fn all_of(class: Class, part: &[u8]) -> bool
     let mut flags: u8 = 0;
     let mut i = 0;
     while i < part.len() {
-        flags = flags | flag(class, part[i]);
+        flags = flags | class_error_bit(class, part[i]);
         i += 1;
     }
     flags == 0
@@ -102,7 +102,7 @@ fn search(class: Class, why: Reason, part: &[u8]) -> Answer
 }
 
 // Refused at the first byte that is not of the class; its place is looked for only where there is one.
-pub fn first_not(class: Class, why: Reason, part: &[u8]) -> Answer
+pub fn require_class(class: Class, why: Reason, part: &[u8]) -> Answer
     ensures { λ r. ⌜ r ≡ eachIs (isOf class) why 1 (now (part .entry)) ⌝ }
 {
     if rows_of(class, part) {
@@ -123,7 +123,7 @@ pub fn value(b: u8) -> u64
 
 // `n` with one digit more, or the largest number.
 fn with_digit(n: u64, digit: u64) -> u64
-    ensures { λ r. ⌜ r ≡ heldOf (n * 10 + digit) ⌝ }
+    ensures { λ r. ⌜ r ≡ capped (n * 10 + digit) ⌝ }
 {
     if 1844674407370955161 < n {
         return 18446744073709551615;
@@ -137,7 +137,7 @@ fn with_digit(n: u64, digit: u64) -> u64
 
 // A number of any length.
 fn long_number(part: &[u8]) -> u64
-    ensures { λ r. ⌜ r ≡ heldOf (numberOf (now (part .entry))) ⌝ }
+    ensures { λ r. ⌜ r ≡ capped (numberOf (now (part .entry))) ⌝ }
 {
     let mut n: u64 = 0;
     let mut i = 0;
@@ -148,7 +148,7 @@ fn long_number(part: &[u8]) -> u64
     n
 }
 
-fn low(b: u8) -> u64
+fn low_half(b: u8) -> u64
     ensures { λ r. ⌜ r ≡ b % 16 ⌝ }
 {
     (b % 16) as u64
@@ -164,14 +164,14 @@ pub fn low_number(part: &[u8]) -> u64
     let mut n: u64 = 0;
     let mut i = 0;
     while i < part.len() {
-        n = n * 10 + low(part[i]);
+        n = n * 10 + low_half(part[i]);
         i += 1;
     }
     n
 }
 
 pub fn number(part: &[u8]) -> u64
-    ensures { λ r. ⌜ r ≡ heldOf (numberOf (now (part .entry))) ⌝ }
+    ensures { λ r. ⌜ r ≡ capped (numberOf (now (part .entry))) ⌝ }
 {
     if 19 < part.len() {
         return long_number(part);
@@ -227,7 +227,7 @@ pub fn put(piece: &[u8], out: &mut [u8], at: usize)
 // Writes the digits of a number into a lent part, `width` of them from an index on.
 pub fn put_number(n: u64, width: usize, out: &mut [u8], at: usize) -> Answer
     ensures answer { λ r. ⌜ r ≡ widthAnswer width n ⌝ }
-    ensures bytes { λ r. ⌜ now (out .exit) ≡ kept r (putAt at (digitsOf width n) (now (out .entry))) (now (out .entry)) ⌝ }
+    ensures bytes { λ r. ⌜ now (out .exit) ≡ ifAccepted r (putAt at (digitsOf width n) (now (out .entry))) (now (out .entry)) ⌝ }
 {
     if !fits_width(n, width) {
         return Answer::Refused(Reason::TooWide, 1);

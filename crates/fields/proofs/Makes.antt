@@ -15,7 +15,7 @@ use Rattle.answer.specs.declared.Reason.the-variants.{WrongLength, NoDigit, Too
 use Rattle.answer.specs.declared.Answer.{Answer}
 use Rattle.answer.specs.declared.Answer.the-variants.{Accepted, Refused}
 use Rattle.answer.specs.Refusals.{answerPlace}
-use Rattle.answer.specs.Orders.{_then_, kept, movedBy, behind, heldBehind}
+use Rattle.answer.specs.Orders.{_then_, ifAccepted, movedBy, behind, cappedBehind}
 use Rattle.answer.proofs.Orders.{accepted-takes, asked-place, then-place, behind-is-held}
 use Rattle.decimal.specs.declared.Class.the-variants.{Digit}
 use Rattle.decimal.specs.Bytes.{isOf}
@@ -93,7 +93,7 @@ module _ (k : Kind) (w : ℕ) (given : List ℕ) (n : ℕ) where
   unfolding putAnswer
   put-money e q = rw (money-is k e, digits-accepted w n, then-none (widthAnswer w n)) q
 
-  pub put-money-bytes : (r : Answer) (old : List ℕ) {new : List ℕ} → isMoney k ≡ true → length old ≡ w → new ≡ kept r (putAt 0 (digitsOf w n) old) old → r ≡ Accepted
+  pub put-money-bytes : (r : Answer) (old : List ℕ) {new : List ℕ} → isMoney k ≡ true → length old ≡ w → new ≡ ifAccepted r (putAt 0 (digitsOf w n) old) old → r ≡ Accepted
       → new ≡ writtenOf k w given n
   put-money-bytes r old e l q a =
       rw (money-is k e) (q ∙ accepted-takes r (putAt 0 (digitsOf w n) old) old a ∙ put-whole (digitsOf w n) old (digits-fill w n .0 ∙ sym l))
@@ -224,7 +224,7 @@ module _ {f : Field} {fs : List Field} {given amounts made : List ℕ} {done at 
           let s : widthOf (stretchOf f) ≤ 150 = omega (arith, ends .1) in
           (rw asked-as (put-place (f .kind) (widthOf (stretchOf f)) (take (takes f) (drop at given)) (getD (drop used amounts) 0 0) l s), omega (arith, ends .0, ends .1))
 
-      pub refuses : {b : Answer} {why : Reason} {p : ℕ} → a ≡ Refused why p → b ≡ movedBy (heldBehind done) a → b ≡ r
+      pub refuses : {b : Answer} {why : Reason} {p : ℕ} → a ≡ Refused why p → b ≡ movedBy (cappedBehind done) a → b ≡ r
       refuses {b} {why} {p} e2 h =
           let z : pieceAnswer f (drop at given) (drop used amounts) ≡ Refused why (behind done p) =
           ap (movedBy (behind (f .first - 1))) (sym asked-as ∙ e2) ∙ ap (λ (k : ℕ). Refused why (behind k p)) front in
@@ -276,5 +276,5 @@ module _ (r : Record) (given amounts : List ℕ) {room : ℕ} where
   goes-on e q h = rw (eq-eqb room recordLength e, eq-eqb (length given) (givenLength r) q) h
 
 pub made-copied : (made out : List ℕ) {l x : List ℕ} {a : Answer} → length made ≡ length out → a ≡ Accepted → made ≡ x
-    → l ≡ take (length made) made ++ drop (length made) out → l ≡ kept a x out
+    → l ≡ take (length made) made ++ drop (length made) out → l ≡ ifAccepted a x out
 made-copied made out n e f q = rw e (copied made out n q ∙ f)

@@ -11,7 +11,7 @@ use lib.ListN.{length, getD, take, drop, replicate, length-append, length-drop, 
 use lib.Seq.{length-take-le, take-all, take-at, drop-at, drop-drop, take-take}
 use Rattle.answer.specs.declared.Reason.the-variants.{NoDigit, FixedDiffers, TooWide}
 use Rattle.answer.specs.declared.Answer.the-variants.{Accepted}
-use Rattle.answer.specs.Orders.{_then_, first, movedBy, behind}
+use Rattle.answer.specs.Orders.{_then_, firstRefusal, movedBy, behind}
 use Rattle.answer.proofs.Orders.{asked-accepts, then-accepts, moved-accepts}
 use Rattle.decimal.specs.declared.Class.the-variants.{Digit, Blank}
 use Rattle.decimal.specs.Bytes.{isOf, all}
@@ -26,7 +26,7 @@ use Rattle.layout.specs.Layouts.{recordLength, layoutOf, stretchOf, givenOf, gi
 use Rattle.layout.proofs.Layouts.{next, covers-end, fields-cover}
 use Rattle.layout.proofs.Tables.{every}
 use Rattle.kinds.specs.Kinds.{version, serviceOf, isSpelling, isService, same, kindAnswer}
-use Rattle.record.specs.Records.{partOf, fieldAnswer}
+use Rattle.record.specs.Records.{fieldBytes, fieldAnswer}
 use Rattle.fields.specs.Making.{writtenOf, isMoney, putAnswer, takes, pieceOf, pieceAnswer, amountsAfter, madeOf, makingAnswer, amountsIn, FieldsMakeTheRecord, MadeIsAccepted}
 use Rattle.kinds.proofs.KindLaws.{same-equal}
 use Rattle.fields.proofs.Makes.{layout-fits, other-is}
@@ -81,7 +81,7 @@ part-of-part rec a w m n h =
 
 -- what is given of a field, from the field's bytes
 given-part : (f : Field) (rec : List ℕ) → 1 ≤ f .first → fitsField f ≡ true
-    → take (givenOf (f .kind) (widthOf (stretchOf f)) .to - givenOf (f .kind) (widthOf (stretchOf f)) .from) (drop (givenOf (f .kind) (widthOf (stretchOf f)) .from) (partOf f rec))
+    → take (givenOf (f .kind) (widthOf (stretchOf f)) .to - givenOf (f .kind) (widthOf (stretchOf f)) .from) (drop (givenOf (f .kind) (widthOf (stretchOf f)) .from) (fieldBytes f rec))
     ≡ partAt (givenAt f) rec
 given-part f rec h t =
     let w = widthOf (stretchOf f) in
@@ -123,7 +123,7 @@ seam place last h k = omega arith
 
 -- Trip one, from a field on.
 made-from : (fs : List Field) (place : ℕ) (rec : List ℕ) → 1 ≤ place → length rec ≡ recordLength → covers place fs ≡ true → every fitsField fs ≡ true
-    → first (fieldAnswer rec) fs ≡ Accepted
+    → firstRefusal (fieldAnswer rec) fs ≡ Accepted
     → (makingAnswer fs (gather (map givenAt fs) rec) (amountsIn fs rec) ≡ Accepted) × (madeOf fs (gather (map givenAt fs) rec) (amountsIn fs rec) ≡ drop (place - 1) rec)
 unfolding fieldAnswer
 made-from [] place rec h n t q a =
@@ -132,23 +132,23 @@ made-from [] place rec h n t q a =
 made-from (f ∷ fs) place rec h n t q a =
     let x = next place f fs t in
     let fit = and-eq-true-iff (fitsField f) (every fitsField fs) .0 q in
-    let both = then-accepts (fieldAnswer rec f) (first (fieldAnswer rec) fs) .0 a in
-    let k = moved-accepts (behind (f .first - 1)) (kindAnswer (f .kind) (partOf f rec)) .0 (both .0) in
+    let both = then-accepts (fieldAnswer rec f) (firstRefusal (fieldAnswer rec) fs) .0 a in
+    let k = moved-accepts (behind (f .first - 1)) (kindAnswer (f .kind) (fieldBytes f rec)) .0 (both .0) in
     let one : 1 ≤ f .first = omega (arith, x .here) in
     let end : f .last ≤ recordLength = omega (arith, covers-end fs (f .last + 1) (x .rest)) in
     let w = widthOf (stretchOf f) in
-    let lb : length (partOf f rec) ≡ w = length-take-le w (drop (f .first - 1) rec) (omega (arith, length-drop (f .first - 1) rec, x .here, x .wide)) in
+    let lb : length (fieldBytes f rec) ≡ w = length-take-le w (drop (f .first - 1) rec) (omega (arith, length-drop (f .first - 1) rec, x .here, x .wide)) in
     let g = partAt (givenAt f) rec in
     let rest = gather (map givenAt fs) rec in
     let amounts = amountsIn fs rec in
     let gp = given-part f rec one (fit .0) in
-    let wb : writtenOf (f .kind) w g (numberOf (partOf f rec)) ≡ partOf f rec =
-    ap (λ (l : List ℕ). writtenOf (f .kind) w l (numberOf (partOf f rec))) (sym gp) ∙ written-back (f .kind) w (partOf f rec) lb (fit .0) k in
-    let p = put-back (f .kind) w g amounts (partOf f rec) lb k wb in
+    let wb : writtenOf (f .kind) w g (numberOf (fieldBytes f rec)) ≡ fieldBytes f rec =
+    ap (λ (l : List ℕ). writtenOf (f .kind) w l (numberOf (fieldBytes f rec))) (sym gp) ∙ written-back (f .kind) w (fieldBytes f rec) lb (fit .0) k in
+    let p = put-back (f .kind) w g amounts (fieldBytes f rec) lb k wb in
     let lg : length g ≡ takes f = given-length f rec one (fit .0) (omega (arith, x .here, x .wide)) end n in
     let tg : take (takes f) (g ++ rest) ≡ g = take-at g rest (takes f) lg in
     let dg : drop (takes f) (g ++ rest) ≡ rest = drop-at g rest (takes f) lg in
-    let am = after-is (isMoney (f .kind)) (numberOf (partOf f rec)) amounts in
+    let am = after-is (isMoney (f .kind)) (numberOf (fieldBytes f rec)) amounts in
     let ih = made-from fs (f .last + 1) rec (omega arith) n (x .rest) (fit .1) (both .1) in
     let e = seam place (f .last) h (x .wide) in (
       rw (tg, dg, am) (then-accepts _ _ .1 (ap (movedBy (behind (f .first - 1))) (p .0), ih .0)),
@@ -196,7 +196,7 @@ asked-kind k w piece n e = then-accepts (cond (isMoney k) (widthAnswer w n) Acce
 made-accepts : (fs : List Field) (pre given amounts : List ℕ) → covers (length pre + 1) fs ≡ true → every fitsField fs ≡ true → widthsOf (map givenAt fs) ≡ length given
     → makingAnswer fs given amounts ≡ Accepted
     → (length (pre ++ madeOf fs given amounts) ≡ recordLength)
-    × (first (fieldAnswer (pre ++ madeOf fs given amounts)) fs ≡ Accepted)
+    × (firstRefusal (fieldAnswer (pre ++ madeOf fs given amounts)) fs ≡ Accepted)
     × (gather (map givenAt fs) (pre ++ madeOf fs given amounts) ≡ given)
 unfolding fieldAnswer
 made-accepts [] pre given amounts t q n a =
@@ -215,7 +215,7 @@ made-accepts (f ∷ fs) pre given amounts t q n a =
     let lw : length piece ≡ w = written-length (f .kind) w (take (takes f) given) (getD amounts 0 0) (fit .0) lg in
     let rest = madeOf fs (drop (takes f) given) (amountsAfter f amounts) in
     let k = asked-kind (f .kind) w (take (takes f) given) (getD amounts 0 0) (moved-accepts (behind (f .first - 1)) (putAnswer (f .kind) w (take (takes f) given) (getD amounts 0 0)) .0 (both .0)) in
-    let m : partOf f (pre ++ (piece ++ rest)) ≡ piece = middle pre piece rest (f .first - 1) w front lw in
+    let m : fieldBytes f (pre ++ (piece ++ rest)) ≡ piece = middle pre piece rest (f .first - 1) w front lw in
     let lp : length (pre ++ piece) + 1 ≡ f .last + 1 = ap (λ (v : ℕ). v + 1) (length-append pre piece) ∙ joint (length pre) (length piece) (f .first) (f .last) (x .here) (x .wide) lw in
     let cv : covers (length (pre ++ piece) + 1) fs ≡ true = rw lp (x .rest) in
     let ln : widthsOf (map givenAt fs) ≡ length (drop (takes f) given) = rw (length-drop (takes f) given) (omega arith) in

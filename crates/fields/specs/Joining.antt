@@ -7,13 +7,13 @@ use lib.ListN.{length, getD}
 use Rattle.answer.specs.declared.Reason.the-variants.{WrongLength, NotExpected}
 use Rattle.answer.specs.declared.Answer.{Answer}
 use Rattle.answer.specs.declared.Answer.the-variants.{Refused}
-use Rattle.answer.specs.Orders.{asked, _then_}
-use Rattle.layout.specs.declared.Named.{Named}
-use Rattle.layout.specs.declared.Named.the-variants.{Is, Other}
+use Rattle.answer.specs.Orders.{require, _then_}
+use Rattle.layout.specs.declared.MaybeRecord.{MaybeRecord}
+use Rattle.layout.specs.declared.MaybeRecord.the-variants.{Is, Other}
 use Rattle.layout.specs.declared.Record.{Record}
 use Rattle.layout.specs.declared.Record.the-variants.{Header, Payment, Trailer}
 use Rattle.layout.specs.Layouts.{recordLength, namedBy, givenLength, joinedOf}
-use Rattle.record.specs.Records.{bodyAnswer}
+use Rattle.record.specs.Records.{layoutAnswer}
 
 -- A and G are given to the writer; the trailer is its own
 abbrev pub isGiven : Record → Bool
@@ -22,14 +22,14 @@ isGiven Payment = true
 isGiven Trailer = false
 
 -- 9 for a record that has no field bytes, 1 for a room of another length, then the fields
-abbrev pub namedJoin : Named → List ℕ → ℕ → Answer
+abbrev pub namedJoin : MaybeRecord → List ℕ → ℕ → Answer
 namedJoin (Is r) rec room =
-    asked (isGiven r) NotExpected 1 then asked (eqb room (givenLength r)) WrongLength 0 then bodyAnswer r rec
+    require (isGiven r) NotExpected 1 then require (eqb room (givenLength r)) WrongLength 0 then layoutAnswer r rec
 namedJoin Other rec room = Refused NotExpected 1
 
 unfoldable pub joinAnswer : List ℕ → ℕ → Answer
-joinAnswer rec room = asked (eqb (length rec) recordLength) WrongLength 0 then namedJoin (namedBy (getD rec 0 0)) rec room
+joinAnswer rec room = require (eqb (length rec) recordLength) WrongLength 0 then namedJoin (namedBy (getD rec 0 0)) rec room
 
-abbrev pub joinedIn : Named → List ℕ → List ℕ
+abbrev pub joinedIn : MaybeRecord → List ℕ → List ℕ
 joinedIn (Is r) rec = joinedOf r rec
 joinedIn Other rec = []

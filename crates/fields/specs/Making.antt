@@ -8,7 +8,7 @@ use lib.ListN.{length, getD, take, drop, replicate}
 use Rattle.answer.specs.declared.Reason.the-variants.{WrongLength}
 use Rattle.answer.specs.declared.Answer.{Answer}
 use Rattle.answer.specs.declared.Answer.the-variants.{Accepted}
-use Rattle.answer.specs.Orders.{asked, _then_, movedBy, behind}
+use Rattle.answer.specs.Orders.{require, _then_, movedBy, behind}
 use Rattle.decimal.specs.Numbers.{numberOf, digitsOf, widthAnswer}
 use Rattle.decimal.specs.Places.{widthOf}
 use Rattle.layout.specs.declared.Field.{Field}
@@ -17,7 +17,7 @@ use Rattle.layout.specs.declared.Kind.the-variants.{Mark, Version, Service, Bla
 use Rattle.layout.specs.declared.Record.{Record}
 use Rattle.layout.specs.Layouts.{recordLength, layoutOf, stretchOf, givenAt, givenLength, joinedOf}
 use Rattle.kinds.specs.Kinds.{version, serviceOf, kindAnswer}
-use Rattle.record.specs.Records.{partOf, bodyAnswer}
+use Rattle.record.specs.Records.{fieldBytes, layoutAnswer}
 
 -- a field's bytes: what is fixed, the digits of an amount, else the bytes that are given for it
 abbrev pub writtenOf : Kind → ℕ → List ℕ → ℕ → List ℕ
@@ -78,19 +78,19 @@ makingAnswer (f ∷ fs) given amounts =
 -- 1 for the room lent and for the field bytes, then the fields
 unfoldable pub makeAnswer : Record → List ℕ → List ℕ → ℕ → Answer
 makeAnswer r given amounts room =
-    asked (eqb room recordLength && eqb (length given) (givenLength r)) WrongLength 0 then makingAnswer (layoutOf r) given amounts
+    require (eqb room recordLength && eqb (length given) (givenLength r)) WrongLength 0 then makingAnswer (layoutOf r) given amounts
 
 -- the amounts of the money fields of a record, in record order
 abbrev pub amountsIn : List Field → List ℕ → List ℕ
 amountsIn [] rec = []
-amountsIn (f ∷ fs) rec = cond (isMoney (f .kind)) (numberOf (partOf f rec) ∷ amountsIn fs rec) (amountsIn fs rec)
+amountsIn (f ∷ fs) rec = cond (isMoney (f .kind)) (numberOf (fieldBytes f rec) ∷ amountsIn fs rec) (amountsIn fs rec)
 
 -- Promises.
 
 -- the fields of an accepted record write back the same bytes
 abbrev pub FieldsMakeTheRecord : Type 0
 FieldsMakeTheRecord =
-    (r : Record) (rec : List ℕ) → length rec ≡ recordLength → bodyAnswer r rec ≡ Accepted
+    (r : Record) (rec : List ℕ) → length rec ≡ recordLength → layoutAnswer r rec ≡ Accepted
     → (makingAnswer (layoutOf r) (joinedOf r rec) (amountsIn (layoutOf r) rec) ≡ Accepted)
     × (madeOf (layoutOf r) (joinedOf r rec) (amountsIn (layoutOf r) rec) ≡ rec)
 
@@ -99,5 +99,5 @@ abbrev pub MadeIsAccepted : Type 0
 MadeIsAccepted =
     (r : Record) (given amounts : List ℕ) → length given ≡ givenLength r → makingAnswer (layoutOf r) given amounts ≡ Accepted
     → (length (madeOf (layoutOf r) given amounts) ≡ recordLength)
-    × (bodyAnswer r (madeOf (layoutOf r) given amounts) ≡ Accepted)
+    × (layoutAnswer r (madeOf (layoutOf r) given amounts) ≡ Accepted)
     × (joinedOf r (madeOf (layoutOf r) given amounts) ≡ given)

@@ -2,18 +2,18 @@
 ghost use Prim.Native.Nat.{_≤_};
 ghost use mathlib.Core.Path.{_≡_};
 ghost use lib.ListN.{length, getD};
-ghost use Rattle.answer.specs.Orders.{kept};
+ghost use Rattle.answer.specs.Orders.{ifAccepted};
 ghost use Rattle.decimal.specs.Places.{partAt};
 ghost use Rattle.layout.specs.Layouts.{recordLength, namedBy, givenAt, givenLength, joinedOf, InRecord};
 ghost use Rattle.fields.specs.Making.{takes};
 ghost use Rattle.fields.specs.Joining.{isGiven, namedJoin, joinAnswer, joinedIn};
-ghost use Rattle.layout.specs.declared.Named.the-variants as named;
+ghost use Rattle.layout.specs.declared.MaybeRecord.the-variants as named;
 use crate::pieces::copy_all;
 use crate::pieces::takes;
 use answer::Answer;
 use answer::Reason;
 use layout::Field;
-use layout::Named;
+use layout::MaybeRecord;
 use layout::Record;
 
 fn is_given(which: Record) -> bool
@@ -61,7 +61,7 @@ fn join_named(which: Record, rec: &[u8], out: &mut [u8]) -> Answer
     requires { ⌜ length (now rec) ≡ recordLength ⌝ }
     requires { ⌜ namedBy (getD (now rec) 0 0) ≡ named.Is which ⌝ }
     ensures answer { λ r. ⌜ r ≡ namedJoin (named.Is which) (now (rec .entry)) (length (now (out .entry))) ⌝ }
-    ensures bytes { λ r. ⌜ now (out .exit) ≡ kept r (joinedOf which (now (rec .entry))) (now (out .entry)) ⌝ }
+    ensures bytes { λ r. ⌜ now (out .exit) ≡ ifAccepted r (joinedOf which (now (rec .entry))) (now (out .entry)) ⌝ }
 {
     if !is_given(which) {
         return Answer::Refused(Reason::NotExpected, 1);
@@ -82,13 +82,13 @@ fn join_named(which: Record, rec: &[u8], out: &mut [u8]) -> Answer
 // A refusal leaves the lent bytes as they were.
 pub fn join(rec: &[u8], out: &mut [u8]) -> Answer
     ensures answer { λ r. ⌜ r ≡ joinAnswer (now (rec .entry)) (length (now (out .entry))) ⌝ }
-    ensures bytes { λ r. ⌜ now (out .exit) ≡ kept r (joinedIn (namedBy (getD (now (rec .entry)) 0 0)) (now (rec .entry))) (now (out .entry)) ⌝ }
+    ensures bytes { λ r. ⌜ now (out .exit) ≡ ifAccepted r (joinedIn (namedBy (getD (now (rec .entry)) 0 0)) (now (rec .entry))) (now (out .entry)) ⌝ }
 {
     if rec.len() != layout::LENGTH {
         return Answer::Refused(Reason::WrongLength, 0);
     }
     match layout::named_by(rec[0]) {
-        Named::Is(which) => join_named(which, rec, out),
-        Named::Other => Answer::Refused(Reason::NotExpected, 1),
+        MaybeRecord::Is(which) => join_named(which, rec, out),
+        MaybeRecord::Other => Answer::Refused(Reason::NotExpected, 1),
     }
 }

@@ -5,7 +5,7 @@ ghost use mathlib.Core.List.{[], _∷_};
 ghost use mathlib.Core.Path.{_≡_};
 ghost use lib.ListN.{length, getD, replicate};
 ghost use Rattle.answer.specs.declared.Answer.the-variants as answers;
-ghost use Rattle.answer.specs.Orders.{kept};
+ghost use Rattle.answer.specs.Orders.{ifAccepted};
 ghost use Rattle.layout.specs.Layouts.{recordLength, layoutOf, givenLength};
 ghost use Rattle.kinds.specs.Kinds.{serviceOf};
 ghost use Rattle.fields.specs.Making.{writtenOf, isMoney, putAnswer, madeOf, makingAnswer, makeAnswer};
@@ -151,7 +151,7 @@ fn make_rows(which: Record, given: &[u8], first: u64, second: u64, made: &mut [u
 // A refusal leaves the lent bytes as they were.
 pub fn make(which: Record, given: &[u8], first: u64, second: u64, out: &mut [u8]) -> Answer
     ensures answer { λ r. ⌜ r ≡ makeAnswer which (now (given .entry)) (first ∷ second ∷ []) (length (now (out .entry))) ⌝ }
-    ensures bytes { λ r. ⌜ now (out .exit) ≡ kept r (madeOf (layoutOf which) (now (given .entry)) (first ∷ second ∷ [])) (now (out .entry)) ⌝ }
+    ensures bytes { λ r. ⌜ now (out .exit) ≡ ifAccepted r (madeOf (layoutOf which) (now (given .entry)) (first ∷ second ∷ [])) (now (out .entry)) ⌝ }
 {
     if out.len() != layout::LENGTH {
         return Answer::Refused(Reason::WrongLength, 0);

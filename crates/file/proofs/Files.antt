@@ -13,16 +13,16 @@ use Rattle.answer.specs.declared.Reason.{Reason}
 use Rattle.answer.specs.declared.Reason.the-variants.{CountDiffers, TotalDiffers, FileFull, FileTotalPassed}
 use Rattle.answer.specs.declared.Answer.{Answer}
 use Rattle.answer.specs.declared.Answer.the-variants.{Accepted, Refused}
-use Rattle.answer.specs.Orders.{asked, _then_, kept}
+use Rattle.answer.specs.Orders.{require, _then_, ifAccepted}
 use Rattle.answer.proofs.Orders.{asked-accepts, then-accepts, refusal-keeps}
 use Rattle.file.specs.declared.File.{File}
 use Rattle.file.specs.declared.Figures.{Figures}
-use Rattle.file.specs.Files.{mostPayments, mostCentavos, freshFile, fileAnswer, fileWith, figuresAnswer, closingAnswer, Within, fileAnswers, fileWithAll, receivedOf, FileAccepts, RefusalKeepsFile, StaysWithin, FreshFileTakes, FreshFileHolds, OneRightTrailer, ClosingAccepts, FiguresFit}
+use Rattle.file.specs.Files.{mostPayments, mostCentavos, freshFile, fileAnswer, fileWith, figuresAnswer, closingAnswer, FileWithin, fileAnswers, fileWithAll, receivedOf, FileAccepts, RefusalKeepsFile, StaysWithin, FreshFileTakes, FreshFileHolds, OneRightTrailer, ClosingAccepts, FiguresFit}
 
 -- two questions are both accepted exactly when both tests hold
-both : (s t : Bool) (v w : Reason) (p q : ℕ) → (asked s v p then asked t w q ≡ Accepted) ↔ ((s ≡ true) × (t ≡ true))
+both : (s t : Bool) (v w : Reason) (p q : ℕ) → (require s v p then require t w q ≡ Accepted) ↔ ((s ≡ true) × (t ≡ true))
 both s t v w p q =
-    let two = then-accepts (asked s v p) (asked t w q) in
+    let two = then-accepts (require s v p) (require t w q) in
     let a = asked-accepts s v p in
     let b = asked-accepts t w q in
     (λ e. (a .0 (two .0 e .0), b .0 (two .0 e .1)), λ h. two .1 (a .1 (h .0), b .1 (h .1)))
@@ -41,20 +41,20 @@ refusal-keeps-file f received h = refusal-keeps (fileAnswer f received) (fileWit
 pub stays-within : StaysWithin
 stays-within = (record { taken = omega arith; total = omega arith }, λ f received w. go f received w (fileAnswer f received) refl)
   where
-    go : (f : File) (received : ℕ) → Within f → (a : Answer) → fileAnswer f received ≡ a → Within (kept a (fileWith f received) f)
+    go : (f : File) (received : ℕ) → FileWithin f → (a : Answer) → fileAnswer f received ≡ a → FileWithin (ifAccepted a (fileWith f received) f)
     go f received w Accepted e =
         let h = file-accepts f received .0 e in
         record { taken = omega arith; total = h .1 }
     go f received w (Refused why p) e = w
 
 -- from any file within its limits on
-takes : (f : File) → Within f → (xs : List ℕ)
+takes : (f : File) → FileWithin f → (xs : List ℕ)
     → (fileAnswers f xs ≡ Accepted) ↔ ((f .taken + length xs ≤ mostPayments) × (f .total + receivedOf xs ≤ mostCentavos))
 takes f w [] = (λ e. (omega (arith, w .taken), omega (arith, w .total)), λ h. refl)
 takes f w (x ∷ xs) =
     let two = then-accepts (fileAnswer f x) (fileAnswers (fileWith f x) xs) in
     let one = file-accepts f x in
-    let next : (f .taken < mostPayments) × (f .total + x ≤ mostCentavos) → Within (fileWith f x) = λ h. record { taken = omega arith; total = h .1 } in (
+    let next : (f .taken < mostPayments) × (f .total + x ≤ mostCentavos) → FileWithin (fileWith f x) = λ h. record { taken = omega arith; total = h .1 } in (
       λ e.
           let h = one .0 (two .0 e .0) in
           let k = takes (fileWith f x) (next h) xs .0 (two .0 e .1) in

@@ -9,11 +9,11 @@ use Rattle.answer.specs.Refusals.{receivedPlace}
 use Rattle.answer.specs.declared.Reason.the-variants.{CountDiffers, TotalDiffers, FileFull, FileTotalPassed}
 use Rattle.answer.specs.declared.Answer.{Answer}
 use Rattle.answer.specs.declared.Answer.the-variants.{Accepted}
-use Rattle.answer.specs.Orders.{asked, _then_, kept}
+use Rattle.answer.specs.Orders.{require, _then_, ifAccepted}
 use Rattle.file.specs.declared.File.{File}
-use Rattle.file.specs.declared.Taken.{Taken}
+use Rattle.file.specs.declared.FileResult.{FileResult}
 use Rattle.file.specs.declared.Figures.{Figures}
-use Rattle.file.specs.declared.Closed.{Closed}
+use Rattle.file.specs.declared.CloseResult.{CloseResult}
 
 -- the most payments of a file, and the most centavos
 abbrev pub mostPayments : ℕ
@@ -28,15 +28,15 @@ freshFile = record { taken = 0; total = 0 }
 -- 15, a payment when the most were taken; 16, a payment that takes the total past the most
 unfoldable pub fileAnswer : File → ℕ → Answer
 fileAnswer f received =
-    asked (ltb (f .taken) mostPayments) FileFull 1 then asked (leb (f .total + received) mostCentavos) FileTotalPassed receivedPlace
+    require (ltb (f .taken) mostPayments) FileFull 1 then require (leb (f .total + received) mostCentavos) FileTotalPassed receivedPlace
 
 -- the file with one payment more
 abbrev pub fileWith : File → ℕ → File
 fileWith f received = record { taken = f .taken + 1; total = f .total + received }
 
-abbrev pub takenOf : File → ℕ → Taken
-takenOf f received =
-    record { answer = fileAnswer f received; file = kept (fileAnswer f received) (fileWith f received) f }
+abbrev pub fileResultOf : File → ℕ → FileResult
+fileResultOf f received =
+    record { answer = fileAnswer f received; file = ifAccepted (fileAnswer f received) (fileWith f received) f }
 
 -- the figures of the one right trailer: header and trailer are counted
 abbrev pub figuresOf : File → Figures
@@ -52,19 +52,19 @@ totalPlace = 8
 -- 13, then 14: a trailer that shows other figures
 unfoldable pub figuresAnswer : File → Figures → Answer
 figuresAnswer f shown =
-    asked (eqb (shown .count) (figuresOf f .count)) CountDiffers countPlace
-    then asked (eqb (shown .total) (figuresOf f .total)) TotalDiffers totalPlace
+    require (eqb (shown .count) (figuresOf f .count)) CountDiffers countPlace
+    then require (eqb (shown .total) (figuresOf f .total)) TotalDiffers totalPlace
 
 -- 15, then 16: a file put together by hand whose figures have no room in a trailer
 unfoldable pub closingAnswer : File → Answer
-closingAnswer f = asked (leb (f .taken) mostPayments) FileFull 1 then asked (leb (f .total) mostCentavos) FileTotalPassed receivedPlace
+closingAnswer f = require (leb (f .taken) mostPayments) FileFull 1 then require (leb (f .total) mostCentavos) FileTotalPassed receivedPlace
 
-abbrev pub closedOf : File → Closed
-closedOf f =
-    record { answer = closingAnswer f; figures = kept (closingAnswer f) (figuresOf f) (record { count = 0; total = 0 }) }
+abbrev pub closeResultOf : File → CloseResult
+closeResultOf f =
+    record { answer = closingAnswer f; figures = ifAccepted (closingAnswer f) (figuresOf f) (record { count = 0; total = 0 }) }
 
 -- what holds of every file that the methods make
-pub record Within (f : File) : Type 0 where
+pub record FileWithin (f : File) : Type 0 where
   pub taken : f .taken ≤ mostPayments
   pub total : f .total ≤ mostCentavos
 
@@ -89,10 +89,10 @@ FileAccepts =
     → (fileAnswer f received ≡ Accepted) ↔ ((f .taken < mostPayments) × (f .total + received ≤ mostCentavos))
 
 abbrev pub RefusalKeepsFile : Type 0
-RefusalKeepsFile = (f : File) (received : ℕ) → (takenOf f received .answer ≡ Accepted → ⊥) → takenOf f received .file ≡ f
+RefusalKeepsFile = (f : File) (received : ℕ) → (fileResultOf f received .answer ≡ Accepted → ⊥) → fileResultOf f received .file ≡ f
 
 abbrev pub StaysWithin : Type 0
-StaysWithin = Within freshFile × ((f : File) (received : ℕ) → Within f → Within (takenOf f received .file))
+StaysWithin = FileWithin freshFile × ((f : File) (received : ℕ) → FileWithin f → FileWithin (fileResultOf f received .file))
 
 -- Promises: of a file's payments, with no file. A fresh file takes a list exactly when it is within the limits, and counts and adds it up.
 
@@ -108,7 +108,7 @@ abbrev pub OneRightTrailer : Type 0
 OneRightTrailer = (f : File) (shown : Figures) → (figuresAnswer f shown ≡ Accepted) ↔ (shown ≡ figuresOf f)
 
 abbrev pub ClosingAccepts : Type 0
-ClosingAccepts = (f : File) → (closingAnswer f ≡ Accepted) ↔ Within f
+ClosingAccepts = (f : File) → (closingAnswer f ≡ Accepted) ↔ FileWithin f
 
 abbrev pub FiguresFit : Type 0
-FiguresFit = (f : File) → Within f → (figuresOf f .count < 10 ^ 6) × (figuresOf f .total < 10 ^ 17)
+FiguresFit = (f : File) → FileWithin f → (figuresOf f .count < 10 ^ 6) × (figuresOf f .total < 10 ^ 17)

@@ -1,6 +1,6 @@
 // The open file: what it took so far, the questions to one payment more, and the trailer that is right for it.
 ghost use mathlib.Core.Path.{_≡_};
-ghost use Rattle.file.specs.Files.{freshFile, takenOf, figuresAnswer, closedOf};
+ghost use Rattle.file.specs.Files.{freshFile, fileResultOf, figuresAnswer, closeResultOf};
 use answer::Answer;
 use answer::Reason;
 
@@ -12,7 +12,7 @@ pub struct File {
 }
 
 // A refusal leaves the file as it was.
-pub struct Taken {
+pub struct FileResult {
     pub answer: Answer,
     pub file: File,
 }
@@ -24,7 +24,7 @@ pub struct Figures {
 }
 
 // The figures are zeros where the file is refused.
-pub struct Closed {
+pub struct CloseResult {
     pub answer: Answer,
     pub figures: Figures,
 }
@@ -41,29 +41,29 @@ impl File {
     }
 
     // One payment more: 15, 16, or the file with it.
-    pub fn take(self, received: u64) -> Taken
-        ensures { λ r. ⌜ r ≡ takenOf self received ⌝ }
+    pub fn take(self, received: u64) -> FileResult
+        ensures { λ r. ⌜ r ≡ fileResultOf self received ⌝ }
     {
         if Self::PAYMENTS <= self.taken {
-            return Taken {
+            return FileResult {
                 answer: Answer::Refused(Reason::FileFull, 1),
                 file: self,
             };
         }
         // No sum is made before it is known to fit.
         if Self::TOTAL < self.total {
-            return Taken {
+            return FileResult {
                 answer: Answer::Refused(Reason::FileTotalPassed, answer::RECEIVED_PLACE),
                 file: self,
             };
         }
         if Self::TOTAL - self.total < received {
-            return Taken {
+            return FileResult {
                 answer: Answer::Refused(Reason::FileTotalPassed, answer::RECEIVED_PLACE),
                 file: self,
             };
         }
-        Taken {
+        FileResult {
             answer: Answer::Accepted,
             file: File {
                 taken: self.taken + 1,
@@ -73,7 +73,7 @@ impl File {
     }
 
     // The trailer that is read: 13 or 14 where it does not show this file's figures.
-    pub fn judge(self, shown: Figures) -> Answer
+    pub fn check_trailer(self, shown: Figures) -> Answer
         ensures { λ r. ⌜ r ≡ figuresAnswer self shown ⌝ }
     {
         if shown.count < 2 {
@@ -89,23 +89,23 @@ impl File {
     }
 
     // The trailer to write: 15 or 16 where a figure has no room in it, as only a file put together by hand can have.
-    pub fn close(self) -> Closed
-        ensures { λ r. ⌜ r ≡ closedOf self ⌝ }
+    pub fn close(self) -> CloseResult
+        ensures { λ r. ⌜ r ≡ closeResultOf self ⌝ }
     {
         let none = Figures { count: 0, total: 0 };
         if Self::PAYMENTS < self.taken {
-            return Closed {
+            return CloseResult {
                 answer: Answer::Refused(Reason::FileFull, 1),
                 figures: none,
             };
         }
         if Self::TOTAL < self.total {
-            return Closed {
+            return CloseResult {
                 answer: Answer::Refused(Reason::FileTotalPassed, answer::RECEIVED_PLACE),
                 figures: none,
             };
         }
-        Closed {
+        CloseResult {
             answer: Answer::Accepted,
             figures: Figures {
                 count: self.taken + 2,

@@ -13,15 +13,15 @@ use Rattle.answer.specs.declared.Reason.{Reason}
 use Rattle.answer.specs.declared.Reason.the-variants.{NoDigit, NoText, FixedDiffers, NoDate, UnknownCode}
 use Rattle.answer.specs.declared.Answer.the-variants.{Accepted, Refused}
 use Rattle.answer.specs.Refusals.{answerPlace}
-use Rattle.answer.specs.Orders.{asked, _then_}
+use Rattle.answer.specs.Orders.{require, _then_}
 use Rattle.answer.proofs.Orders.{asked-place, then-place}
 use Rattle.decimal.specs.declared.Class.the-variants as class
 use Rattle.decimal.specs.declared.Class.the-variants.{Digit}
 use Rattle.decimal.specs.Bytes.{isOf, all, eachIs}
 use Rattle.decimal.proofs.Bytes.{each-accepts, each-place}
 use Rattle.calendar.specs.declared.Date.{Date}
-use Rattle.calendar.specs.declared.Dated.the-variants.{On, NoDate as none}
-use Rattle.calendar.specs.Dates.{isDate, spelled, dateOf, isOne}
+use Rattle.calendar.specs.declared.MaybeDate.the-variants.{On, NoDate as none}
+use Rattle.calendar.specs.Dates.{isDate, spelled, dateOf, isFound}
 use Rattle.barcode.proofs.Codes.{code-place}
 use Rattle.layout.specs.declared.Kind.{Kind}
 use Rattle.layout.specs.declared.Kind.the-variants as kind
@@ -72,7 +72,7 @@ unfolding kindAnswer
 no-date bs e = rw e
 
 -- no place of an answer lies far past a field of a record
-at-first : (t : Bool) (why : Reason) → answerPlace (asked t why 1) ≤ 151
+at-first : (t : Bool) (why : Reason) → answerPlace (require t why 1) ≤ 151
 at-first t why = asked-place 151 t why 1 (omega arith)
 
 in-part : (ok : ℕ → Bool) (why : Reason) (bs : List ℕ) → length bs ≤ 150 → answerPlace (eachIs ok why 1 bs) ≤ 151
@@ -88,7 +88,7 @@ kind-place kind.Text bs h = in-part (isOf class.Text) NoText bs h
 kind-place kind.Digits bs h = in-part (isOf Digit) NoDigit bs h
 kind-place kind.Money bs h = in-part (isOf Digit) NoDigit bs h
 kind-place kind.Date bs h =
-    then-place 151 (eachIs (isOf Digit) NoDigit 1 bs) (asked (isOne (dateOf bs)) NoDate 1) (in-part (isOf Digit) NoDigit bs h) (at-first (isOne (dateOf bs)) NoDate)
+    then-place 151 (eachIs (isOf Digit) NoDigit 1 bs) (require (isFound (dateOf bs)) NoDate 1) (in-part (isOf Digit) NoDigit bs h) (at-first (isFound (dateOf bs)) NoDate)
 kind-place kind.Barcode bs h = omega (arith, code-place bs)
 kind-place kind.Capture bs h = at-first (isCapture (getD bs 0 0)) UnknownCode
 kind-place kind.Form bs h = at-first (isForm (getD bs 0 0)) UnknownCode

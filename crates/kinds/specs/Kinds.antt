@@ -6,10 +6,10 @@ use lib.Dec.{eqb}
 use lib.ListN.{getD}
 use Rattle.answer.specs.declared.Reason.the-variants.{NoDigit, NoText, FixedDiffers, NoDate, UnknownCode}
 use Rattle.answer.specs.declared.Answer.{Answer}
-use Rattle.answer.specs.Orders.{asked, _then_}
+use Rattle.answer.specs.Orders.{require, _then_}
 use Rattle.decimal.specs.declared.Class.the-variants as class
 use Rattle.decimal.specs.Bytes.{within, isOf, all, eachIs}
-use Rattle.calendar.specs.Dates.{dateOf, isOne}
+use Rattle.calendar.specs.Dates.{dateOf, isFound}
 use Rattle.barcode.specs.Codes.{barcodeAnswer}
 use Rattle.layout.specs.declared.Kind.{Kind}
 use Rattle.layout.specs.declared.Kind.the-variants.{Mark, Version, Service, Blank, Text, Digits, Money, Date, Barcode, Capture, Form}
@@ -45,14 +45,14 @@ isForm b = within 49 51 b
 
 -- A field's bytes, answered with places in the field. Only this definition knows what a kind asks.
 unfoldable pub kindAnswer : Kind → List ℕ → Answer
-kindAnswer (Mark byte) bs = asked (same bs (byte ∷ [])) FixedDiffers 1
-kindAnswer Version bs = asked (same bs version) FixedDiffers 1
-kindAnswer Service bs = asked (isService bs) FixedDiffers 1
-kindAnswer Blank bs = asked (all (isOf class.Blank) bs) FixedDiffers 1
+kindAnswer (Mark byte) bs = require (same bs (byte ∷ [])) FixedDiffers 1
+kindAnswer Version bs = require (same bs version) FixedDiffers 1
+kindAnswer Service bs = require (isService bs) FixedDiffers 1
+kindAnswer Blank bs = require (all (isOf class.Blank) bs) FixedDiffers 1
 kindAnswer Text bs = eachIs (isOf class.Text) NoText 1 bs
 kindAnswer Digits bs = eachIs (isOf class.Digit) NoDigit 1 bs
 kindAnswer Money bs = eachIs (isOf class.Digit) NoDigit 1 bs
-kindAnswer Date bs = eachIs (isOf class.Digit) NoDigit 1 bs then asked (isOne (dateOf bs)) NoDate 1
+kindAnswer Date bs = eachIs (isOf class.Digit) NoDigit 1 bs then require (isFound (dateOf bs)) NoDate 1
 kindAnswer Barcode bs = barcodeAnswer bs
-kindAnswer Capture bs = asked (isCapture (getD bs 0 0)) UnknownCode 1
-kindAnswer Form bs = asked (isForm (getD bs 0 0)) UnknownCode 1
+kindAnswer Capture bs = require (isCapture (getD bs 0 0)) UnknownCode 1
+kindAnswer Form bs = require (isForm (getD bs 0 0)) UnknownCode 1

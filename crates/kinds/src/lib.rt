@@ -2,12 +2,12 @@
 ghost use mathlib.Core.Path.{_≡_};
 ghost use mathlib.Core.List.{[], _∷_};
 ghost use lib.ListN.{getD};
-ghost use Rattle.answer.specs.Orders.{asked};
+ghost use Rattle.answer.specs.Orders.{require};
 ghost use Rattle.decimal.specs.Bytes.{within};
 ghost use Rattle.kinds.specs.Kinds.{same, serviceOf, isSpelling, isService, isCapture, isForm, kindAnswer};
 use answer::Answer;
 use answer::Reason;
-use calendar::Dated;
+use calendar::MaybeDate;
 use decimal::Class;
 use layout::Kind;
 
@@ -34,8 +34,8 @@ pub fn byte_at(part: &[u8], i: usize) -> u8
     if i < part.len() { part[i] } else { 0 }
 }
 
-fn unless(ok: bool, why: Reason) -> Answer
-    ensures { λ r. ⌜ r ≡ asked ok why 1 ⌝ }
+fn require(ok: bool, why: Reason) -> Answer
+    ensures { λ r. ⌜ r ≡ require ok why 1 ⌝ }
 {
     if ok {
         Answer::Accepted
@@ -98,7 +98,7 @@ fn is_service(part: &[u8]) -> bool
     same_bytes(part, &spelled)
 }
 
-fn between(lo: u8, hi: u8, b: u8) -> bool
+fn in_range(lo: u8, hi: u8, b: u8) -> bool
     ensures { λ r. ⌜ r ≡ within lo hi b ⌝ }
 {
     lo <= b && b <= hi
@@ -107,13 +107,13 @@ fn between(lo: u8, hi: u8, b: u8) -> bool
 pub fn is_capture(b: u8) -> bool
     ensures { λ r. ⌜ r ≡ isCapture b ⌝ }
 {
-    between(49, 54, b) || between(97, 102, b)
+    in_range(49, 54, b) || in_range(97, 102, b)
 }
 
 pub fn is_form(b: u8) -> bool
     ensures { λ r. ⌜ r ≡ isForm b ⌝ }
 {
-    between(49, 51, b)
+    in_range(49, 51, b)
 }
 
 // Eight digits that are a date need no second look.
@@ -121,9 +121,9 @@ fn check_date(part: &[u8]) -> Answer
     ensures { λ r. ⌜ r ≡ kindAnswer Kind.Date (now (part .entry)) ⌝ }
 {
     match calendar::read_date(part) {
-        Dated::On(_) => Answer::Accepted,
-        Dated::NoDate => {
-            let a = decimal::first_not(Class::Digit, Reason::NoDigit, part);
+        MaybeDate::On(_) => Answer::Accepted,
+        MaybeDate::NoDate => {
+            let a = decimal::require_class(Class::Digit, Reason::NoDigit, part);
             match a {
                 Answer::Accepted => Answer::Refused(Reason::NoDate, 1),
                 Answer::Refused(_, _) => a,
@@ -137,16 +137,16 @@ pub fn check(kind: Kind, part: &[u8]) -> Answer
     ensures { λ r. ⌜ r ≡ kindAnswer kind (now (part .entry)) ⌝ }
 {
     match kind {
-        Kind::Mark(byte) => unless(is_mark(part, byte), Reason::FixedDiffers),
-        Kind::Version => unless(same_bytes(part, b"04"), Reason::FixedDiffers),
-        Kind::Service => unless(is_service(part), Reason::FixedDiffers),
-        Kind::Blank => unless(decimal::all_of(Class::Blank, part), Reason::FixedDiffers),
-        Kind::Text => decimal::first_not(Class::Text, Reason::NoText, part),
-        Kind::Digits => decimal::first_not(Class::Digit, Reason::NoDigit, part),
-        Kind::Money => decimal::first_not(Class::Digit, Reason::NoDigit, part),
+        Kind::Mark(byte) => require(is_mark(part, byte), Reason::FixedDiffers),
+        Kind::Version => require(same_bytes(part, b"04"), Reason::FixedDiffers),
+        Kind::Service => require(is_service(part), Reason::FixedDiffers),
+        Kind::Blank => require(decimal::all_of(Class::Blank, part), Reason::FixedDiffers),
+        Kind::Text => decimal::require_class(Class::Text, Reason::NoText, part),
+        Kind::Digits => decimal::require_class(Class::Digit, Reason::NoDigit, part),
+        Kind::Money => decimal::require_class(Class::Digit, Reason::NoDigit, part),
         Kind::Date => check_date(part),
         Kind::Barcode => barcode::check(part),
-        Kind::Capture => unless(is_capture(byte_at(part, 0)), Reason::UnknownCode),
-        Kind::Form => unless(is_form(byte_at(part, 0)), Reason::UnknownCode),
+        Kind::Capture => require(is_capture(byte_at(part, 0)), Reason::UnknownCode),
+        Kind::Form => require(is_form(byte_at(part, 0)), Reason::UnknownCode),
     }
 }

@@ -10,8 +10,8 @@ use Rattle.layout.specs.declared.Field.{Field}
 use Rattle.layout.specs.declared.Given.{Given}
 use Rattle.layout.specs.declared.Kind.{Kind}
 use Rattle.layout.specs.declared.Kind.the-variants.{Mark, Version, Service, Blank, Text, Digits, Money, Date, Barcode, Capture, Form}
-use Rattle.layout.specs.declared.Named.{Named}
-use Rattle.layout.specs.declared.Named.the-variants.{Is, Other}
+use Rattle.layout.specs.declared.MaybeRecord.{MaybeRecord}
+use Rattle.layout.specs.declared.MaybeRecord.the-variants.{Is, Other}
 use Rattle.layout.specs.declared.Record.{Record}
 use Rattle.layout.specs.declared.Record.the-variants.{Header, Payment, Trailer}
 use Rattle.layout.specs.declared.Rows.{Rows}
@@ -26,7 +26,7 @@ markOf Payment = 71
 markOf Trailer = 90
 
 -- the record that a first byte names
-unfoldable pub namedBy : ℕ → Named
+unfoldable pub namedBy : ℕ → MaybeRecord
 namedBy mark =
     cond (eqb mark (markOf Header)) (Is Header)
     (cond (eqb mark (markOf Payment)) (Is Payment) (cond (eqb mark (markOf Trailer)) (Is Trailer) Other))

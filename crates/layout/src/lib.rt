@@ -14,7 +14,7 @@ pub enum Record {
 }
 
 // What a first byte names.
-pub enum Named {
+pub enum MaybeRecord {
     Is(Record),
     Other,
 }
@@ -107,19 +107,19 @@ pub fn row(i: usize) -> Field
     }
 }
 
-pub fn named_by(mark: u8) -> Named
+pub fn named_by(mark: u8) -> MaybeRecord
     ensures { λ r. ⌜ r ≡ namedBy mark ⌝ }
 {
     if mark == 65 {
-        return Named::Is(Record::Header);
+        return MaybeRecord::Is(Record::Header);
     }
     if mark == 71 {
-        return Named::Is(Record::Payment);
+        return MaybeRecord::Is(Record::Payment);
     }
     if mark == 90 {
-        return Named::Is(Record::Trailer);
+        return MaybeRecord::Is(Record::Trailer);
     }
-    Named::Other
+    MaybeRecord::Other
 }
 
 pub fn rows_of(which: Record) -> Rows

@@ -20,7 +20,7 @@ use Rattle.modulus.specs.declared.Modulus.{Modulus}
 use Rattle.modulus.specs.Checks.{checkOf}
 use Rattle.barcode.specs.declared.Fields.{Fields}
 use Rattle.barcode.specs.declared.Decoded.the-variants as decoding
-use Rattle.barcode.specs.Codes.{digitAt, modulusOf, fieldsOf, readOf, bodyAnswer, barcodeAnswer, decoded}
+use Rattle.barcode.specs.Codes.{digitAt, modulusOf, fieldsOf, readOf, fullLengthAnswer, barcodeAnswer, decoded}
 use Rattle.line.specs.Lines.{codeOf, boxRight, checkedBox, lineBody, lineAnswer}
 
 -- a box under the modulus in hand, which is the one that the line names
@@ -87,7 +87,7 @@ code-length line n =
 
 -- The answers, once the lengths are known.
 
-pub code-body : (line : List ℕ) → length line ≡ 48 → barcodeAnswer (codeOf line) ≡ bodyAnswer (codeOf line)
+pub code-body : (line : List ℕ) → length line ≡ 48 → barcodeAnswer (codeOf line) ≡ fullLengthAnswer (codeOf line)
 code-body line n = rw (eq-eqb _ _ (code-length line n))
 
 pub line-body : (line : List ℕ) → length line ≡ 48 → lineAnswer line ≡ lineBody line

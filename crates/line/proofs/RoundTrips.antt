@@ -11,7 +11,7 @@ use lib.Seq.{length-take-le, take-all, take-at, drop-at, drop-drop, getD-at, get
 use Rattle.answer.specs.declared.Reason.the-variants.{WrongLength, NoDigit, WrongBoxCheck, WrongGeneralCheck}
 use Rattle.answer.specs.declared.Answer.{Answer}
 use Rattle.answer.specs.declared.Answer.the-variants.{Accepted}
-use Rattle.answer.specs.Orders.{asked, first, movedBy, Each}
+use Rattle.answer.specs.Orders.{require, firstRefusal, movedBy, Each}
 use Rattle.answer.proofs.Orders.{then-accepts, first-accepts, asked-accepts, moved-accepts, refusal-keeps}
 use Rattle.answer.proofs.Steps.{passed}
 use Rattle.decimal.specs.declared.Class.the-variants.{Digit}
@@ -24,13 +24,13 @@ use Rattle.decimal.proofs.Numbers.{digit-back}
 use Rattle.modulus.specs.declared.Modulus.{Modulus}
 use Rattle.modulus.specs.Checks.{checkOf}
 use Rattle.modulus.proofs.Sums.{check-is-one-digit}
-use Rattle.barcode.specs.Codes.{digitAt, modulusOf, leadAnswer, frontAnswer, generalRight, bodyAnswer, barcodeAnswer, fieldsOf, decoded}
+use Rattle.barcode.specs.Codes.{digitAt, modulusOf, firstThreeAnswer, prefixAnswer, generalRight, fullLengthAnswer, barcodeAnswer, fieldsOf, decoded}
 use Rattle.barcode.proofs.RoundTrips.{good, decoded-answers, code-is-its-fields, built-is-read, fields-within-ranges-build}
 use Rattle.barcode.proofs.Codes.{accepted-length, lead-same}
 use Rattle.barcode.specs.Building.{builtOf}
-use Rattle.barcode.specs.RoundTrips.{answerOf}
+use Rattle.barcode.specs.RoundTrips.{answerOfBarcode}
 use Rattle.line.specs.Lines.{boxes, codeOf, inLine, boxRight, boxAnswer, checksAnswer, checkedBox, quarters, withChecks, lineOf, toLineAnswer, toCodeAnswer}
-use Rattle.line.specs.RoundTrips.{Sound, LineIsBoxesAndCode, CodeToLineAndBack, LineToCodeAndBack, LineIsItsFields, FieldsGiveALine, RefusedConversionsKeep}
+use Rattle.line.specs.RoundTrips.{SoundLine, LineIsBoxesAndCode, CodeToLineAndBack, LineToCodeAndBack, LineIsItsFields, FieldsGiveALine, RefusedConversionsKeep}
 use Rattle.line.proofs.Lines.{code-body, checked-length}
 
 pub refused-conversions-keep : RefusedConversionsKeep
@@ -84,7 +84,7 @@ pub code-byte : (line : List ℕ) (j : ℕ) → length line ≡ 48 → j < 11 �
 code-byte line j n h =
     List·getD-append (at 0 line) (at 12 line ++ (at 24 line ++ (at 36 line ++ []))) 0 j (omega (arith, at-length 0 line (omega arith))) ∙ getD-take 11 line j 0 h
 
-same-lead : (line : List ℕ) → length line ≡ 48 → leadAnswer (codeOf line) ≡ leadAnswer line
+same-lead : (line : List ℕ) → length line ≡ 48 → firstThreeAnswer (codeOf line) ≡ firstThreeAnswer line
 same-lead line n =
     lead-same (codeOf line) line (code-byte line 0 n (omega arith)) (code-byte line 1 n (omega arith)) (code-byte line 2 n (omega arith))
 
@@ -106,7 +106,7 @@ checked-digits m a h =
     all-joins (isOf Digit) a ((48 + checkOf m a) ∷ []) ∙ rw (h, digit-back (checkOf m a) (check-is-one-digit m a) .0)
 
 -- a sound line is its boxes with their checks
-sound-boxes : (line : List ℕ) → Sound line → withChecks (modulusOf (digitAt 3 line)) boxes line ≡ line
+sound-boxes : (line : List ℕ) → SoundLine line → withChecks (modulusOf (digitAt 3 line)) boxes line ≡ line
 sound-boxes line s =
     let n = s .long in
     let c = s .checks in
@@ -136,7 +136,7 @@ code-quarters m line n =
     joins (box _ _ q0) (joins (box _ _ q1) (joins (box _ _ q2) (joins (box _ _ q3) refl)))
 
 -- the digits of a sound line
-sound-digits : (line : List ℕ) → Sound line → all (isOf Digit) line ≡ true
+sound-digits : (line : List ℕ) → SoundLine line → all (isOf Digit) line ≡ true
 sound-digits line s =
     let m = modulusOf (digitAt 3 line) in
     let g = good (codeOf line) (s .code) in
@@ -155,16 +155,16 @@ line-is-boxes-and-code line = (
   λ e.
       let l = passed (eqb (length line) 48) WrongLength 0 e in
       let n = eqb-true (length line) 48 (l .0) in
-      let f = then-accepts (frontAnswer line) (checksAnswer line) .0 (l .1) in
-      let c = then-accepts (first (boxAnswer line) boxes) (movedBy inLine (bodyAnswer (codeOf line))) .0 (f .1) in
-      let code = code-body line n ∙ moved-accepts inLine (bodyAnswer (codeOf line)) .0 (c .1) in
+      let f = then-accepts (prefixAnswer line) (checksAnswer line) .0 (l .1) in
+      let c = then-accepts (firstRefusal (boxAnswer line) boxes) (movedBy inLine (fullLengthAnswer (codeOf line))) .0 (f .1) in
+      let code = code-body line n ∙ moved-accepts inLine (fullLengthAnswer (codeOf line)) .0 (c .1) in
       record { long = n; checks = each-right line boxes (first-accepts (boxAnswer line) boxes .0 (c .0)); code = code },
   λ s.
       let n = s .long in
       let front = each-accepts (isOf Digit) NoDigit 1 line .1 (sound-digits line s) in
       let lead = sym (same-lead line n) ∙ front-lead (codeOf line) (s .code) in
       let boxed = first-accepts (boxAnswer line) boxes .1 (right-each line boxes (s .checks)) in
-      let body = moved-accepts inLine (bodyAnswer (codeOf line)) .1 (sym (code-body line n) ∙ s .code) in
+      let body = moved-accepts inLine (fullLengthAnswer (codeOf line)) .1 (sym (code-body line n) ∙ s .code) in
       rw (eq-eqb (length line) 48 n, front, lead, boxed, body),
 )
   where
@@ -180,11 +180,11 @@ line-is-boxes-and-code line = (
     right-each line (b ∷ plan) h =
         (asked-accepts (boxRight (modulusOf (digitAt 3 line)) line b) WrongBoxCheck (b .last + 1) .1 (h .0), right-each line plan (h .1))
 
-    front-lead : (code : List ℕ) → barcodeAnswer code ≡ Accepted → leadAnswer code ≡ Accepted
+    front-lead : (code : List ℕ) → barcodeAnswer code ≡ Accepted → firstThreeAnswer code ≡ Accepted
     front-lead code e =
         let l = passed (eqb (length code) 44) WrongLength 0 e in
-        let b = then-accepts (frontAnswer code) (asked (generalRight code) WrongGeneralCheck 4) .0 (l .1) in
-        then-accepts (eachIs (isOf Digit) NoDigit 1 code) (leadAnswer code) .0 (b .0) .1
+        let b = then-accepts (prefixAnswer code) (require (generalRight code) WrongGeneralCheck 4) .0 (l .1) in
+        then-accepts (eachIs (isOf Digit) NoDigit 1 code) (firstThreeAnswer code) .0 (b .0) .1
 
 pub line-to-code-and-back : LineToCodeAndBack
 line-to-code-and-back line e =
@@ -263,7 +263,7 @@ code-to-line-and-back code e =
     let n = accepted-length code e in
     let s = all-shown code n in
     let back = code-back code n in
-    let sound : Sound (lineOf code) = record {
+    let sound : SoundLine (lineOf code) = record {
       long = line-long code n;
       checks = (box-shown code n 0 0 (s .0), (box-shown code n 12 11 (s .1), (box-shown code n 24 22 (s .2), (box-shown code n 36 33 (s .3), tt))));
       code = ap barcodeAnswer back ∙ e;
@@ -280,6 +280,6 @@ pub fields-give-a-line : FieldsGiveALine
 fields-give-a-line i kind amount rest s k a n l d =
     let code = builtOf i kind amount rest in
     let read = built-is-read i kind amount rest (fields-within-ranges-build i kind amount rest s k a n l d) .0 in
-    let e : barcodeAnswer code ≡ Accepted = sym (decoded-answers code) ∙ ap answerOf read in
+    let e : barcodeAnswer code ≡ Accepted = sym (decoded-answers code) ∙ ap answerOfBarcode read in
     let there = code-to-line-and-back code e in
     rw (there .0, there .1) (sym (ap (λ (x : Answer). decoded x (fieldsOf code)) e) ∙ read)

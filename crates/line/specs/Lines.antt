@@ -6,12 +6,12 @@ use lib.Dec.{eqb}
 use lib.ListN.{length, getD}
 use Rattle.answer.specs.declared.Reason.the-variants.{WrongLength, WrongBoxCheck}
 use Rattle.answer.specs.declared.Answer.{Answer}
-use Rattle.answer.specs.Orders.{asked, _then_, first, movedBy}
+use Rattle.answer.specs.Orders.{require, _then_, firstRefusal, movedBy}
 use Rattle.decimal.specs.Places.{Stretch, partAt, gather}
 use Rattle.modulus.specs.declared.Modulus.{Modulus}
 use Rattle.modulus.specs.Checks.{checkOf}
 use Rattle.barcode.specs.declared.Decoded.{Decoded}
-use Rattle.barcode.specs.Codes.{codeLength, digitAt, modulusOf, fieldsOf, frontAnswer, bodyAnswer, barcodeAnswer, decoded}
+use Rattle.barcode.specs.Codes.{codeLength, digitAt, modulusOf, fieldsOf, prefixAnswer, fullLengthAnswer, barcodeAnswer, decoded}
 
 abbrev pub lineLength : ℕ
 lineLength = 48
@@ -33,20 +33,20 @@ unfoldable pub boxRight : Modulus → List ℕ → Stretch → Bool
 boxRight m line box = eqb (getD line (box .last) 0) (48 + checkOf m (partAt box line))
 
 abbrev pub boxAnswer : List ℕ → Stretch → Answer
-boxAnswer line box = asked (boxRight (modulusOf (digitAt 3 line)) line box) WrongBoxCheck (box .last + 1)
+boxAnswer line box = require (boxRight (modulusOf (digitAt 3 line)) line box) WrongBoxCheck (box .last + 1)
 
 -- typed line: 1, 2, 3, 4, 5, 6, lowest box first, 7. What is left of its barcode's own order is 7: the rest was asked of the line.
 abbrev pub checksAnswer : List ℕ → Answer
-checksAnswer line = first (boxAnswer line) boxes then movedBy inLine (bodyAnswer (codeOf line))
+checksAnswer line = firstRefusal (boxAnswer line) boxes then movedBy inLine (fullLengthAnswer (codeOf line))
 
 abbrev pub lineBody : List ℕ → Answer
-lineBody line = frontAnswer line then checksAnswer line
+lineBody line = prefixAnswer line then checksAnswer line
 
 abbrev pub lineAnswer : List ℕ → Answer
-lineAnswer line = asked (eqb (length line) lineLength) WrongLength 0 then lineBody line
+lineAnswer line = require (eqb (length line) lineLength) WrongLength 0 then lineBody line
 
-abbrev pub decodeOf : List ℕ → Decoded
-decodeOf line = decoded (lineAnswer line) (fieldsOf (codeOf line))
+abbrev pub decodedLine : List ℕ → Decoded
+decodedLine line = decoded (lineAnswer line) (fieldsOf (codeOf line))
 
 -- Written from a barcode: its quarters, each followed by its check.
 
@@ -67,7 +67,7 @@ lineOf code = withChecks (modulusOf (digitAt 3 code)) quarters code
 -- Both conversions give 1 first if either lent length is wrong, then the refusals of what is read.
 
 abbrev pub toLineAnswer : ℕ → List ℕ → Answer
-toLineAnswer lent code = asked (eqb lent lineLength) WrongLength 0 then barcodeAnswer code
+toLineAnswer lent code = require (eqb lent lineLength) WrongLength 0 then barcodeAnswer code
 
 abbrev pub toCodeAnswer : ℕ → List ℕ → Answer
-toCodeAnswer lent line = asked (eqb lent codeLength) WrongLength 0 then lineAnswer line
+toCodeAnswer lent line = require (eqb lent codeLength) WrongLength 0 then lineAnswer line

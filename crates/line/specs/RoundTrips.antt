@@ -6,7 +6,7 @@ use mathlib.Core.Logic.{_↔_}
 use mathlib.Core.Path.{_≡_}
 use lib.ListN.{length, take}
 use Rattle.answer.specs.declared.Answer.the-variants.{Accepted}
-use Rattle.answer.specs.Orders.{kept, Each}
+use Rattle.answer.specs.Orders.{ifAccepted, Each}
 use Rattle.decimal.specs.declared.Class.the-variants.{Digit}
 use Rattle.decimal.specs.Bytes.{isOf, all}
 use Rattle.decimal.specs.Places.{widthOf}
@@ -16,16 +16,16 @@ use Rattle.barcode.specs.declared.Decoded.the-variants.{Read}
 use Rattle.barcode.specs.Codes.{digitAt, isSegment, isKind, modulusOf, value, issuer, free, fieldsOf, freeOf, barcodeAnswer}
 use Rattle.barcode.specs.Building.{builtOf}
 use Rattle.barcode.specs.RoundTrips.{builtFrom, fromAnswer}
-use Rattle.line.specs.Lines.{lineLength, boxes, codeOf, boxRight, lineAnswer, decodeOf, lineOf, toLineAnswer, toCodeAnswer}
+use Rattle.line.specs.Lines.{lineLength, boxes, codeOf, boxRight, lineAnswer, decodedLine, lineOf, toLineAnswer, toCodeAnswer}
 
 -- a line is accepted exactly when its four box checks hold and its barcode is accepted
-pub record Sound (line : List ℕ) : Type 0 where
+pub record SoundLine (line : List ℕ) : Type 0 where
   pub long : length line ≡ lineLength
   pub checks : Each (λ box. boxRight (modulusOf (digitAt 3 line)) line box ≡ true) boxes
   pub code : barcodeAnswer (codeOf line) ≡ Accepted
 
 abbrev pub LineIsBoxesAndCode : Type 0
-LineIsBoxesAndCode = (line : List ℕ) → (lineAnswer line ≡ Accepted) ↔ Sound line
+LineIsBoxesAndCode = (line : List ℕ) → (lineAnswer line ≡ Accepted) ↔ SoundLine line
 
 -- line and barcode convert into each other and back
 abbrev pub CodeToLineAndBack : Type 0
@@ -46,11 +46,11 @@ abbrev pub FieldsGiveALine : Type 0
 FieldsGiveALine =
     (i : Issuer) (kind amount : ℕ) (rest : List ℕ) → isSegment (i .segment) ≡ true → isKind kind ≡ true → amount < 10 ^ widthOf value
     → i .number < 10 ^ widthOf (issuer (i .segment)) → length rest ≡ widthOf (free (i .segment)) → all (isOf Digit) rest ≡ true
-    → decodeOf (lineOf (builtOf i kind amount rest)) ≡ Read (record { kind = kind; value = amount; issuer = i; due = dateOf (take 8 rest) })
+    → decodedLine (lineOf (builtOf i kind amount rest)) ≡ Read (record { kind = kind; value = amount; issuer = i; due = dateOf (take 8 rest) })
 
 -- a refused conversion leaves every lent byte as it was
 abbrev pub RefusedConversionsKeep : Type 0
 RefusedConversionsKeep =
     (out line code : List ℕ)
-    → ((toCodeAnswer (length out) line ≡ Accepted → ⊥) → kept (toCodeAnswer (length out) line) (codeOf line) out ≡ out)
-    × ((toLineAnswer (length out) code ≡ Accepted → ⊥) → kept (toLineAnswer (length out) code) (lineOf code) out ≡ out)
+    → ((toCodeAnswer (length out) line ≡ Accepted → ⊥) → ifAccepted (toCodeAnswer (length out) line) (codeOf line) out ≡ out)
+    × ((toLineAnswer (length out) code ≡ Accepted → ⊥) → ifAccepted (toLineAnswer (length out) code) (lineOf code) out ≡ out)

@@ -3,11 +3,11 @@ ghost use mathlib.Core.Path.{_≡_};
 ghost use Prim.Native.Nat.{_+_, _≤_, _<_};
 ghost use lib.ListN.{length};
 ghost use Rattle.answer.specs.Refusals.{answerPlace};
-ghost use Rattle.answer.specs.Orders.{first, movedBy, kept};
+ghost use Rattle.answer.specs.Orders.{firstRefusal, movedBy, ifAccepted};
 ghost use Rattle.decimal.specs.Places.{putAt};
 ghost use Rattle.modulus.specs.Checks.{checkOf};
 ghost use Rattle.barcode.specs.Codes.{codeLength, digitAt, modulusOf};
-ghost use Rattle.line.specs.Lines.{lineLength, boxes, codeOf, inLine, boxRight, boxAnswer, checksAnswer, lineBody, lineAnswer, decodeOf, checkedBox, lineOf, toLineAnswer, toCodeAnswer};
+ghost use Rattle.line.specs.Lines.{lineLength, boxes, codeOf, inLine, boxRight, boxAnswer, checksAnswer, lineBody, lineAnswer, decodedLine, checkedBox, lineOf, toLineAnswer, toCodeAnswer};
 use answer::Answer;
 use answer::Reason;
 use barcode::Decoded;
@@ -33,9 +33,9 @@ fn box_right(m: Modulus, line: &[u8], from: usize) -> bool
 }
 
 // The four boxes, lowest first, all under the modulus that the line's third digit names.
-fn ask_boxes(m: Modulus, line: &[u8]) -> Answer
+fn check_boxes(m: Modulus, line: &[u8]) -> Answer
     requires { ⌜ (length (now line) ≡ lineLength) × (m ≡ modulusOf (digitAt 3 (now line))) ⌝ }
-    ensures { λ r. ⌜ r ≡ first (boxAnswer (now (line .entry))) boxes ⌝ }
+    ensures { λ r. ⌜ r ≡ firstRefusal (boxAnswer (now (line .entry))) boxes ⌝ }
 {
     if !box_right(m, line, 0) {
         return Answer::Refused(Reason::WrongBoxCheck, 12);
@@ -80,11 +80,11 @@ fn put_code(line: &[u8], code: &mut [u8])
 }
 
 // 6, then 7: the boxes, and what is left to ask of the barcode.
-fn ask_checks(line: &[u8], code: &[u8]) -> Answer
+fn check_all_checks(line: &[u8], code: &[u8]) -> Answer
     requires { ⌜ (length (now line) ≡ lineLength) × (now code ≡ codeOf (now line)) ⌝ }
     ensures { λ r. ⌜ r ≡ checksAnswer (now (line .entry)) ⌝ }
 {
-    let boxes = ask_boxes(barcode::named(decimal::value(line[2])), line);
+    let boxes = check_boxes(barcode::modulus_of_kind(decimal::value(line[2])), line);
     match boxes {
         Answer::Refused(_, _) => boxes,
         Answer::Accepted => moved(barcode::check(code)),
@@ -92,14 +92,14 @@ fn ask_checks(line: &[u8], code: &[u8]) -> Answer
 }
 
 // Everything but the length.
-fn ask_body(line: &[u8], code: &[u8]) -> Answer
+fn check_body(line: &[u8], code: &[u8]) -> Answer
     requires { ⌜ (length (now line) ≡ lineLength) × (now code ≡ codeOf (now line)) ⌝ }
     ensures { λ r. ⌜ r ≡ lineBody (now (line .entry)) ⌝ }
 {
-    let front = barcode::front(line);
+    let front = barcode::check_prefix(line);
     match front {
         Answer::Refused(_, _) => front,
-        Answer::Accepted => ask_checks(line, code),
+        Answer::Accepted => check_all_checks(line, code),
     }
 }
 
@@ -112,18 +112,18 @@ pub fn check(line: &[u8]) -> Answer
     }
     let mut code = [48u8; barcode::LENGTH];
     put_code(line, &mut code);
-    ask_body(line, &code)
+    check_body(line, &code)
 }
 
 pub fn decode(line: &[u8]) -> Decoded
-    ensures { λ r. ⌜ r ≡ decodeOf (now (line .entry)) ⌝ }
+    ensures { λ r. ⌜ r ≡ decodedLine (now (line .entry)) ⌝ }
 {
     if line.len() != LENGTH {
         return Decoded::Refused(Reason::WrongLength, 0);
     }
     let mut code = [48u8; barcode::LENGTH];
     put_code(line, &mut code);
-    match ask_body(line, &code) {
+    match check_body(line, &code) {
         Answer::Refused(why, place) => Decoded::Refused(why, place),
         Answer::Accepted => Decoded::Read(barcode::read_fields(&code)),
     }
@@ -132,7 +132,7 @@ pub fn decode(line: &[u8]) -> Decoded
 // Puts the line's barcode into 44 lent bytes; a refusal leaves them as they were.
 pub fn to_barcode(line: &[u8], out: &mut [u8]) -> Answer
     ensures answer { λ r. ⌜ r ≡ toCodeAnswer (length (now (out .entry))) (now (line .entry)) ⌝ }
-    ensures bytes { λ r. ⌜ now (out .exit) ≡ kept r (codeOf (now (line .entry))) (now (out .entry)) ⌝ }
+    ensures bytes { λ r. ⌜ now (out .exit) ≡ ifAccepted r (codeOf (now (line .entry))) (now (out .entry)) ⌝ }
 {
     if out.len() != barcode::LENGTH {
         return Answer::Refused(Reason::WrongLength, 0);
@@ -162,7 +162,7 @@ fn put_line(code: &[u8], out: &mut [u8])
     requires { ⌜ (length (now code) ≡ codeLength) × (length (now out) ≡ lineLength) ⌝ }
     ensures { λ _. ⌜ now (out .exit) ≡ lineOf (now (code .entry)) ⌝ }
 {
-    let m = barcode::named(decimal::value(code[2]));
+    let m = barcode::modulus_of_kind(decimal::value(code[2]));
     put_box(m, &code[0..11], out, 0);
     put_box(m, &code[11..22], out, 12);
     put_box(m, &code[22..33], out, 24);
@@ -172,7 +172,7 @@ fn put_line(code: &[u8], out: &mut [u8])
 // Writes the line of a barcode into 48 lent bytes; a refusal leaves them as they were.
 pub fn from_barcode(code: &[u8], out: &mut [u8]) -> Answer
     ensures answer { λ r. ⌜ r ≡ toLineAnswer (length (now (out .entry))) (now (code .entry)) ⌝ }
-    ensures bytes { λ r. ⌜ now (out .exit) ≡ kept r (lineOf (now (code .entry))) (now (out .entry)) ⌝ }
+    ensures bytes { λ r. ⌜ now (out .exit) ≡ ifAccepted r (lineOf (now (code .entry))) (now (out .entry)) ⌝ }
 {
     if out.len() != LENGTH {
         return Answer::Refused(Reason::WrongLength, 0);

@@ -18,8 +18,8 @@ use Rattle.decimal.proofs.Bytes.{flag-on, all-at, row-fails, row-passes, last-r
 use Rattle.decimal.proofs.Numbers.{low-value, value-small}
 use Rattle.modulus.specs.declared.Modulus.{Modulus}
 use Rattle.modulus.specs.declared.Modulus.the-variants.{Ten, Eleven}
-use Rattle.modulus.specs.declared.Summed.the-variants.{Both, NoSum}
-use Rattle.modulus.specs.Checks.{addedBy, weightOf, partOf, termOf, sumOf, sumsOf}
+use Rattle.modulus.specs.declared.MaybeSums.the-variants.{Both, NoSum}
+use Rattle.modulus.specs.Checks.{addedBy, weightOf, productPart, termOf, weightedSum, bothSums}
 use Rattle.modulus.specs.Columns.{areDigits, counted}
 use Rattle.modulus.proofs.Sums.{parts-compose, sum-period}
 
@@ -33,7 +33,7 @@ twice : (k d : ℕ) → k % 2 ≡ 0 → d ≤ 9 → addedBy Ten k d + 9 * cond (
 unfolding addedBy
 twice k d e h = rw e (go (leb 5 d) refl)
   where
-    go : (t : Bool) → leb 5 d ≡ t → partOf Ten (2 * d) + 9 * cond t 1 0 ≡ 2 * d
+    go : (t : Bool) → leb 5 d ≡ t → productPart Ten (2 * d) + 9 * cond t 1 0 ≡ 2 * d
     go true f = omega (arith, leb-true 5 d f)
     go false f = omega (arith, leb-false 5 d f)
 
@@ -76,7 +76,7 @@ nothing : (m : Modulus) (k : ℕ) → addedBy m k 0 ≡ 0
 unfolding addedBy
 nothing m k = rw (mul-zero (weightOf m k)) (go m)
   where
-    go : (m : Modulus) → partOf m 0 ≡ 0
+    go : (m : Modulus) → productPart m 0 ≡ 0
     go Ten = refl
     go Eleven = refl
 
@@ -89,7 +89,7 @@ abbrev pub leftDigits : List ℕ → List ℕ → List ℕ → ℕ → Bool
 leftDigits x y z i = all (isOf Digit) (drop i x) && (all (isOf Digit) (drop i y) && all (isOf Digit) (drop i z))
 
 abbrev pub leftSum : Modulus → List ℕ → List ℕ → List ℕ → ℕ → ℕ
-leftSum m x y z i = sumOf m 0 (drop i x) + (sumOf m 0 (drop i y) + sumOf m 0 (drop (8 - i) (drop i z)))
+leftSum m x y z i = weightedSum m 0 (drop i x) + (weightedSum m 0 (drop i y) + weightedSum m 0 (drop (8 - i) (drop i z)))
 
 weave : (t u v r s q : Bool) → ((t && r) && ((u && s) && (v && q))) ≡ ((t && (u && v)) && (r && (s && q)))
 weave false u v r s q = refl
@@ -101,7 +101,7 @@ weave true true false true true q = refl
 weave true true true r s q = refl
 
 sum-at : (m : Modulus) (bs : List ℕ) (i : ℕ) → length bs ≡ 16 → i < 16
-    → sumOf m 0 (drop i bs) ≡ termOf m (15 - i) (getD bs i 0) + sumOf m 0 (drop (i + 1) bs)
+    → weightedSum m 0 (drop i bs) ≡ termOf m (15 - i) (getD bs i 0) + weightedSum m 0 (drop (i + 1) bs)
 sum-at m bs i n h =
     let l : 0 + length (drop (suc i) bs) ≡ 15 - i = omega (arith, length-drop (suc i) bs) in
     rw (add-one, drop-cons bs i 0 (omega arith), l)
@@ -119,11 +119,11 @@ module _ (x y z : List ℕ) (lx : length x ≡ 16) (ly : length y ≡ 16) (lz : 
       let p = rw (drop-cons x i 0 (omega arith), drop-cons y i 0 (omega arith), drop-cons z i 0 (omega arith), weave a b c rx ry rz) at q in
       rw (e, add-one, flag-on (a && (b && c)) n (rx && (ry && rz))) p
 
-  late-sum : (m : Modulus) → sumOf m 0 (drop (8 - i) (drop i z)) ≡ addedBy m (15 - i) (cond (ltb i 8) 0 (valueOf (getD z i 0))) + sumOf m 0 (drop (8 - (i + 1)) (drop (i + 1) z))
+  late-sum : (m : Modulus) → weightedSum m 0 (drop (8 - i) (drop i z)) ≡ addedBy m (15 - i) (cond (ltb i 8) 0 (valueOf (getD z i 0))) + weightedSum m 0 (drop (8 - (i + 1)) (drop (i + 1) z))
   unfolding termOf addedBy
   late-sum m = go (ltb i 8) refl
     where
-      go : (t : Bool) → ltb i 8 ≡ t → sumOf m 0 (drop (8 - i) (drop i z)) ≡ addedBy m (15 - i) (cond t 0 (valueOf (getD z i 0))) + sumOf m 0 (drop (8 - (i + 1)) (drop (i + 1) z))
+      go : (t : Bool) → ltb i 8 ≡ t → weightedSum m 0 (drop (8 - i) (drop i z)) ≡ addedBy m (15 - i) (cond t 0 (valueOf (getD z i 0))) + weightedSum m 0 (drop (8 - (i + 1)) (drop (i + 1) z))
       go true e =
           let l = ltb-true i 8 e in
           let k : i + (8 - i) ≡ 8 = omega arith in
@@ -183,7 +183,7 @@ module _ (bs : List ℕ) (n : length bs ≡ 40) where
           let p : all (isOf Digit) (take 32 bs) ≡ true = row-passes (isOf Digit) bs 16 16 (sym f) refl e in
           last-row (isOf Digit) bs 32 16 (omega arith) (omega arith) p (rw n refl)
 
-  pub forty-sum : (m : Modulus) → counted m (take 16 bs) (take 16 (drop 16 bs)) (take 16 (drop 24 bs)) ≡ sumOf m 0 bs
+  pub forty-sum : (m : Modulus) → counted m (take 16 bs) (take 16 (drop 16 bs)) (take 16 (drop 24 bs)) ≡ weightedSum m 0 bs
   forty-sum m =
       let last : drop 8 (take 16 (drop 24 bs)) ≡ drop 16 (drop 16 bs) =
       ap (drop 8) (take-all 16 (drop 24 bs) (omega (arith, length-drop 24 bs))) ∙ drop-drop 8 24 bs ∙ sym (drop-drop 16 16 bs) in
@@ -197,26 +197,26 @@ module _ (bs : List ℕ) (n : length bs ≡ 40) where
 
   -- from what the rows gave
   module _ (flag : ℕ) (e : eqb flag 0 ≡ areDigits (take 16 bs) (take 16 (drop 16 bs)) (take 16 (drop 24 bs))) where
-    pub no-sum : (flag ≡ 0 → ⊥) → NoSum ≡ sumsOf bs
+    pub no-sum : (flag ≡ 0 → ⊥) → NoSum ≡ bothSums bs
     no-sum h = let t : all (isOf Digit) bs ≡ false = sym forty-digits ∙ sym e ∙ ne-eqb flag 0 h in rw (eq-eqb (length bs) 40 n, t)
 
     pub both-sums : {a b : ℕ} → flag ≡ 0 → (areDigits (take 16 bs) (take 16 (drop 16 bs)) (take 16 (drop 24 bs)) ≡ true → a ≡ counted Ten (take 16 bs) (take 16 (drop 16 bs)) (take 16 (drop 24 bs)))
         → (areDigits (take 16 bs) (take 16 (drop 16 bs)) (take 16 (drop 24 bs)) ≡ true → b ≡ counted Eleven (take 16 bs) (take 16 (drop 16 bs)) (take 16 (drop 24 bs)))
-        → Both a b ≡ sumsOf bs
+        → Both a b ≡ bothSums bs
     both-sums h ea eb =
         let d = sym e ∙ eq-eqb flag 0 h in
         let t : all (isOf Digit) bs ≡ true = sym forty-digits ∙ d in
         rw (eq-eqb (length bs) 40 n, t, ea d, eb d, forty-sum Ten, forty-sum Eleven)
 
 -- what sums tell of the bytes
-pub sums-tell : (bs : List ℕ) {a b : ℕ} → Both a b ≡ sumsOf bs → (all (isOf Digit) bs ≡ true) × (a ≡ sumOf Ten 0 bs) × (b ≡ sumOf Eleven 0 bs)
+pub sums-tell : (bs : List ℕ) {a b : ℕ} → Both a b ≡ bothSums bs → (all (isOf Digit) bs ≡ true) × (a ≡ weightedSum Ten 0 bs) × (b ≡ weightedSum Eleven 0 bs)
 sums-tell bs {a} {b} e = go (eqb (length bs) 40) (all (isOf Digit) bs) e
   where
-    go : (t u : Bool) → Both a b ≡ cond (t && u) (Both (sumOf Ten 0 bs) (sumOf Eleven 0 bs)) NoSum
-        → (u ≡ true) × (a ≡ sumOf Ten 0 bs) × (b ≡ sumOf Eleven 0 bs)
+    go : (t u : Bool) → Both a b ≡ cond (t && u) (Both (weightedSum Ten 0 bs) (weightedSum Eleven 0 bs)) NoSum
+        → (u ≡ true) × (a ≡ weightedSum Ten 0 bs) × (b ≡ weightedSum Eleven 0 bs)
     go true true f = (refl, cc, cc)
     go true false f = let z : _≡_ {A = ℕ} 0 1 = cc in absurd (omega arith)
     go false u f = let z : _≡_ {A = ℕ} 0 1 = cc in absurd (omega arith)
 
-pub no-sum-tells : (bs : List ℕ) → length bs ≡ 40 → all (isOf Digit) bs ≡ true → NoSum ≡ sumsOf bs → ⊥
+pub no-sum-tells : (bs : List ℕ) → length bs ≡ 40 → all (isOf Digit) bs ≡ true → NoSum ≡ bothSums bs → ⊥
 no-sum-tells bs n t e = let f = rw (eq-eqb (length bs) 40 n, t) at e in let z : _≡_ {A = ℕ} 0 1 = cc in omega arith

@@ -12,12 +12,12 @@ use lib.Seq.{getD-set-other}
 use Rattle.decimal.proofs.Finite.{below, at2, follows, agrees, or-cases}
 use Rattle.modulus.specs.declared.Modulus.{Modulus}
 use Rattle.modulus.specs.declared.Modulus.the-variants.{Ten, Eleven}
-use Rattle.modulus.specs.Checks.{sizeOf, addedBy, termOf, sumOf, ruleOf, exchanged, OneDigitMoves, ExchangeKeeps, EvenShiftKeeps, CheckShowsTen, CheckShowsEleven}
+use Rattle.modulus.specs.Checks.{sizeOf, addedBy, termOf, weightedSum, digitOfRemainder, exchanged, OneDigitMoves, ExchangeKeeps, EvenShiftKeeps, CheckShowsTen, CheckShowsEleven}
 use Rattle.modulus.proofs.Terms.{term-tells, are, are-tells, are-test, neighbours-tell}
 
 -- the byte at i, which has w bytes to its right in the list, set to d
 pub sum-set : (m : Modulus) (k : ℕ) (bs : List ℕ) (i d w : ℕ) → w + i + 1 ≡ length bs
-    → sumOf m k (set bs i d) + termOf m (k + w) (getD bs i 0) ≡ sumOf m k bs + termOf m (k + w) d
+    → weightedSum m k (set bs i d) + termOf m (k + w) (getD bs i 0) ≡ weightedSum m k bs + termOf m (k + w) d
 sum-set m k [] i d w e = omega arith
 sum-set m k (b ∷ bs) zero d w e = let q : w ≡ length bs = omega arith in rw q (omega arith)
 sum-set m k (b ∷ bs) (suc i) d w e = rw (length-set bs i d) (omega (arith, sum-set m k bs i d w (omega arith)))
@@ -45,8 +45,8 @@ even-shift-keeps n k (b ∷ bs) =
 
 -- both neighbours at once
 pub sum-exchanged : (m : Modulus) (k : ℕ) (bs : List ℕ) (i w : ℕ) → w + i + 2 ≡ length bs
-    → sumOf m k (exchanged bs i) + (termOf m (k + w + 1) (getD bs i 0) + termOf m (k + w) (getD bs (i + 1) 0))
-    ≡ sumOf m k bs + (termOf m (k + w + 1) (getD bs (i + 1) 0) + termOf m (k + w) (getD bs i 0))
+    → weightedSum m k (exchanged bs i) + (termOf m (k + w + 1) (getD bs i 0) + termOf m (k + w) (getD bs (i + 1) 0))
+    ≡ weightedSum m k bs + (termOf m (k + w + 1) (getD bs (i + 1) 0) + termOf m (k + w) (getD bs i 0))
 sum-exchanged m k bs i w e =
     let b = getD bs i 0 in
     let x = getD bs (i + 1) 0 in
@@ -73,10 +73,10 @@ exchange-keeps k bs i h hb hx ne =
 
 -- a test over all remainders of each modulus
 tens : ℕ → ℕ → Bool
-tens r q = cond (eqb (ruleOf Ten r) (ruleOf Ten q)) (eqb r q) true
+tens r q = cond (eqb (digitOfRemainder Ten r) (digitOfRemainder Ten q)) (eqb r q) true
 
 tens-all : below 10 (λ r. below 10 (tens r)) ≡ true
-unfolding tens ruleOf
+unfolding tens digitOfRemainder
 tens-all = refl
 
 pub check-shows-ten : CheckShowsTen
@@ -84,10 +84,10 @@ unfolding tens
 check-shows-ten r q hr hq e = eqb-true r q (follows _ _ (at2 10 10 tens tens-all r q hr hq) (eq-eqb _ _ e))
 
 elevens : ℕ → ℕ → Bool
-elevens r q = cond (eqb (ruleOf Eleven r) (ruleOf Eleven q)) (eqb r q || are 0 1 r q) (not (eqb r q || are 0 1 r q))
+elevens r q = cond (eqb (digitOfRemainder Eleven r) (digitOfRemainder Eleven q)) (eqb r q || are 0 1 r q) (not (eqb r q || are 0 1 r q))
 
 elevens-all : below 11 (λ r. below 11 (elevens r)) ≡ true
-unfolding elevens ruleOf are
+unfolding elevens digitOfRemainder are
 elevens-all = refl
 
 pub check-shows-eleven : CheckShowsEleven

@@ -14,14 +14,14 @@ use Rattle.decimal.specs.Numbers.{valueOf}
 use Rattle.decimal.proofs.Numbers.{value-small}
 use Rattle.modulus.specs.declared.Modulus.{Modulus}
 use Rattle.modulus.specs.declared.Modulus.the-variants.{Ten, Eleven}
-use Rattle.modulus.specs.Checks.{sizeOf, weightOf, partOf, addedBy, termOf, sumOf, ruleOf, CheckIsOneDigit, PartsCompose}
+use Rattle.modulus.specs.Checks.{sizeOf, weightOf, productPart, addedBy, termOf, weightedSum, digitOfRemainder, CheckIsOneDigit, PartsCompose}
 use Rattle.modulus.proofs.Terms.{period}
 
 pub weight-small : (m : Modulus) (k : ℕ) → weightOf m k ≤ 9
 weight-small Ten k = omega arith
 weight-small Eleven k = omega arith
 
-pub part-small : (m : Modulus) (p : ℕ) → partOf m p ≤ p
+pub part-small : (m : Modulus) (p : ℕ) → productPart m p ≤ p
 part-small Ten p = omega arith
 part-small Eleven p = omega arith
 
@@ -29,8 +29,8 @@ pub remainder-small : (m : Modulus) (n : ℕ) → n % sizeOf m ≤ 10
 remainder-small Ten n = omega arith
 remainder-small Eleven n = omega arith
 
-pub rule-small : (m : Modulus) (r : ℕ) → ruleOf m r ≤ 9
-unfolding ruleOf
+pub rule-small : (m : Modulus) (r : ℕ) → digitOfRemainder m r ≤ 9
+unfolding digitOfRemainder
 rule-small Ten r = go (eqb r 0) refl
   where
     go : (t : Bool) → eqb r 0 ≡ t → cond t 0 (10 - r) ≤ 9
@@ -43,7 +43,7 @@ rule-small Eleven r = go (leb r 1) refl
     go false e = omega (arith, leb-false r 1 e)
 
 pub check-is-one-digit : CheckIsOneDigit
-check-is-one-digit m bs = rule-small m (sumOf m 0 bs % sizeOf m)
+check-is-one-digit m bs = rule-small m (weightedSum m 0 bs % sizeOf m)
 
 pub parts-compose : PartsCompose
 parts-compose m k [] right = omega arith
@@ -59,26 +59,26 @@ pub term-small : (m : Modulus) (k b : ℕ) → termOf m k b ≤ 81
 unfolding termOf addedBy
 term-small m k b = le-trans (part-small m (weightOf m k * valueOf b)) (product-small m k b)
 
-pub sum-small : (m : Modulus) (k : ℕ) (bs : List ℕ) → sumOf m k bs ≤ 81 * length bs
+pub sum-small : (m : Modulus) (k : ℕ) (bs : List ℕ) → weightedSum m k bs ≤ 81 * length bs
 sum-small m k [] = omega arith
 sum-small m k (b ∷ bs) = omega (arith, term-small m (k + length bs) b, sum-small m k bs)
 
 -- A loop from the left at byte i: what it has, and the sum from i on, is the whole sum.
 module _ (m : Modulus) (k : ℕ) (bs : List ℕ) (i sum : ℕ) where
   pub sum-step : {t : ℕ} → i < length bs → t ≡ termOf m (k + (length bs - 1 - i)) (getD bs i 0)
-      → (sum ≤ 81 * i) × (sum + sumOf m k (drop i bs) ≡ sumOf m k bs)
-      → (sum + t ≤ 81 * (i + 1)) × (sum + t + sumOf m k (drop (i + 1) bs) ≡ sumOf m k bs)
+      → (sum ≤ 81 * i) × (sum + weightedSum m k (drop i bs) ≡ weightedSum m k bs)
+      → (sum + t ≤ 81 * (i + 1)) × (sum + t + weightedSum m k (drop (i + 1) bs) ≡ weightedSum m k bs)
   sum-step h e inv =
       let l : length (drop (suc i) bs) ≡ length bs - 1 - i = omega (arith, length-drop (suc i) bs) in
-      let step : sumOf m k (drop i bs) ≡ termOf m (k + (length bs - 1 - i)) (getD bs i 0) + sumOf m k (drop (i + 1) bs) = rw (add-one, drop-cons bs i 0, l) in
+      let step : weightedSum m k (drop i bs) ≡ termOf m (k + (length bs - 1 - i)) (getD bs i 0) + weightedSum m k (drop (i + 1) bs) = rw (add-one, drop-cons bs i 0, l) in
       let small = term-small m (k + (length bs - 1 - i)) (getD bs i 0) in
       (omega arith, omega arith)
 
-  pub sum-end : length bs ≤ i → sum + sumOf m k (drop i bs) ≡ sumOf m k bs → sum ≡ sumOf m k bs
+  pub sum-end : length bs ≤ i → sum + weightedSum m k (drop i bs) ≡ weightedSum m k bs → sum ≡ weightedSum m k bs
   sum-end h inv = rw (drop-of-length-le bs h, add-zero) at inv
 
 -- the weights come again after eight digits
-pub sum-period : (m : Modulus) (k j : ℕ) (bs : List ℕ) → k % 8 ≡ j % 8 → sumOf m k bs ≡ sumOf m j bs
+pub sum-period : (m : Modulus) (k j : ℕ) (bs : List ℕ) → k % 8 ≡ j % 8 → weightedSum m k bs ≡ weightedSum m j bs
 sum-period m k j [] e = refl
 sum-period m k j (b ∷ bs) e =
     let n : (k + length bs) % 8 ≡ (j + length bs) % 8 = omega arith in
@@ -87,17 +87,17 @@ sum-period m k j (b ∷ bs) e =
 
 -- A loop over blocks from the right: a turn takes the bytes from index a up to index e.
 module _ (m : Modulus) (k : ℕ) (bs : List ℕ) where
-  pub blocks-start : 0 ≡ sumOf m k (drop (length bs) bs) % sizeOf m
+  pub blocks-start : 0 ≡ weightedSum m k (drop (length bs) bs) % sizeOf m
   blocks-start = rw (drop-length, zero-mod)
 
   pub blocks-step : (a e j sum : ℕ) {t : ℕ} → a ≤ e → e ≤ length bs → j % 8 ≡ (k + (length bs - e)) % 8
-      → t ≡ sumOf m j (take (e - a) (drop a bs)) → sum ≡ sumOf m k (drop e bs) % sizeOf m
-      → (sum + t) % sizeOf m ≡ sumOf m k (drop a bs) % sizeOf m
+      → t ≡ weightedSum m j (take (e - a) (drop a bs)) → sum ≡ weightedSum m k (drop e bs) % sizeOf m
+      → (sum + t) % sizeOf m ≡ weightedSum m k (drop a bs) % sizeOf m
   blocks-step a e j sum {t} h l p q inv =
       let n : a + (e - a) ≡ e = omega arith in
       let d : take (e - a) (drop a bs) ++ drop e bs ≡ drop a bs = cc (take-append-drop (e - a) (drop a bs), drop-drop (e - a) a bs) in
-      let whole : sumOf m k (drop a bs) ≡ sumOf m (k + (length bs - e)) (take (e - a) (drop a bs)) + sumOf m k (drop e bs)
+      let whole : weightedSum m k (drop a bs) ≡ weightedSum m (k + (length bs - e)) (take (e - a) (drop a bs)) + weightedSum m k (drop e bs)
       = rw (length-drop e bs, d) at (parts-compose m k (take (e - a) (drop a bs)) (drop e bs)) in
-      let same : t ≡ sumOf m (k + (length bs - e)) (take (e - a) (drop a bs)) = q ∙ sum-period m j (k + (length bs - e)) (take (e - a) (drop a bs)) p in
-      let f : sumOf m k (drop e bs) + t ≡ sumOf m k (drop a bs) = omega arith in
-      rw inv (mod-add-mod (sumOf m k (drop e bs)) (sizeOf m) t ∙ ap (λ (x : ℕ). x % sizeOf m) f)
+      let same : t ≡ weightedSum m (k + (length bs - e)) (take (e - a) (drop a bs)) = q ∙ sum-period m j (k + (length bs - e)) (take (e - a) (drop a bs)) p in
+      let f : weightedSum m k (drop e bs) + t ≡ weightedSum m k (drop a bs) = omega arith in
+      rw inv (mod-add-mod (weightedSum m k (drop e bs)) (sizeOf m) t ∙ ap (λ (x : ℕ). x % sizeOf m) f)

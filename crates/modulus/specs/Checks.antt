@@ -11,8 +11,8 @@ use Rattle.decimal.specs.Bytes.{isOf, all}
 use Rattle.decimal.specs.Numbers.{valueOf}
 use Rattle.modulus.specs.declared.Modulus.{Modulus}
 use Rattle.modulus.specs.declared.Modulus.the-variants.{Ten, Eleven}
-use Rattle.modulus.specs.declared.Summed.{Summed}
-use Rattle.modulus.specs.declared.Summed.the-variants.{Both, NoSum}
+use Rattle.modulus.specs.declared.MaybeSums.{MaybeSums}
+use Rattle.modulus.specs.declared.MaybeSums.the-variants.{Both, NoSum}
 
 abbrev pub sizeOf : Modulus → ℕ
 sizeOf Ten = 10
@@ -24,36 +24,36 @@ weightOf Ten k = 2 - k % 2
 weightOf Eleven k = 2 + k % 8
 
 -- what a product adds: its decimal digits (of a digit it has two at the most); under modulo 11 the whole product
-abbrev pub partOf : Modulus → ℕ → ℕ
-partOf Ten product = product / 10 + product % 10
-partOf Eleven product = product
+abbrev pub productPart : Modulus → ℕ → ℕ
+productPart Ten product = product / 10 + product % 10
+productPart Eleven product = product
 
 -- what a digit of this value adds that has k digits to its right, and what a byte adds
 unfoldable pub addedBy : Modulus → ℕ → ℕ → ℕ
-addedBy m k d = partOf m (weightOf m k * d)
+addedBy m k d = productPart m (weightOf m k * d)
 
 unfoldable pub termOf : Modulus → ℕ → ℕ → ℕ
 termOf m k b = addedBy m k (valueOf b)
 
 -- the sum over a list that has k more digits to its right
-abbrev pub sumOf : Modulus → ℕ → List ℕ → ℕ
-sumOf m k [] = 0
-sumOf m k (b ∷ bs) = termOf m (k + length bs) b + sumOf m k bs
+abbrev pub weightedSum : Modulus → ℕ → List ℕ → ℕ
+weightedSum m k [] = 0
+weightedSum m k (b ∷ bs) = termOf m (k + length bs) b + weightedSum m k bs
 
-abbrev pub restOf : Modulus → List ℕ → ℕ
-restOf m bs = sumOf m 0 bs % sizeOf m
+abbrev pub remainderOf : Modulus → List ℕ → ℕ
+remainderOf m bs = weightedSum m 0 bs % sizeOf m
 
 -- the check is 10 less the remainder by 10, and 0 for remainder 0; 11 less the remainder by 11, and 0 for remainders 0 and 1
-unfoldable pub ruleOf : Modulus → ℕ → ℕ
-ruleOf Ten rest = cond (eqb rest 0) 0 (10 - rest)
-ruleOf Eleven rest = cond (leb rest 1) 0 (11 - rest)
+unfoldable pub digitOfRemainder : Modulus → ℕ → ℕ
+digitOfRemainder Ten rest = cond (eqb rest 0) 0 (10 - rest)
+digitOfRemainder Eleven rest = cond (leb rest 1) 0 (11 - rest)
 
 abbrev pub checkOf : Modulus → List ℕ → ℕ
-checkOf m bs = ruleOf m (restOf m bs)
+checkOf m bs = digitOfRemainder m (remainderOf m bs)
 
 -- both sums of forty digits at once; of other bytes none
-abbrev pub sumsOf : List ℕ → Summed
-sumsOf bs = cond (eqb (length bs) 40 && all (isOf Digit) bs) (Both (sumOf Ten 0 bs) (sumOf Eleven 0 bs)) NoSum
+abbrev pub bothSums : List ℕ → MaybeSums
+bothSums bs = cond (eqb (length bs) 40 && all (isOf Digit) bs) (Both (weightedSum Ten 0 bs) (weightedSum Eleven 0 bs)) NoSum
 
 -- Promises, over the modulus and over any list.
 
@@ -63,13 +63,13 @@ CheckIsOneDigit = (m : Modulus) (bs : List ℕ) → checkOf m bs ≤ 9
 
 -- the sum of two parts: the left one has the right one's digits to its right too
 abbrev pub PartsCompose : Type 0
-PartsCompose = (m : Modulus) (k : ℕ) (left right : List ℕ) → sumOf m k (left ++ right) ≡ sumOf m (k + length right) left + sumOf m k right
+PartsCompose = (m : Modulus) (k : ℕ) (left right : List ℕ) → weightedSum m k (left ++ right) ≡ weightedSum m (k + length right) left + weightedSum m k right
 
 -- one digit changed into another moves the remainder
 abbrev pub OneDigitMoves : Type 0
 OneDigitMoves =
     (m : Modulus) (k : ℕ) (bs : List ℕ) (i d : ℕ) → i < length bs → isOf Digit (getD bs i 0) ≡ true → isOf Digit d ≡ true
-    → sumOf m k (set bs i d) % sizeOf m ≡ sumOf m k bs % sizeOf m → d ≡ getD bs i 0
+    → weightedSum m k (set bs i d) % sizeOf m ≡ weightedSum m k bs % sizeOf m → d ≡ getD bs i 0
 
 -- two neighbours that changed places
 abbrev pub exchanged : List ℕ → ℕ → List ℕ
@@ -88,11 +88,11 @@ abbrev pub ExchangeKeeps : Type 0
 ExchangeKeeps =
     (k : ℕ) (bs : List ℕ) (i : ℕ) → i + 1 < length bs → isOf Digit (getD bs i 0) ≡ true → isOf Digit (getD bs (i + 1) 0) ≡ true
     → (getD bs i 0 ≡ getD bs (i + 1) 0 → ⊥)
-    → (sumOf Ten k (exchanged bs i) % 10 ≡ sumOf Ten k bs % 10) ↔ ZeroAndNine (getD bs i 0) (getD bs (i + 1) 0)
+    → (weightedSum Ten k (exchanged bs i) % 10 ≡ weightedSum Ten k bs % 10) ↔ ZeroAndNine (getD bs i 0) (getD bs (i + 1) 0)
 
 -- an even number of digits more to the right changes no sum under modulo 10
 abbrev pub EvenShiftKeeps : Type 0
-EvenShiftKeeps = (n k : ℕ) (bs : List ℕ) → sumOf Ten (2 * n + k) bs ≡ sumOf Ten k bs
+EvenShiftKeeps = (n k : ℕ) (bs : List ℕ) → weightedSum Ten (2 * n + k) bs ≡ weightedSum Ten k bs
 
 -- a remainder that moves from 0 to 1, or from 1 to 0
 abbrev pub BetweenZeroAndOne : ℕ → ℕ → Type 0
@@ -100,7 +100,7 @@ BetweenZeroAndOne = Are 0 1
 
 -- a check shows its remainder; under modulo 11 it does not tell 0 from 1
 abbrev pub CheckShowsTen : Type 0
-CheckShowsTen = (r q : ℕ) → r < 10 → q < 10 → ruleOf Ten r ≡ ruleOf Ten q → r ≡ q
+CheckShowsTen = (r q : ℕ) → r < 10 → q < 10 → digitOfRemainder Ten r ≡ digitOfRemainder Ten q → r ≡ q
 
 abbrev pub CheckShowsEleven : Type 0
-CheckShowsEleven = (r q : ℕ) → r < 11 → q < 11 → (ruleOf Eleven r ≡ ruleOf Eleven q) ↔ ((r ≡ q) ⊎ BetweenZeroAndOne r q)
+CheckShowsEleven = (r q : ℕ) → r < 11 → q < 11 → (digitOfRemainder Eleven r ≡ digitOfRemainder Eleven q) ↔ ((r ≡ q) ⊎ BetweenZeroAndOne r q)

@@ -6,10 +6,10 @@ use lib.ListN.{drop}
 use Rattle.decimal.specs.declared.Class.the-variants.{Digit}
 use Rattle.decimal.specs.Bytes.{isOf, all}
 use Rattle.modulus.specs.declared.Modulus.{Modulus}
-use Rattle.modulus.specs.Checks.{sumOf}
+use Rattle.modulus.specs.Checks.{weightedSum}
 
 abbrev pub areDigits : List ℕ → List ℕ → List ℕ → Bool
 areDigits x y z = all (isOf Digit) x && (all (isOf Digit) y && all (isOf Digit) z)
 
 abbrev pub counted : Modulus → List ℕ → List ℕ → List ℕ → ℕ
-counted m x y z = sumOf m 0 x + (sumOf m 0 y + sumOf m 0 (drop 8 z))
+counted m x y z = weightedSum m 0 x + (weightedSum m 0 y + weightedSum m 0 (drop 8 z))

@@ -5,10 +5,10 @@ ghost use Prim.Native.Nat.{_+_, _-_, _%_, _≤_, _<_};
 ghost use lib.Dec.{eqb, leb, ltb};
 ghost use lib.ListN.{length};
 ghost use Rattle.decimal.specs.Bytes.{isOf};
-ghost use Rattle.modulus.specs.Checks.{addedBy, sumsOf};
+ghost use Rattle.modulus.specs.Checks.{addedBy, bothSums};
 ghost use Rattle.modulus.specs.Columns.{areDigits, counted};
+use crate::MaybeSums;
 use crate::Modulus;
-use crate::Summed;
 use decimal::Class;
 
 // What sixteen columns come to; the flag is 0 where all are digits.
@@ -21,12 +21,12 @@ struct Added {
 fn flag_of(x: u8, y: u8, z: u8) -> u8
     ensures { λ r. ⌜ r ≡ cond (isOf Class.Digit x && (isOf Class.Digit y && isOf Class.Digit z)) 0 1 ⌝ }
 {
-    decimal::flag(Class::Digit, x)
-        | (decimal::flag(Class::Digit, y) | decimal::flag(Class::Digit, z))
+    decimal::class_error_bit(Class::Digit, x)
+        | (decimal::class_error_bit(Class::Digit, y) | decimal::class_error_bit(Class::Digit, z))
 }
 
 // The low half of a byte is what a digit counts.
-fn low(b: u8) -> u8
+fn low_half(b: u8) -> u8
     ensures { λ r. ⌜ r ≡ b % 16 ⌝ }
     ensures small { λ r. ⌜ r ≤ 15 ⌝ }
 {
@@ -83,8 +83,8 @@ fn columns(x: &[u8], y: &[u8], z: &[u8]) -> Added
     let mut elevens: u16 = 0;
     let mut i = 0;
     while i < 16 {
-        let a = low(x[i]);
-        let b = low(y[i]);
+        let a = low_half(x[i]);
+        let b = low_half(y[i]);
         let c = late(i, z[i]);
         bad = bad | flag_of(x[i], y[i], z[i]);
         tens += ten(i, a, b, c);
@@ -99,15 +99,15 @@ fn columns(x: &[u8], y: &[u8], z: &[u8]) -> Added
 }
 
 // The sums over forty digits under both moduli; of other bytes none.
-pub fn sums_of_forty(digits: &[u8]) -> Summed
-    ensures { λ r. ⌜ r ≡ sumsOf (now (digits .entry)) ⌝ }
+pub fn sums_of_forty(digits: &[u8]) -> MaybeSums
+    ensures { λ r. ⌜ r ≡ bothSums (now (digits .entry)) ⌝ }
 {
     if digits.len() != 40 {
-        return Summed::NoSum;
+        return MaybeSums::NoSum;
     }
     let all = columns(&digits[0..16], &digits[16..32], &digits[24..40]);
     if all.flag != 0 {
-        return Summed::NoSum;
+        return MaybeSums::NoSum;
     }
-    Summed::Both(all.ten as u64, all.eleven as u64)
+    MaybeSums::Both(all.ten as u64, all.eleven as u64)
 }

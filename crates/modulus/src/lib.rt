@@ -2,7 +2,7 @@
 ghost use mathlib.Core.Path.{_≡_};
 ghost use Prim.Native.Nat.{_-_, _%_, _≤_, _<_};
 ghost use lib.ListN.{length};
-ghost use Rattle.modulus.specs.Checks.{sizeOf, weightOf, partOf, termOf, sumOf, ruleOf, checkOf};
+ghost use Rattle.modulus.specs.Checks.{sizeOf, weightOf, productPart, termOf, weightedSum, digitOfRemainder, checkOf};
 
 mod forty;
 
@@ -14,7 +14,7 @@ pub enum Modulus {
 }
 
 // The sum of digits under modulo 10, and under modulo 11.
-pub enum Summed {
+pub enum MaybeSums {
     Both(u64, u64),
     NoSum,
 }
@@ -36,8 +36,8 @@ fn less(size: u64, rest: u64) -> u64
 }
 
 // The check digit that a remainder gives.
-pub fn rule(m: Modulus, rest: u64) -> u64
-    ensures { λ r. ⌜ r ≡ ruleOf m rest ⌝ }
+pub fn digit_of_remainder(m: Modulus, rest: u64) -> u64
+    ensures { λ r. ⌜ r ≡ digitOfRemainder m rest ⌝ }
 {
     match m {
         Modulus::Ten => if rest == 0 { 0 } else { less(10, rest) },
@@ -57,7 +57,7 @@ fn weight(m: Modulus, right: usize) -> u16
 
 // What a product adds to the sum.
 fn part(m: Modulus, product: u16) -> u16
-    ensures { λ r. ⌜ r ≡ partOf m product ⌝ }
+    ensures { λ r. ⌜ r ≡ productPart m product ⌝ }
 {
     match m {
         Modulus::Ten => product / 10 + product % 10,
@@ -75,7 +75,7 @@ fn term(m: Modulus, right: usize, b: u8) -> u16
 // The sum over a part short enough that 16 bits hold it: so narrow a loop is made wide by the compiler.
 fn short_sum(m: Modulus, digits: &[u8], right: usize) -> u64
     requires { ⌜ (length (now digits) ≤ 512) × (right < 8) ⌝ }
-    ensures { λ r. ⌜ r ≡ sumOf m right (now (digits .entry)) ⌝ }
+    ensures { λ r. ⌜ r ≡ weightedSum m right (now (digits .entry)) ⌝ }
 {
     let mut sum: u16 = 0;
     let mut i = 0;
@@ -93,8 +93,8 @@ fn block_start(end: usize) -> usize
 }
 
 // The remainder of the sum over a part that has `right` more digits to its right; in blocks, so that no length wraps it.
-pub fn rest(m: Modulus, digits: &[u8], right: usize) -> u64
-    ensures { λ r. ⌜ r ≡ sumOf m right (now (digits .entry)) % sizeOf m ⌝ }
+pub fn weighted_remainder(m: Modulus, digits: &[u8], right: usize) -> u64
+    ensures { λ r. ⌜ r ≡ weightedSum m right (now (digits .entry)) % sizeOf m ⌝ }
 {
     let mut sum: u64 = 0;
     let mut end = digits.len();
@@ -111,5 +111,5 @@ pub fn rest(m: Modulus, digits: &[u8], right: usize) -> u64
 pub fn check(m: Modulus, digits: &[u8]) -> u64
     ensures { λ r. ⌜ r ≡ checkOf m (now (digits .entry)) ⌝ }
 {
-    rule(m, rest(m, digits, 0))
+    digit_of_remainder(m, weighted_remainder(m, digits, 0))
 }

@@ -9,7 +9,7 @@ use lib.ListN.{length}
 use Rattle.answer.specs.declared.Reason.the-variants.{WrongLength, NotExpected}
 use Rattle.answer.specs.declared.Answer.{Answer}
 use Rattle.answer.specs.declared.Answer.the-variants.{Accepted, Refused}
-use Rattle.answer.specs.Orders.{asked, _then_, kept}
+use Rattle.answer.specs.Orders.{require, _then_, ifAccepted}
 use Rattle.answer.proofs.Orders.{asked-accepts, then-accepts, accepted-takes}
 use Rattle.layout.specs.declared.Record.{Record}
 use Rattle.layout.specs.declared.Record.the-variants.{Header, Payment, Trailer}
@@ -20,15 +20,15 @@ use Rattle.session.specs.Sessions.{freshSession}
 use Rattle.writer.specs.declared.Stage.{Stage}
 use Rattle.writer.specs.declared.Stage.the-variants as stage
 use Rattle.writer.specs.declared.Writer.{Writer}
-use Rattle.writer.specs.Writers.{freshWriter, expects, doorAnswer, headerAnswer, headerBytes, paymentAnswer, paymentOf, countBytes, trailerAnswer, trailerBytes}
+use Rattle.writer.specs.Writers.{freshWriter, writerExpects, callAnswer, headerAnswer, headerBytes, paymentAnswer, paymentWritten, countBytes, trailerAnswer, trailerBytes}
 use Rattle.writer.proofs.Doors.{door-room}
-use Rattle.book.specs.Books.{Step, taking}
-use Rattle.book.specs.Promises.{answersOf}
-use Rattle.book.specs.WholeFiles.{AllAccepted}
-use Rattle.book.specs.WrittenFiles as files
-use Rattle.book.specs.WrittenFiles.{Given, recordOf, writtenRecords, PaymentsWritten, openedBy, Closed, trailerAfter}
-use Rattle.book.proofs.WrittenFiles.{closed-file-is-accepted}
-use Rattle.promises.specs.Calls.{Call, header, payment, trailer, answerTo, follows, writes, writerAfter, recordsOf, OneFile, CallsMakeOneFile}
+use Rattle.ledger.specs.Ledgers.{Step, taking}
+use Rattle.ledger.specs.Promises.{answersOf}
+use Rattle.ledger.specs.WholeFiles.{AllAccepted}
+use Rattle.ledger.specs.WrittenFiles as files
+use Rattle.ledger.specs.WrittenFiles.{Given, recordOf, writtenRecords, PaymentsWritten, openedBy, Closed, trailerAfter}
+use Rattle.ledger.proofs.WrittenFiles.{closed-file-is-accepted}
+use Rattle.promises.specs.Calls.{Call, header, payment, trailer, answerTo, nextWriter, writes, writerAfterCalls, recordsWritten, OneFile, CallsMakeOneFile}
 
 -- An accepted call was expected, and its room has a record's length.
 
@@ -43,14 +43,14 @@ roomOf (payment g room) = room
 roomOf (trailer room) = room
 
 through :
-    (w : Writer) (r : Record) (given room : ℕ) (rest : Answer) → doorAnswer w r given room then rest ≡ Accepted
-    → (room ≡ recordLength) × (expects (w .stage) r ≡ true)
+    (w : Writer) (r : Record) (given room : ℕ) (rest : Answer) → callAnswer w r given room then rest ≡ Accepted
+    → (room ≡ recordLength) × (writerExpects (w .stage) r ≡ true)
 through w r given room rest e =
-    let d = then-accepts (doorAnswer w r given room) rest .0 e .0 in
-    let t = then-accepts (asked (eqb room recordLength && eqb given (givenLength r)) WrongLength 0) (asked (expects (w .stage) r) NotExpected 1) .0 d in
-    (door-room w r given room d, asked-accepts (expects (w .stage) r) NotExpected 1 .0 (t .1))
+    let d = then-accepts (callAnswer w r given room) rest .0 e .0 in
+    let t = then-accepts (require (eqb room recordLength && eqb given (givenLength r)) WrongLength 0) (require (writerExpects (w .stage) r) NotExpected 1) .0 d in
+    (door-room w r given room d, asked-accepts (writerExpects (w .stage) r) NotExpected 1 .0 (t .1))
 
-expected : (w : Writer) (call : Call) → answerTo w call ≡ Accepted → (roomOf call ≡ recordLength) × (expects (w .stage) (kindOf call) ≡ true)
+expected : (w : Writer) (call : Call) → answerTo w call ≡ Accepted → (roomOf call ≡ recordLength) × (writerExpects (w .stage) (kindOf call) ≡ true)
 expected w (header given room) e = through w Header (length given) room (makeAnswer Header given (0 ∷ 0 ∷ []) room) e
 expected w (payment g room) e =
     through w Payment (length (g .fields)) room (makeAnswer Payment (g .fields) (g .received ∷ g .tariff ∷ []) recordLength then fileAnswer (w .file) (g .received)) e
@@ -64,15 +64,15 @@ never f = let z : _≡_ {A = ℕ} 0 1 = cc in omega arith
 
 pays-more :
     (w : Writer) (gs : List Given) (g : Given) → PaymentsWritten w gs
-    → paymentAnswer (files.writerAfter w gs) (g .fields) (g .received) (g .tariff) recordLength ≡ Accepted → PaymentsWritten w (gs ++ (g ∷ []))
+    → paymentAnswer (files.writerAfterPayments w gs) (g .fields) (g .received) (g .tariff) recordLength ≡ Accepted → PaymentsWritten w (gs ++ (g ∷ []))
 pays-more w [] g p e = (e, tt)
-pays-more w (h ∷ gs) g p e = (p .0, pays-more (paymentOf w (h .fields) (h .received) (h .tariff) recordLength .writer) gs g (p .1) e)
+pays-more w (h ∷ gs) g p e = (p .0, pays-more (paymentWritten w (h .fields) (h .received) (h .tariff) recordLength .writer) gs g (p .1) e)
 
 after-more :
     (w : Writer) (gs : List Given) (g : Given)
-    → files.writerAfter w (gs ++ (g ∷ [])) ≡ paymentOf (files.writerAfter w gs) (g .fields) (g .received) (g .tariff) recordLength .writer
+    → files.writerAfterPayments w (gs ++ (g ∷ [])) ≡ paymentWritten (files.writerAfterPayments w gs) (g .fields) (g .received) (g .tariff) recordLength .writer
 after-more w [] g = refl
-after-more w (h ∷ gs) g = after-more (paymentOf w (h .fields) (h .received) (h .tariff) recordLength .writer) gs g
+after-more w (h ∷ gs) g = after-more (paymentWritten w (h .fields) (h .received) (h .tariff) recordLength .writer) gs g
 
 -- What holds after any calls, of the writer and of the records written.
 
@@ -80,7 +80,7 @@ data State (w : Writer) (recs : List (List ℕ)) : Type 0 where
   fresh : w ≡ freshWriter → recs ≡ [] → State w recs
   writing :
       (h : List ℕ) (gs : List Given) → w .stage ≡ stage.Open → headerAnswer freshWriter h recordLength ≡ Accepted → PaymentsWritten (openedBy h) gs
-      → w ≡ files.writerAfter (openedBy h) gs → recs ≡ headerBytes h ∷ writtenRecords gs → State w recs
+      → w ≡ files.writerAfterPayments (openedBy h) gs → recs ≡ headerBytes h ∷ writtenRecords gs → State w recs
   ended :
       (h : List ℕ) (gs : List Given) → w .stage ≡ stage.Closed → Closed h gs
       → recs ≡ headerBytes h ∷ (writtenRecords gs ++ (trailerAfter h gs ∷ [])) → State w recs
@@ -92,9 +92,9 @@ next w (trailer room) = record { stage = stage.Closed; file = w .file }
 
 -- a call that is not expected is not accepted
 astray :
-    {w : Writer} {recs : List (List ℕ)} (s : Stage) (v : Writer) (call : Call) → v .stage ≡ s → expects s (kindOf call) ≡ false
+    {w : Writer} {recs : List (List ℕ)} (s : Stage) (v : Writer) (call : Call) → v .stage ≡ s → writerExpects s (kindOf call) ≡ false
     → answerTo v call ≡ Accepted → State w recs
-astray s v call p f e = absurd (never (sym f ∙ ap (λ (t : Stage). expects t (kindOf call)) (sym p) ∙ expected v call e .1))
+astray s v call p f e = absurd (never (sym f ∙ ap (λ (t : Stage). writerExpects t (kindOf call)) (sym p) ∙ expected v call e .1))
 
 moves :
     (w : Writer) (recs : List (List ℕ)) (call : Call) → State w recs → answerTo w call ≡ Accepted
@@ -111,7 +111,7 @@ moves w recs (trailer room) (fresh p q) e = astray stage.Fresh w (trailer room) 
 moves w recs (header given room) (writing h gs o a p l q) e = astray stage.Open w (header given room) o refl e
 moves w recs (payment g room) (writing h gs o a p l q) e =
     let d = expected w (payment g room) e .0 in
-    let last = files.writerAfter (openedBy h) gs in
+    let last = files.writerAfterPayments (openedBy h) gs in
     let paid : paymentAnswer last (g .fields) (g .received) (g .tariff) recordLength ≡ Accepted =
     ap (λ (v : Writer). paymentAnswer v (g .fields) (g .received) (g .tariff) recordLength) (sym l)
     ∙ ap (paymentAnswer w (g .fields) (g .received) (g .tariff)) (sym d) ∙ e in
@@ -123,7 +123,7 @@ moves w recs (payment g room) (writing h gs o a p l q) e =
     ∙ ap (λ (rs : List (List ℕ)). headerBytes h ∷ rs) (sym (map-append recordOf gs (g ∷ []))))
 moves w recs (trailer room) (writing h gs o a p l q) e =
     let d = expected w (trailer room) e .0 in
-    let shut : trailerAnswer (files.writerAfter (openedBy h) gs) recordLength ≡ Accepted =
+    let shut : trailerAnswer (files.writerAfterPayments (openedBy h) gs) recordLength ≡ Accepted =
     ap (λ (v : Writer). trailerAnswer v recordLength) (sym l) ∙ ap (trailerAnswer w) (sym d) ∙ e in
     ended h gs refl (record { opens = a; pays = p; closes = shut })
     (ap (λ (rs : List (List ℕ)). rs ++ (trailerBytes w ∷ [])) q
@@ -133,31 +133,31 @@ moves w recs (payment g room) (ended h gs o c q) e = astray stage.Closed w (paym
 moves w recs (trailer room) (ended h gs o c q) e = astray stage.Closed w (trailer room) o refl e
 
 -- a refused call changes nothing
-left : (w : Writer) (call : Call) → follows w call ≡ kept (answerTo w call) (next w call) w
+left : (w : Writer) (call : Call) → nextWriter w call ≡ ifAccepted (answerTo w call) (next w call) w
 left w (header given room) = refl
 left w (payment g room) = refl
 left w (trailer room) = refl
 
 answered :
     (w : Writer) (recs : List (List ℕ)) (call : Call) (a : Answer) → answerTo w call ≡ a → State w recs
-    → State (kept a (next w call) w) (recs ++ kept a (writes w call ∷ []) [])
+    → State (ifAccepted a (next w call) w) (recs ++ ifAccepted a (writes w call ∷ []) [])
 answered w recs call Accepted e s = moves w recs call s e
 answered w recs call (Refused why place) e s = subst (State w) (sym (append-nil recs)) s
 
-reached : (w : Writer) (recs : List (List ℕ)) (calls : List Call) → State w recs → State (writerAfter w calls) (recs ++ recordsOf w calls)
+reached : (w : Writer) (recs : List (List ℕ)) (calls : List Call) → State w recs → State (writerAfterCalls w calls) (recs ++ recordsWritten w calls)
 reached w recs [] s = subst (State w) (sym (append-nil recs)) s
 reached w recs (call ∷ calls) s =
-    let new : List (List ℕ) = kept (answerTo w call) (writes w call ∷ []) [] in
-    let now : State (follows w call) (recs ++ new) =
+    let new : List (List ℕ) = ifAccepted (answerTo w call) (writes w call ∷ []) [] in
+    let now : State (nextWriter w call) (recs ++ new) =
     subst (λ (v : Writer). State v (recs ++ new)) (sym (left w call)) (answered w recs call (answerTo w call) refl s) in
-    subst (State (writerAfter (follows w call) calls)) (append-assoc recs new (recordsOf (follows w call) calls)) (reached (follows w call) (recs ++ new) calls now)
+    subst (State (writerAfterCalls (nextWriter w call) calls)) (append-assoc recs new (recordsWritten (nextWriter w call) calls)) (reached (nextWriter w call) (recs ++ new) calls now)
 
 -- where it is closed
 
-unlike : (r : Record) (s t : Stage) → t ≡ stage.Closed → t ≡ s → expects s r ≡ true → ⊥
-unlike r s t p q e = never (sym (ap (λ (x : Stage). expects x r) p) ∙ ap (λ (x : Stage). expects x r) q ∙ e)
+unlike : (r : Record) (s t : Stage) → t ≡ stage.Closed → t ≡ s → writerExpects s r ≡ true → ⊥
+unlike r s t p q e = never (sym (ap (λ (x : Stage). writerExpects x r) p) ∙ ap (λ (x : Stage). writerExpects x r) q ∙ e)
 
-one-file : (calls : List Call) (w : Writer) → w .stage ≡ stage.Closed → State w (recordsOf freshWriter calls) → OneFile calls
+one-file : (calls : List Call) (w : Writer) → w .stage ≡ stage.Closed → State w (recordsWritten freshWriter calls) → OneFile calls
 one-file calls w p (fresh q r) = absurd (unlike Header stage.Fresh (w .stage) p (ap (λ (v : Writer). v .stage) q) refl)
 one-file calls w p (writing h gs o a q l r) = absurd (unlike Trailer stage.Open (w .stage) p o refl)
 one-file calls w p (ended h gs o c r) =
@@ -171,4 +171,4 @@ one-file calls w p (ended h gs o c r) =
     }
 
 pub calls-make-one-file : CallsMakeOneFile
-calls-make-one-file calls p = one-file calls (writerAfter freshWriter calls) p (reached freshWriter [] calls (fresh refl refl))
+calls-make-one-file calls p = one-file calls (writerAfterCalls freshWriter calls) p (reached freshWriter [] calls (fresh refl refl))

@@ -12,22 +12,22 @@ use Rattle.board.proofs.Lanes.{past-thirty-two-bits}
 use Rattle.writer.proofs.Written.{fields-write-the-header, fields-write-the-payment, written-is-accepted}
 use Rattle.writer.proofs.Trailers.{fields-write-the-trailer}
 use Rattle.writer.proofs.Amounts.{written-amounts-are-read, trailer-shows-the-figures}
-use Rattle.paper.proofs.Fits.{page-fits}
-use Rattle.paper.proofs.Pages.{printed-holds}
-use Rattle.paper.proofs.Plain.{shown-reads-back}
-use Rattle.slips.proofs.Accepted.{passes-by-checks}
-use Rattle.slips.proofs.Pieces.{boxes-are-numbered}
-use Rattle.slips.proofs.OneTen.{one-changed-digit-is-refused}
-use Rattle.slips.proofs.Exchange.{exchange-of-neighbours}
-use Rattle.slips.proofs.OneEleven.{one-changed-digit-under-eleven}
-use Rattle.slips.proofs.Samples.{directions-may-differ, borders-hold, segment-may-slip, kind-may-slip}
-use Rattle.book.proofs.Agreement.{session-agrees, answers-are-the-books, next-answer-is-the-books}
-use Rattle.book.proofs.Sessions.{finish-keeps-session, true-trailers-only, only-trailers-show, nothing-shows-before, trailers-show-all, abandon-keeps-board, abandon-drops-file, abandon-nothing, finish-answers}
-use Rattle.book.proofs.Shown.{lanes-are-the-payments, lanes-in-order, each-lane-is-exact, no-issuer-has-two-lanes, sums-are-the-records, totals-are-the-records, within-limits}
+use Rattle.page.proofs.Fits.{page-fits}
+use Rattle.page.proofs.Pages.{printed-holds}
+use Rattle.page.proofs.Plain.{shown-reads-back}
+use Rattle.typos.proofs.Accepted.{passes-by-checks}
+use Rattle.typos.proofs.Pieces.{boxes-are-numbered}
+use Rattle.typos.proofs.OneTen.{one-changed-digit-is-refused}
+use Rattle.typos.proofs.Exchange.{exchange-of-neighbours}
+use Rattle.typos.proofs.OneEleven.{one-changed-digit-under-eleven}
+use Rattle.typos.proofs.Samples.{directions-may-differ, borders-hold, segment-may-slip, kind-may-slip}
+use Rattle.ledger.proofs.Agreement.{session-agrees, answers-are-the-books, next-answer-is-the-books}
+use Rattle.ledger.proofs.Sessions.{finish-keeps-session, true-trailers-only, only-trailers-show, nothing-shows-before, trailers-show-all, abandon-keeps-board, abandon-drops-file, abandon-nothing, finish-answers}
+use Rattle.ledger.proofs.Shown.{lanes-are-the-payments, lanes-in-order, each-lane-is-exact, no-issuer-has-two-lanes, sums-are-the-records, totals-are-the-records, within-limits}
 use Rattle.session.proofs.Runs.{run-is-its-takes}
-use Rattle.book.proofs.Runs.{run-is-the-books}
-use Rattle.book.proofs.WholeFiles.{file-accepted, file-posted, fresh-session-accepts, fresh-session-shows}
-use Rattle.book.proofs.WrittenFiles.{closed-file-is-whole, closed-file-is-accepted, fields-write-the-file}
+use Rattle.ledger.proofs.Runs.{run-is-the-books}
+use Rattle.ledger.proofs.WholeFiles.{file-accepted, file-posted, fresh-session-accepts, fresh-session-shows}
+use Rattle.ledger.proofs.WrittenFiles.{closed-file-is-whole, closed-file-is-accepted, fields-write-the-file}
 use Rattle.promises.specs.Demands.{Demand1, Demand2, Demand3, Promised}
 use Rattle.promises.proofs.Calls.{calls-make-one-file}
 use Rattle.promises.proofs.OneOutcome.{one-outcome}

@@ -24,9 +24,9 @@ one-outcome =
       answer·Answer·place = λ w κs given g r r′ left left′. value w _ _ _ _ _ left;
       answer·Answer·behind = λ w κs given g r r′ left left′. value w _ _ _ _ _ left;
       decimal·is_of = λ w κs given g r r′ left left′. value w _ _ _ _ _ left;
-      decimal·flag = λ w κs given g r r′ left left′. value w _ _ _ _ _ left;
+      decimal·class_error_bit = λ w κs given g r r′ left left′. value w _ _ _ _ _ left;
       decimal·all_of = λ w κs given g r r′ left left′. value w _ _ _ _ _ left;
-      decimal·first_not = λ w κs given g r r′ left left′. value w _ _ _ _ _ left;
+      decimal·require_class = λ w κs given g r r′ left left′. value w _ _ _ _ _ left;
       decimal·value = λ w κs given g r r′ left left′. value w _ _ _ _ _ left;
       decimal·number = λ w κs given g r r′ left left′. value w _ _ _ _ _ left;
       decimal·low_number = λ w κs given g r r′ left left′. value w _ _ _ _ _ left;
@@ -37,20 +37,20 @@ one-outcome =
           two w _ _ _ _ _ (λ p p′. (same (p .0) (p′ .0), ap (λ bytes. (tt, (tt, (bytes, (tt, tt))))) (cc (p .0, p .1, p′ .0, p′ .1))));
       calendar·is_date = λ w κs given g r r′ left left′. value w _ _ _ _ _ left;
       calendar·read_date = λ w κs given g r r′ left left′. value w _ _ _ _ _ left;
-      calendar·spells_date = λ w κs given g r r′ left left′. value w _ _ _ _ _ left;
+      calendar·is_date_text = λ w κs given g r r′ left left′. value w _ _ _ _ _ left;
       modulus·remainder = λ w κs given g r r′ left left′. value w _ _ _ _ _ left;
-      modulus·rule = λ w κs given g r r′ left left′. value w _ _ _ _ _ left;
-      modulus·rest = λ w κs given g r r′ left left′. value w _ _ _ _ _ left;
+      modulus·digit_of_remainder = λ w κs given g r r′ left left′. value w _ _ _ _ _ left;
+      modulus·weighted_remainder = λ w κs given g r r′ left left′. value w _ _ _ _ _ left;
       modulus·check = λ w κs given g r r′ left left′. value w _ _ _ _ _ left;
       modulus·sums_of_forty = λ w κs given g r r′ left left′. value w _ _ _ _ _ left;
       barcode·is_segment = λ w κs given g r r′ left left′. value w _ _ _ _ _ left;
       barcode·is_kind = λ w κs given g r r′ left left′. value w _ _ _ _ _ left;
-      barcode·named = λ w κs given g r r′ left left′. value w _ _ _ _ _ left;
-      barcode·front = λ w κs given g r r′ left left′. value w _ _ _ _ _ left;
+      barcode·modulus_of_kind = λ w κs given g r r′ left left′. value w _ _ _ _ _ left;
+      «barcode·check_prefix» = λ w κs given g r r′ left left′. value w _ _ _ _ _ left;
       barcode·check = λ w κs given g r r′ left left′. value w _ _ _ _ _ left;
       barcode·check_behind = λ w κs given g r r′ left left′. value w _ _ _ _ _ left;
       barcode·read_fields = λ w κs given g r r′ left left′. value w _ _ _ _ _ left;
-      barcode·pays = λ w κs given g r r′ left left′. value w _ _ _ _ _ left;
+      barcode·accepted_issuer = λ w κs given g r r′ left left′. value w _ _ _ _ _ left;
       barcode·decode = λ w κs given g r r′ left left′. value w _ _ _ _ _ left;
       barcode·free_field = λ w κs given g r r′ left left′. value w _ _ _ _ _ left;
       barcode·builder·build = λ w κs given g r r′ left left′.
@@ -80,10 +80,10 @@ one-outcome =
       record·decode = λ w κs given g r r′ left left′. value w _ _ _ _ _ left;
       record·field = λ w κs given g r r′ left left′. value w _ _ _ _ _ left;
       record·check = λ w κs given g r r′ left left′. value w _ _ _ _ _ left;
-      record·paid = λ w κs given g r r′ left left′. value w _ _ _ _ _ left;
+      record·accepted_payment = λ w κs given g r r′ left left′. value w _ _ _ _ _ left;
       file·File·new = λ w κs given g r r′ left left′. value w _ _ _ _ _ left;
       file·File·take = λ w κs given g r r′ left left′. value w _ _ _ _ _ left;
-      file·File·judge = λ w κs given g r r′ left left′. value w _ _ _ _ _ left;
+      file·File·check_trailer = λ w κs given g r r′ left left′. value w _ _ _ _ _ left;
       file·File·close = λ w κs given g r r′ left left′. value w _ _ _ _ _ left;
       board·Lane·is_of = λ w κs given g r r′ left left′. value w _ _ _ _ _ left;
       board·Slot·post = λ w κs given g r r′ left left′. value w _ _ _ _ _ left;
@@ -102,41 +102,41 @@ one-outcome =
           two w _ _ _ _ _ (λ p p′. (same (p .0) (p′ .0), ap (λ bytes. (tt, (tt, (tt, (tt, (bytes, tt)))))) (cc (p .0, p .1, p′ .0, p′ .1))));
       writer·Writer·trailer = λ w κs given g r r′ left left′.
           two w _ _ _ _ _ (λ p p′. (same (p .0) (p′ .0), ap (λ bytes. (tt, (bytes, tt))) (cc (p .0, p .1, p′ .0, p′ .1))));
-      paper·print = λ w κs given g r r′ left left′.
+      page·print = λ w κs given g r r′ left left′.
           bounded w _ _ _ _ _ _ _ (λ p p′. (same (p .0) (p′ .0), ap (λ bytes. (tt, (tt, (tt, (tt, (bytes, tt)))))) (same (p .1) (p′ .1))));
-      engine·hollytrot_barcode_check = λ w κs given g r r′ left left′. value w _ _ _ _ _ left;
-      engine·hollytrot_barcode_decode = λ w κs given g r r′ left left′. value w _ _ _ _ _ left;
-      engine·hollytrot_barcode_free_field = λ w κs given g r r′ left left′. value w _ _ _ _ _ left;
-      engine·hollytrot_barcode_build = λ w κs given g r r′ left left′.
+      hollytrot·hollytrot_barcode_check = λ w κs given g r r′ left left′. value w _ _ _ _ _ left;
+      hollytrot·hollytrot_barcode_decode = λ w κs given g r r′ left left′. value w _ _ _ _ _ left;
+      hollytrot·hollytrot_barcode_free_field = λ w κs given g r r′ left left′. value w _ _ _ _ _ left;
+      hollytrot·hollytrot_barcode_build = λ w κs given g r r′ left left′.
           two w _ _ _ _ _ (λ p p′. (same (p .0) (p′ .0), ap (λ bytes. (tt, (tt, (tt, (tt, (bytes, tt)))))) (same (p .1) (p′ .1))));
-      engine·hollytrot_line_check = λ w κs given g r r′ left left′. value w _ _ _ _ _ left;
-      engine·hollytrot_line_decode = λ w κs given g r r′ left left′. value w _ _ _ _ _ left;
-      engine·hollytrot_line_to_barcode = λ w κs given g r r′ left left′.
+      hollytrot·hollytrot_line_check = λ w κs given g r r′ left left′. value w _ _ _ _ _ left;
+      hollytrot·hollytrot_line_decode = λ w κs given g r r′ left left′. value w _ _ _ _ _ left;
+      hollytrot·hollytrot_line_to_barcode = λ w κs given g r r′ left left′.
           two w _ _ _ _ _ (λ p p′. (same (p .0) (p′ .0), ap (λ bytes. (tt, (bytes, tt))) (same (p .1) (p′ .1))));
-      engine·hollytrot_line_from_barcode = λ w κs given g r r′ left left′.
+      hollytrot·hollytrot_line_from_barcode = λ w κs given g r r′ left left′.
           two w _ _ _ _ _ (λ p p′. (same (p .0) (p′ .0), ap (λ bytes. (tt, (bytes, tt))) (same (p .1) (p′ .1))));
-      engine·hollytrot_date_read = λ w κs given g r r′ left left′. value w _ _ _ _ _ left;
-      engine·hollytrot_date_check = λ w κs given g r r′ left left′. value w _ _ _ _ _ left;
-      engine·hollytrot_check_ten = λ w κs given g r r′ left left′. value w _ _ _ _ _ left;
-      engine·hollytrot_check_eleven = λ w κs given g r r′ left left′. value w _ _ _ _ _ left;
-      engine·hollytrot_page = λ w κs given g r r′ left left′.
+      hollytrot·hollytrot_date_read = λ w κs given g r r′ left left′. value w _ _ _ _ _ left;
+      hollytrot·hollytrot_date_check = λ w κs given g r r′ left left′. value w _ _ _ _ _ left;
+      hollytrot·hollytrot_check_ten = λ w κs given g r r′ left left′. value w _ _ _ _ _ left;
+      hollytrot·hollytrot_check_eleven = λ w κs given g r r′ left left′. value w _ _ _ _ _ left;
+      hollytrot·hollytrot_page = λ w κs given g r r′ left left′.
           two w _ _ _ _ _ (λ p p′. (same (p .0) (p′ .0), ap (λ bytes. (tt, (tt, (tt, (tt, (bytes, tt)))))) (same (p .1) (p′ .1))));
-      «engine·hollytrot_record_check» = λ w κs given g r r′ left left′. value w _ _ _ _ _ left;
-      «engine·hollytrot_record_decode» = λ w κs given g r r′ left left′. value w _ _ _ _ _ left;
-      «engine·hollytrot_record_field» = λ w κs given g r r′ left left′. value w _ _ _ _ _ left;
-      «engine·hollytrot_record_join» = λ w κs given g r r′ left left′.
+      «hollytrot·hollytrot_record_check» = λ w κs given g r r′ left left′. value w _ _ _ _ _ left;
+      «hollytrot·hollytrot_record_decode» = λ w κs given g r r′ left left′. value w _ _ _ _ _ left;
+      «hollytrot·hollytrot_record_field» = λ w κs given g r r′ left left′. value w _ _ _ _ _ left;
+      «hollytrot·hollytrot_record_join» = λ w κs given g r r′ left left′.
           two w _ _ _ _ _ (λ p p′. (same (p .0) (p′ .0), ap (λ bytes. (tt, (bytes, tt))) (same (p .1) (p′ .1))));
-      engine·hollytrot_session_new = λ w κs given g r r′ left left′. value w _ _ _ _ _ left;
-      engine·hollytrot_session_take = λ w κs given g r r′ left left′. value w _ _ _ _ _ left;
-      engine·hollytrot_session_run = λ w κs given g r r′ left left′. value w _ _ _ _ _ left;
-      engine·hollytrot_session_abandon = λ w κs given g r r′ left left′. value w _ _ _ _ _ left;
-      engine·hollytrot_session_finish = λ w κs given g r r′ left left′. value w _ _ _ _ _ left;
-      engine·hollytrot_session_board = λ w κs given g r r′ left left′. value w _ _ _ _ _ left;
-      engine·hollytrot_writer_new = λ w κs given g r r′ left left′. value w _ _ _ _ _ left;
-      engine·hollytrot_writer_header = λ w κs given g r r′ left left′.
+      hollytrot·hollytrot_session_new = λ w κs given g r r′ left left′. value w _ _ _ _ _ left;
+      hollytrot·hollytrot_session_take = λ w κs given g r r′ left left′. value w _ _ _ _ _ left;
+      hollytrot·hollytrot_session_run = λ w κs given g r r′ left left′. value w _ _ _ _ _ left;
+      hollytrot·hollytrot_session_abandon = λ w κs given g r r′ left left′. value w _ _ _ _ _ left;
+      hollytrot·hollytrot_session_finish = λ w κs given g r r′ left left′. value w _ _ _ _ _ left;
+      hollytrot·hollytrot_session_board = λ w κs given g r r′ left left′. value w _ _ _ _ _ left;
+      hollytrot·hollytrot_writer_new = λ w κs given g r r′ left left′. value w _ _ _ _ _ left;
+      hollytrot·hollytrot_writer_header = λ w κs given g r r′ left left′.
           two w _ _ _ _ _ (λ p p′. (same (p .0) (p′ .0), ap (λ bytes. (tt, (tt, (bytes, tt)))) (same (p .1) (p′ .1))));
-      engine·hollytrot_writer_payment = λ w κs given g r r′ left left′.
+      hollytrot·hollytrot_writer_payment = λ w κs given g r r′ left left′.
           two w _ _ _ _ _ (λ p p′. (same (p .0) (p′ .0), ap (λ bytes. (tt, (tt, (tt, (tt, (bytes, tt)))))) (same (p .1) (p′ .1))));
-      engine·hollytrot_writer_trailer = λ w κs given g r r′ left left′.
+      hollytrot·hollytrot_writer_trailer = λ w κs given g r r′ left left′.
           two w _ _ _ _ _ (λ p p′. (same (p .0) (p′ .0), ap (λ bytes. (tt, (bytes, tt))) (same (p .1) (p′ .1))));
     }

@@ -7,8 +7,8 @@ use Rattle.answer.specs.Orders.{Each}
 use Rattle.decimal.specs.Bytes.{isOf}
 use Rattle.decimal.specs.Numbers.{valueOf, digitsOf}
 use Rattle.calendar.specs.Dates.{isLeap, daysIn, isDate, dateOf}
-use Rattle.modulus.specs.Checks.{addedBy, termOf, ruleOf}
-use Rattle.barcode.specs.Codes.{leadAnswer, generalRight}
+use Rattle.modulus.specs.Checks.{addedBy, termOf, digitOfRemainder}
+use Rattle.barcode.specs.Codes.{firstThreeAnswer, generalRight}
 use Rattle.line.specs.Lines.{boxRight}
 use Rattle.layout.specs.Layouts.{namedBy, layoutOf, table, rowAt}
 use Rattle.kinds.specs.Kinds.{isService, isCapture, isForm, kindAnswer}
@@ -32,7 +32,7 @@ each-row {A} {B} f g (x ∷ xs) p = (ap (headOr (f x)) p, each-row f g xs (ap re
     rest (y ∷ ys) = ys
 
 all-rows : map (λ (row : Row). outcomeOf (row .asked)) samples ≡ map (λ (row : Row). row .out) samples
-unfolding recordAnswer fieldAnswer kindAnswer isService isCapture isForm namedBy layoutOf table rowAt figuresAnswer fileAnswer fits ownOf usedAfter slotAnswer leadAnswer generalRight boxRight termOf addedBy ruleOf dateOf isDate daysIn isLeap digitsOf valueOf isOf
+unfolding recordAnswer fieldAnswer kindAnswer isService isCapture isForm namedBy layoutOf table rowAt figuresAnswer fileAnswer fits ownOf usedAfter slotAnswer firstThreeAnswer generalRight boxRight termOf addedBy digitOfRemainder dateOf isDate daysIn isLeap digitsOf valueOf isOf
 all-rows = refl
 
 pub samples-hold : Hold samples
@@ -43,9 +43,9 @@ unfolding digitsOf
 p4-is-paid = refl
 
 pub p5-is-an-exchange : P5IsAnExchange
-unfolding leadAnswer generalRight boxRight ruleOf termOf addedBy digitsOf valueOf isOf
+unfolding firstThreeAnswer generalRight boxRight digitOfRemainder termOf addedBy digitsOf valueOf isOf
 p5-is-an-exchange = (refl, inl (refl, refl), omega arith, refl, refl, refl)
 
 pub p9-is-a-change : P9IsAChange
-unfolding leadAnswer generalRight boxRight ruleOf termOf addedBy digitsOf valueOf isOf
+unfolding firstThreeAnswer generalRight boxRight digitOfRemainder termOf addedBy digitsOf valueOf isOf
 p9-is-a-change = (refl, omega arith, (inl (refl, refl), inl (refl, refl)), refl, refl, refl)

@@ -12,15 +12,15 @@ use Rattle.fields.specs.Making.{FieldsMakeTheRecord, MadeIsAccepted}
 use Rattle.file.specs.Files.{OneRightTrailer}
 use Rattle.board.specs.Lanes.{PastThirtyTwoBits}
 use Rattle.writer.specs.Writers.{WrittenAmountsAreRead, FieldsWriteTheHeader, FieldsWriteThePayment, FieldsWriteTheTrailer, WrittenIsAccepted, TrailerShowsTheFigures}
-use Rattle.paper.specs.Pages.{PageFits, PrintedHolds}
-use Rattle.paper.specs.Plain.{ShownReadsBack}
-use Rattle.slips.specs.Slips.{PassesByChecks, BoxesAreNumbered, OneChangedDigitIsRefused, ExchangeOfNeighbours, OneChangedDigitUnderEleven}
-use Rattle.slips.specs.Samples.{DirectionsMayDiffer, BordersHold, SegmentMaySlip, KindMaySlip}
-use Rattle.book.specs.Promises.{FinishKeepsSession, TrueTrailersOnly, SessionAgrees, AnswersAreTheBooks, NextAnswerIsTheBooks, LanesAreThePayments, LanesInOrder, EachLaneIsExact, NoIssuerHasTwoLanes, SumsAreTheRecords, TotalsAreTheRecords, OnlyTrailersShow, NothingShowsBefore, TrailersShowAll, AbandonKeepsBoard, AbandonDropsFile, AbandonNothing, FinishAnswers, WithinLimits}
+use Rattle.page.specs.Pages.{PageFits, PrintedHolds}
+use Rattle.page.specs.Plain.{ShownReadsBack}
+use Rattle.typos.specs.Typos.{PassesByChecks, BoxesAreNumbered, OneChangedDigitIsRefused, ExchangeOfNeighbours, OneChangedDigitUnderEleven}
+use Rattle.typos.specs.Samples.{DirectionsMayDiffer, BordersHold, SegmentTypoPasses, KindTypoPasses}
+use Rattle.ledger.specs.Promises.{FinishKeepsSession, TrueTrailersOnly, SessionAgrees, AnswersAreTheLedgers, NextAnswerIsTheLedgers, LanesAreThePayments, LanesInOrder, EachLaneIsExact, NoIssuerHasTwoLanes, SumsAreTheRecords, TotalsAreTheRecords, OnlyTrailersShow, NothingShowsBefore, TrailersShowAll, AbandonKeepsBoard, AbandonDropsFile, AbandonNothing, FinishAnswers, WithinLimits}
 use Rattle.session.specs.Runs.{RunIsItsTakes}
-use Rattle.book.specs.Runs.{RunIsTheBooks}
-use Rattle.book.specs.WholeFiles.{FileAccepted, FilePosted, FreshSessionAccepts, FreshSessionShows}
-use Rattle.book.specs.WrittenFiles.{ClosedFileIsWhole, ClosedFileIsAccepted, FieldsWriteTheFile}
+use Rattle.ledger.specs.Runs.{RunIsTheLedgers}
+use Rattle.ledger.specs.WholeFiles.{FileAccepted, FilePosted, FreshSessionAccepts, FreshSessionShows}
+use Rattle.ledger.specs.WrittenFiles.{ClosedFileIsWhole, ClosedFileIsAccepted, FieldsWriteTheFile}
 use Rattle.promises.specs.Calls.{CallsMakeOneFile}
 use Rattle.promises.specs.OneOutcome.{OneOutcome}
 use Rattle.promises.specs.Refusals.{RefusalsChangeNothing}
@@ -65,7 +65,7 @@ pub record Demand2 : Type 0 where
   pub files : FileAccepted × FilePosted × FreshSessionAccepts × FreshSessionShows
   pub written : ClosedFileIsWhole × ClosedFileIsAccepted × CallsMakeOneFile × WrittenIsAccepted × TrailerShowsTheFigures
   -- and each lane shows exactly the payments of accepted files,
-  pub answers : SessionAgrees × AnswersAreTheBooks × NextAnswerIsTheBooks × RunIsTheBooks
+  pub answers : SessionAgrees × AnswersAreTheLedgers × NextAnswerIsTheLedgers × RunIsTheLedgers
   pub lanes : LanesAreThePayments × LanesInOrder × EachLaneIsExact × NoIssuerHasTwoLanes
   pub sums : SumsAreTheRecords × TotalsAreTheRecords
   pub together : OnlyTrailersShow × NothingShowsBefore × TrailersShowAll
@@ -85,7 +85,7 @@ pub record Demand3 : Type 0 where
   pub changedEleven : OneChangedDigitUnderEleven
   -- each case is real, and what the demand leaves out may pass
   pub real : P5IsAnExchange × P9IsAChange × DirectionsMayDiffer × BordersHold
-  pub beyond : SegmentMaySlip × KindMaySlip
+  pub beyond : SegmentTypoPasses × KindTypoPasses
 
 -- All of it, with the proved samples of document 01.
 pub record Promised : Type 2 where

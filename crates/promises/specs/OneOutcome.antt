@@ -12,9 +12,9 @@ use Rattle.answer.proofs.Answer.number as answer·Answer·number
 use Rattle.answer.proofs.Answer.place as answer·Answer·place
 use Rattle.answer.proofs.Answer.behind as answer·Answer·behind
 use Rattle.decimal.proofs.is_of as decimal·is_of
-use Rattle.decimal.proofs.flag as decimal·flag
+use Rattle.decimal.proofs.class_error_bit as decimal·class_error_bit
 use Rattle.decimal.proofs.all_of as decimal·all_of
-use Rattle.decimal.proofs.first_not as decimal·first_not
+use Rattle.decimal.proofs.require_class as decimal·require_class
 use Rattle.decimal.proofs.value as decimal·value
 use Rattle.decimal.proofs.number as decimal·number
 use Rattle.decimal.proofs.low_number as decimal·low_number
@@ -23,20 +23,20 @@ use Rattle.decimal.proofs.put as decimal·put
 use Rattle.decimal.proofs.put_number as decimal·put_number
 use Rattle.calendar.proofs.is_date as calendar·is_date
 use Rattle.calendar.proofs.read_date as calendar·read_date
-use Rattle.calendar.proofs.spells_date as calendar·spells_date
+use Rattle.calendar.proofs.is_date_text as calendar·is_date_text
 use Rattle.modulus.proofs.remainder as modulus·remainder
-use Rattle.modulus.proofs.rule as modulus·rule
-use Rattle.modulus.proofs.rest as modulus·rest
+use Rattle.modulus.proofs.digit_of_remainder as modulus·digit_of_remainder
+use Rattle.modulus.proofs.weighted_remainder as modulus·weighted_remainder
 use Rattle.modulus.proofs.check as modulus·check
 use Rattle.modulus.proofs.sums_of_forty as modulus·sums_of_forty
 use Rattle.barcode.proofs.is_segment as barcode·is_segment
 use Rattle.barcode.proofs.is_kind as barcode·is_kind
-use Rattle.barcode.proofs.named as barcode·named
-use Rattle.barcode.proofs.front as barcode·front
+use Rattle.barcode.proofs.modulus_of_kind as barcode·modulus_of_kind
+use Rattle.barcode.proofs.check_prefix as «barcode·check_prefix»
 use Rattle.barcode.proofs.check as barcode·check
 use Rattle.barcode.proofs.check_behind as barcode·check_behind
 use Rattle.barcode.proofs.read_fields as barcode·read_fields
-use Rattle.barcode.proofs.pays as barcode·pays
+use Rattle.barcode.proofs.accepted_issuer as barcode·accepted_issuer
 use Rattle.barcode.proofs.decode as barcode·decode
 use Rattle.barcode.proofs.free_field as barcode·free_field
 use Rattle.barcode.proofs.builder.build as barcode·builder·build
@@ -61,10 +61,10 @@ use Rattle.fields.proofs.make as fields·make
 use Rattle.record.proofs.decode as record·decode
 use Rattle.record.proofs.field as record·field
 use Rattle.record.proofs.check as record·check
-use Rattle.record.proofs.paid as record·paid
+use Rattle.record.proofs.accepted_payment as record·accepted_payment
 use Rattle.file.proofs.File.new as file·File·new
 use Rattle.file.proofs.File.take as file·File·take
-use Rattle.file.proofs.File.judge as file·File·judge
+use Rattle.file.proofs.File.check_trailer as file·File·check_trailer
 use Rattle.file.proofs.File.close as file·File·close
 use Rattle.board.proofs.Lane.is_of as board·Lane·is_of
 use Rattle.board.proofs.Slot.post as board·Slot·post
@@ -80,34 +80,34 @@ use Rattle.writer.proofs.Writer.new as writer·Writer·new
 use Rattle.writer.proofs.Writer.header as writer·Writer·header
 use Rattle.writer.proofs.Writer.payment as writer·Writer·payment
 use Rattle.writer.proofs.Writer.trailer as writer·Writer·trailer
-use Rattle.paper.proofs.print as paper·print
-use Rattle.engine.proofs.hollytrot_barcode_check as engine·hollytrot_barcode_check
-use Rattle.engine.proofs.hollytrot_barcode_decode as engine·hollytrot_barcode_decode
-use Rattle.engine.proofs.hollytrot_barcode_free_field as engine·hollytrot_barcode_free_field
-use Rattle.engine.proofs.hollytrot_barcode_build as engine·hollytrot_barcode_build
-use Rattle.engine.proofs.hollytrot_line_check as engine·hollytrot_line_check
-use Rattle.engine.proofs.hollytrot_line_decode as engine·hollytrot_line_decode
-use Rattle.engine.proofs.hollytrot_line_to_barcode as engine·hollytrot_line_to_barcode
-use Rattle.engine.proofs.hollytrot_line_from_barcode as engine·hollytrot_line_from_barcode
-use Rattle.engine.proofs.hollytrot_date_read as engine·hollytrot_date_read
-use Rattle.engine.proofs.hollytrot_date_check as engine·hollytrot_date_check
-use Rattle.engine.proofs.hollytrot_check_ten as engine·hollytrot_check_ten
-use Rattle.engine.proofs.hollytrot_check_eleven as engine·hollytrot_check_eleven
-use Rattle.engine.proofs.hollytrot_page as engine·hollytrot_page
-use Rattle.engine.proofs.hollytrot_record_check as «engine·hollytrot_record_check»
-use Rattle.engine.proofs.hollytrot_record_decode as «engine·hollytrot_record_decode»
-use Rattle.engine.proofs.hollytrot_record_field as «engine·hollytrot_record_field»
-use Rattle.engine.proofs.hollytrot_record_join as «engine·hollytrot_record_join»
-use Rattle.engine.proofs.hollytrot_session_new as engine·hollytrot_session_new
-use Rattle.engine.proofs.hollytrot_session_take as engine·hollytrot_session_take
-use Rattle.engine.proofs.hollytrot_session_run as engine·hollytrot_session_run
-use Rattle.engine.proofs.hollytrot_session_abandon as engine·hollytrot_session_abandon
-use Rattle.engine.proofs.hollytrot_session_finish as engine·hollytrot_session_finish
-use Rattle.engine.proofs.hollytrot_session_board as engine·hollytrot_session_board
-use Rattle.engine.proofs.hollytrot_writer_new as engine·hollytrot_writer_new
-use Rattle.engine.proofs.hollytrot_writer_header as engine·hollytrot_writer_header
-use Rattle.engine.proofs.hollytrot_writer_payment as engine·hollytrot_writer_payment
-use Rattle.engine.proofs.hollytrot_writer_trailer as engine·hollytrot_writer_trailer
+use Rattle.page.proofs.print as page·print
+use Rattle.hollytrot.proofs.hollytrot_barcode_check as hollytrot·hollytrot_barcode_check
+use Rattle.hollytrot.proofs.hollytrot_barcode_decode as hollytrot·hollytrot_barcode_decode
+use Rattle.hollytrot.proofs.hollytrot_barcode_free_field as hollytrot·hollytrot_barcode_free_field
+use Rattle.hollytrot.proofs.hollytrot_barcode_build as hollytrot·hollytrot_barcode_build
+use Rattle.hollytrot.proofs.hollytrot_line_check as hollytrot·hollytrot_line_check
+use Rattle.hollytrot.proofs.hollytrot_line_decode as hollytrot·hollytrot_line_decode
+use Rattle.hollytrot.proofs.hollytrot_line_to_barcode as hollytrot·hollytrot_line_to_barcode
+use Rattle.hollytrot.proofs.hollytrot_line_from_barcode as hollytrot·hollytrot_line_from_barcode
+use Rattle.hollytrot.proofs.hollytrot_date_read as hollytrot·hollytrot_date_read
+use Rattle.hollytrot.proofs.hollytrot_date_check as hollytrot·hollytrot_date_check
+use Rattle.hollytrot.proofs.hollytrot_check_ten as hollytrot·hollytrot_check_ten
+use Rattle.hollytrot.proofs.hollytrot_check_eleven as hollytrot·hollytrot_check_eleven
+use Rattle.hollytrot.proofs.hollytrot_page as hollytrot·hollytrot_page
+use Rattle.hollytrot.proofs.hollytrot_record_check as «hollytrot·hollytrot_record_check»
+use Rattle.hollytrot.proofs.hollytrot_record_decode as «hollytrot·hollytrot_record_decode»
+use Rattle.hollytrot.proofs.hollytrot_record_field as «hollytrot·hollytrot_record_field»
+use Rattle.hollytrot.proofs.hollytrot_record_join as «hollytrot·hollytrot_record_join»
+use Rattle.hollytrot.proofs.hollytrot_session_new as hollytrot·hollytrot_session_new
+use Rattle.hollytrot.proofs.hollytrot_session_take as hollytrot·hollytrot_session_take
+use Rattle.hollytrot.proofs.hollytrot_session_run as hollytrot·hollytrot_session_run
+use Rattle.hollytrot.proofs.hollytrot_session_abandon as hollytrot·hollytrot_session_abandon
+use Rattle.hollytrot.proofs.hollytrot_session_finish as hollytrot·hollytrot_session_finish
+use Rattle.hollytrot.proofs.hollytrot_session_board as hollytrot·hollytrot_session_board
+use Rattle.hollytrot.proofs.hollytrot_writer_new as hollytrot·hollytrot_writer_new
+use Rattle.hollytrot.proofs.hollytrot_writer_header as hollytrot·hollytrot_writer_header
+use Rattle.hollytrot.proofs.hollytrot_writer_payment as hollytrot·hollytrot_writer_payment
+use Rattle.hollytrot.proofs.hollytrot_writer_trailer as hollytrot·hollytrot_writer_trailer
 use Rattle.promises.specs.Allowed.{Contract, Lent, Given, Result, Ghost, allowed}
 
 module _ (T : Ended) (contract : Contract T) where
@@ -129,9 +129,9 @@ pub record OneOutcome : Type 2 where
   pub answer·Answer·place : One answer·Answer·place.ended (λ M. answer·Answer·place.clauses)
   pub answer·Answer·behind : One answer·Answer·behind.ended (λ M. answer·Answer·behind.clauses)
   pub decimal·is_of : One decimal·is_of.ended (λ M. decimal·is_of.clauses)
-  pub decimal·flag : One decimal·flag.ended (λ M. decimal·flag.clauses)
+  pub decimal·class_error_bit : One decimal·class_error_bit.ended (λ M. decimal·class_error_bit.clauses)
   pub decimal·all_of : One decimal·all_of.ended (λ M. decimal·all_of.clauses)
-  pub decimal·first_not : One decimal·first_not.ended (λ M. decimal·first_not.clauses)
+  pub decimal·require_class : One decimal·require_class.ended (λ M. decimal·require_class.clauses)
   pub decimal·value : One decimal·value.ended (λ M. decimal·value.clauses)
   pub decimal·number : One decimal·number.ended (λ M. decimal·number.clauses)
   pub decimal·low_number : One decimal·low_number.ended (λ M. decimal·low_number.clauses)
@@ -140,20 +140,20 @@ pub record OneOutcome : Type 2 where
   pub decimal·put_number : One decimal·put_number.ended (λ M. decimal·put_number.clauses)
   pub calendar·is_date : One calendar·is_date.ended (λ M. calendar·is_date.clauses)
   pub calendar·read_date : One calendar·read_date.ended (λ M. calendar·read_date.clauses)
-  pub calendar·spells_date : One calendar·spells_date.ended (λ M. calendar·spells_date.clauses)
+  pub calendar·is_date_text : One calendar·is_date_text.ended (λ M. calendar·is_date_text.clauses)
   pub modulus·remainder : One modulus·remainder.ended (λ M. modulus·remainder.clauses)
-  pub modulus·rule : One modulus·rule.ended (λ M. modulus·rule.clauses)
-  pub modulus·rest : One modulus·rest.ended (λ M. modulus·rest.clauses)
+  pub modulus·digit_of_remainder : One modulus·digit_of_remainder.ended (λ M. modulus·digit_of_remainder.clauses)
+  pub modulus·weighted_remainder : One modulus·weighted_remainder.ended (λ M. modulus·weighted_remainder.clauses)
   pub modulus·check : One modulus·check.ended (λ M. modulus·check.clauses)
   pub modulus·sums_of_forty : One modulus·sums_of_forty.ended (λ M. modulus·sums_of_forty.clauses)
   pub barcode·is_segment : One barcode·is_segment.ended (λ M. barcode·is_segment.clauses)
   pub barcode·is_kind : One barcode·is_kind.ended (λ M. barcode·is_kind.clauses)
-  pub barcode·named : One barcode·named.ended (λ M. barcode·named.clauses)
-  pub barcode·front : One barcode·front.ended (λ M. barcode·front.clauses)
+  pub barcode·modulus_of_kind : One barcode·modulus_of_kind.ended (λ M. barcode·modulus_of_kind.clauses)
+  pub «barcode·check_prefix» : One «barcode·check_prefix».ended (λ M. «barcode·check_prefix».clauses)
   pub barcode·check : One barcode·check.ended (λ M. barcode·check.clauses)
   pub barcode·check_behind : One barcode·check_behind.ended (λ M. barcode·check_behind.clauses)
   pub barcode·read_fields : One barcode·read_fields.ended (λ M. barcode·read_fields.clauses)
-  pub barcode·pays : One barcode·pays.ended (λ M. barcode·pays.clauses)
+  pub barcode·accepted_issuer : One barcode·accepted_issuer.ended (λ M. barcode·accepted_issuer.clauses)
   pub barcode·decode : One barcode·decode.ended (λ M. barcode·decode.clauses)
   pub barcode·free_field : OneSeen barcode·free_field.ended (λ M. barcode·free_field.clauses) (λ κs. List ℕ) (λ κs r. now r)
   pub barcode·builder·build : One barcode·builder·build.ended (λ M. barcode·builder·build.clauses)
@@ -178,10 +178,10 @@ pub record OneOutcome : Type 2 where
   pub record·decode : One record·decode.ended (λ M. record·decode.clauses)
   pub record·field : OneSeen record·field.ended (λ M. record·field.clauses) (λ κs. List ℕ) (λ κs r. now r)
   pub record·check : One record·check.ended (λ M. record·check.clauses)
-  pub record·paid : One record·paid.ended (λ M. record·paid.clauses)
+  pub record·accepted_payment : One record·accepted_payment.ended (λ M. record·accepted_payment.clauses)
   pub file·File·new : One file·File·new.ended (λ M. file·File·new.clauses)
   pub file·File·take : One file·File·take.ended (λ M. file·File·take.clauses)
-  pub file·File·judge : One file·File·judge.ended (λ M. file·File·judge.clauses)
+  pub file·File·check_trailer : One file·File·check_trailer.ended (λ M. file·File·check_trailer.clauses)
   pub file·File·close : One file·File·close.ended (λ M. file·File·close.clauses)
   pub board·Lane·is_of : One board·Lane·is_of.ended (λ M. board·Lane·is_of.clauses)
   pub board·Slot·post : One board·Slot·post.ended (λ M. board·Slot·post.clauses)
@@ -197,31 +197,31 @@ pub record OneOutcome : Type 2 where
   pub writer·Writer·header : One writer·Writer·header.ended (λ M. writer·Writer·header.clauses)
   pub writer·Writer·payment : One writer·Writer·payment.ended (λ M. writer·Writer·payment.clauses)
   pub writer·Writer·trailer : One writer·Writer·trailer.ended (λ M. writer·Writer·trailer.clauses)
-  pub paper·print : One paper·print.ended (λ M. paper·print.clauses)
-  pub engine·hollytrot_barcode_check : One engine·hollytrot_barcode_check.ended (λ M. engine·hollytrot_barcode_check.clauses)
-  pub engine·hollytrot_barcode_decode : One engine·hollytrot_barcode_decode.ended (λ M. engine·hollytrot_barcode_decode.clauses)
-  pub engine·hollytrot_barcode_free_field : One engine·hollytrot_barcode_free_field.ended (λ M. engine·hollytrot_barcode_free_field.clauses)
-  pub engine·hollytrot_barcode_build : One engine·hollytrot_barcode_build.ended (λ M. engine·hollytrot_barcode_build.clauses)
-  pub engine·hollytrot_line_check : One engine·hollytrot_line_check.ended (λ M. engine·hollytrot_line_check.clauses)
-  pub engine·hollytrot_line_decode : One engine·hollytrot_line_decode.ended (λ M. engine·hollytrot_line_decode.clauses)
-  pub engine·hollytrot_line_to_barcode : One engine·hollytrot_line_to_barcode.ended (λ M. engine·hollytrot_line_to_barcode.clauses)
-  pub engine·hollytrot_line_from_barcode : One engine·hollytrot_line_from_barcode.ended (λ M. engine·hollytrot_line_from_barcode.clauses)
-  pub engine·hollytrot_date_read : One engine·hollytrot_date_read.ended (λ M. engine·hollytrot_date_read.clauses)
-  pub engine·hollytrot_date_check : One engine·hollytrot_date_check.ended (λ M. engine·hollytrot_date_check.clauses)
-  pub engine·hollytrot_check_ten : One engine·hollytrot_check_ten.ended (λ M. engine·hollytrot_check_ten.clauses)
-  pub engine·hollytrot_check_eleven : One engine·hollytrot_check_eleven.ended (λ M. engine·hollytrot_check_eleven.clauses)
-  pub engine·hollytrot_page : One engine·hollytrot_page.ended (λ M. engine·hollytrot_page.clauses)
-  pub «engine·hollytrot_record_check» : One «engine·hollytrot_record_check».ended (λ M. «engine·hollytrot_record_check».clauses)
-  pub «engine·hollytrot_record_decode» : One «engine·hollytrot_record_decode».ended (λ M. «engine·hollytrot_record_decode».clauses)
-  pub «engine·hollytrot_record_field» : One «engine·hollytrot_record_field».ended (λ M. «engine·hollytrot_record_field».clauses)
-  pub «engine·hollytrot_record_join» : One «engine·hollytrot_record_join».ended (λ M. «engine·hollytrot_record_join».clauses)
-  pub engine·hollytrot_session_new : One engine·hollytrot_session_new.ended (λ M. engine·hollytrot_session_new.clauses)
-  pub engine·hollytrot_session_take : One engine·hollytrot_session_take.ended (λ M. engine·hollytrot_session_take.clauses)
-  pub engine·hollytrot_session_run : One engine·hollytrot_session_run.ended (λ M. engine·hollytrot_session_run.clauses)
-  pub engine·hollytrot_session_abandon : One engine·hollytrot_session_abandon.ended (λ M. engine·hollytrot_session_abandon.clauses)
-  pub engine·hollytrot_session_finish : One engine·hollytrot_session_finish.ended (λ M. engine·hollytrot_session_finish.clauses)
-  pub engine·hollytrot_session_board : One engine·hollytrot_session_board.ended (λ M. engine·hollytrot_session_board.clauses)
-  pub engine·hollytrot_writer_new : One engine·hollytrot_writer_new.ended (λ M. engine·hollytrot_writer_new.clauses)
-  pub engine·hollytrot_writer_header : One engine·hollytrot_writer_header.ended (λ M. engine·hollytrot_writer_header.clauses)
-  pub engine·hollytrot_writer_payment : One engine·hollytrot_writer_payment.ended (λ M. engine·hollytrot_writer_payment.clauses)
-  pub engine·hollytrot_writer_trailer : One engine·hollytrot_writer_trailer.ended (λ M. engine·hollytrot_writer_trailer.clauses)
+  pub page·print : One page·print.ended (λ M. page·print.clauses)
+  pub hollytrot·hollytrot_barcode_check : One hollytrot·hollytrot_barcode_check.ended (λ M. hollytrot·hollytrot_barcode_check.clauses)
+  pub hollytrot·hollytrot_barcode_decode : One hollytrot·hollytrot_barcode_decode.ended (λ M. hollytrot·hollytrot_barcode_decode.clauses)
+  pub hollytrot·hollytrot_barcode_free_field : One hollytrot·hollytrot_barcode_free_field.ended (λ M. hollytrot·hollytrot_barcode_free_field.clauses)
+  pub hollytrot·hollytrot_barcode_build : One hollytrot·hollytrot_barcode_build.ended (λ M. hollytrot·hollytrot_barcode_build.clauses)
+  pub hollytrot·hollytrot_line_check : One hollytrot·hollytrot_line_check.ended (λ M. hollytrot·hollytrot_line_check.clauses)
+  pub hollytrot·hollytrot_line_decode : One hollytrot·hollytrot_line_decode.ended (λ M. hollytrot·hollytrot_line_decode.clauses)
+  pub hollytrot·hollytrot_line_to_barcode : One hollytrot·hollytrot_line_to_barcode.ended (λ M. hollytrot·hollytrot_line_to_barcode.clauses)
+  pub hollytrot·hollytrot_line_from_barcode : One hollytrot·hollytrot_line_from_barcode.ended (λ M. hollytrot·hollytrot_line_from_barcode.clauses)
+  pub hollytrot·hollytrot_date_read : One hollytrot·hollytrot_date_read.ended (λ M. hollytrot·hollytrot_date_read.clauses)
+  pub hollytrot·hollytrot_date_check : One hollytrot·hollytrot_date_check.ended (λ M. hollytrot·hollytrot_date_check.clauses)
+  pub hollytrot·hollytrot_check_ten : One hollytrot·hollytrot_check_ten.ended (λ M. hollytrot·hollytrot_check_ten.clauses)
+  pub hollytrot·hollytrot_check_eleven : One hollytrot·hollytrot_check_eleven.ended (λ M. hollytrot·hollytrot_check_eleven.clauses)
+  pub hollytrot·hollytrot_page : One hollytrot·hollytrot_page.ended (λ M. hollytrot·hollytrot_page.clauses)
+  pub «hollytrot·hollytrot_record_check» : One «hollytrot·hollytrot_record_check».ended (λ M. «hollytrot·hollytrot_record_check».clauses)
+  pub «hollytrot·hollytrot_record_decode» : One «hollytrot·hollytrot_record_decode».ended (λ M. «hollytrot·hollytrot_record_decode».clauses)
+  pub «hollytrot·hollytrot_record_field» : One «hollytrot·hollytrot_record_field».ended (λ M. «hollytrot·hollytrot_record_field».clauses)
+  pub «hollytrot·hollytrot_record_join» : One «hollytrot·hollytrot_record_join».ended (λ M. «hollytrot·hollytrot_record_join».clauses)
+  pub hollytrot·hollytrot_session_new : One hollytrot·hollytrot_session_new.ended (λ M. hollytrot·hollytrot_session_new.clauses)
+  pub hollytrot·hollytrot_session_take : One hollytrot·hollytrot_session_take.ended (λ M. hollytrot·hollytrot_session_take.clauses)
+  pub hollytrot·hollytrot_session_run : One hollytrot·hollytrot_session_run.ended (λ M. hollytrot·hollytrot_session_run.clauses)
+  pub hollytrot·hollytrot_session_abandon : One hollytrot·hollytrot_session_abandon.ended (λ M. hollytrot·hollytrot_session_abandon.clauses)
+  pub hollytrot·hollytrot_session_finish : One hollytrot·hollytrot_session_finish.ended (λ M. hollytrot·hollytrot_session_finish.clauses)
+  pub hollytrot·hollytrot_session_board : One hollytrot·hollytrot_session_board.ended (λ M. hollytrot·hollytrot_session_board.clauses)
+  pub hollytrot·hollytrot_writer_new : One hollytrot·hollytrot_writer_new.ended (λ M. hollytrot·hollytrot_writer_new.clauses)
+  pub hollytrot·hollytrot_writer_header : One hollytrot·hollytrot_writer_header.ended (λ M. hollytrot·hollytrot_writer_header.clauses)
+  pub hollytrot·hollytrot_writer_payment : One hollytrot·hollytrot_writer_payment.ended (λ M. hollytrot·hollytrot_writer_payment.clauses)
+  pub hollytrot·hollytrot_writer_trailer : One hollytrot·hollytrot_writer_trailer.ended (λ M. hollytrot·hollytrot_writer_trailer.clauses)

@@ -28,7 +28,7 @@ use Rattle.writer.specs.declared.Writer.{Writer}
 use Rattle.writer.proofs.Writer.header as writer·Writer·header
 use Rattle.writer.proofs.Writer.payment as writer·Writer·payment
 use Rattle.writer.proofs.Writer.trailer as writer·Writer·trailer
-use Rattle.paper.proofs.print as paper·print
+use Rattle.page.proofs.print as page·print
 use Rattle.promises.specs.Allowed.{Contract, Lent, Given, Result, Ghost, allowed}
 
 module _ (T : Ended) (contract : Contract T) where
@@ -64,8 +64,8 @@ pub record RefusalsChangeNothing : Type 2 where
   pub fields·make :
       Keeps fields·make.ended (λ M. fields·make.clauses) (List ℕ)
       (λ κs r. r) (λ κs given. now (given .1 .1 .1 .1 .0)) (λ κs given r left. left .1 .1 .1 .1 .0)
-  pub paper·print :
-      Keeps paper·print.ended (λ M. paper·print.clauses) (List ℕ)
+  pub page·print :
+      Keeps page·print.ended (λ M. page·print.clauses) (List ℕ)
       (λ κs r. r .answer) (λ κs given. now (given .1 .1 .1 .1 .0)) (λ κs given r left. left .1 .1 .1 .1 .0)
   -- the open file, the board
   pub file·File·take :

@@ -4,12 +4,12 @@ use mathlib.Core.Bool.{Bool, true, false}
 use mathlib.Core.List.{List, [], _∷_, _++_}
 use mathlib.Core.Path.{_≡_}
 use lib.ListN.{getD, set}
-use Rattle.answer.specs.Refusals.{numberOf, answerNumber, answerPlace}
+use Rattle.answer.specs.Refusals.{reasonNumber, answerNumber, answerPlace}
 use Rattle.answer.specs.Orders.{Each}
 use Rattle.decimal.specs.Numbers.{digitsOf}
 use Rattle.decimal.specs.Places.{gather}
-use Rattle.calendar.specs.declared.Dated.{Dated}
-use Rattle.calendar.specs.declared.Dated.the-variants.{On, NoDate}
+use Rattle.calendar.specs.declared.MaybeDate.{MaybeDate}
+use Rattle.calendar.specs.declared.MaybeDate.the-variants.{On, NoDate}
 use Rattle.calendar.specs.Dates.{dateOf}
 use Rattle.modulus.specs.declared.Modulus.{Modulus}
 use Rattle.modulus.specs.declared.Modulus.the-variants.{Ten, Eleven}
@@ -22,11 +22,11 @@ use Rattle.barcode.specs.Codes.{checked}
 use Rattle.line.specs.Lines as lines
 use Rattle.board.specs.declared.Lane.{Lane}
 use Rattle.board.specs.Boards.{lanesOf}
-use Rattle.session.specs.declared.Ran.{Ran}
+use Rattle.session.specs.declared.RunResult.{RunResult}
 use Rattle.session.specs.Sessions.{freshSession}
 use Rattle.session.specs.Runs.{runOf}
-use Rattle.slips.specs.Slips.{Passes, Names, InOneBox, BothMove, NoCheck}
-use Rattle.book.specs.Samples as book
+use Rattle.typos.specs.Typos.{Passes, Names, InOneBox, BothMove, NoCheck}
+use Rattle.ledger.specs.Samples as book
 
 -- What may be asked.
 
@@ -56,13 +56,13 @@ pub data Outcome : Type 0 where
 
 abbrev pub decodedTo : Decoded → Outcome
 decodedTo (Read fields) = accepted fields
-decodedTo (Refused why place) = refused (numberOf why) place
+decodedTo (Refused why place) = refused (reasonNumber why) place
 
-abbrev pub dated : Dated → Outcome
+abbrev pub dated : MaybeDate → Outcome
 dated (On d) = isDate true
 dated NoDate = isDate false
 
-abbrev pub ranTo : Ran → Outcome
+abbrev pub ranTo : RunResult → Outcome
 ranTo r =
     shows (record {
       number = answerNumber (r .answer);
@@ -75,8 +75,8 @@ ranTo r =
 -- what comes out, by the definitions that the contracts of the operations cite
 abbrev pub outcomeOf : Question → Outcome
 outcomeOf (check m digits) = digit (checkOf m digits)
-outcomeOf (barcode code) = decodedTo (barcodes.decodeOf code)
-outcomeOf (line bytes) = decodedTo (lines.decodeOf bytes)
+outcomeOf (barcode code) = decodedTo (barcodes.decodedBarcode code)
+outcomeOf (line bytes) = decodedTo (lines.decodedLine bytes)
 outcomeOf (date bytes) = dated (dateOf bytes)
 outcomeOf (files bytes) = ranTo (runOf freshSession bytes)
 
@@ -121,7 +121,7 @@ fields segment kind value number =
 
 -- the lane of the issuer that the payments name, which is that of P4
 abbrev pub lane : ℕ → ℕ → List Lane
-lane payments centavos = record { issuer = book.issuer; tally = book.tally payments centavos } ∷ []
+lane payments centavos = record { issuer = book.sampleIssuer; tally = book.tally payments centavos } ∷ []
 
 -- The table.
 

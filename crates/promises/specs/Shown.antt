@@ -10,7 +10,7 @@ use Rattle.calendar.specs.Dates.{dateOf}
 use Rattle.barcode.specs.Codes.{fieldsOf}
 use Rattle.file.specs.Files.{countPlace, totalPlace}
 use Rattle.layout.specs.Layouts.{rowAt, receivedRow, barcodeRow, countRow, totalRow}
-use Rattle.record.specs.Values.{dayOf, headerOf, paymentOf, trailerOf}
+use Rattle.record.specs.Values.{dayOf, headerShown, paymentShown, trailerShown}
 
 abbrev pub numberAt : ℕ → ℕ → List ℕ → ℕ
 numberAt first last rec = numberOf (places first last rec)
@@ -29,8 +29,8 @@ RefusalsPointAtPlaces =
 abbrev pub RecordsShowTheirPlaces : Type 0
 RecordsShowTheirPlaces =
     (rec : List ℕ)
-    → (headerOf rec ≡ record { bank = numberAt 43 45 rec; date = dateAt 66 73 rec; sequence = numberAt 74 79 rec })
-    × (paymentOf rec
+    → (headerShown rec ≡ record { bank = numberAt 43 45 rec; date = dateAt 66 73 rec; sequence = numberAt 74 79 rec })
+    × (paymentShown rec
     ≡ record {
       paid = dateAt 22 29 rec;
       credited = dateAt 30 37 rec;
@@ -39,4 +39,4 @@ RecordsShowTheirPlaces =
       tariff = numberAt 94 100 rec;
       number = numberAt 101 108 rec;
     })
-    × (trailerOf rec ≡ record { count = numberAt 2 7 rec; total = numberAt 8 24 rec })
+    × (trailerShown rec ≡ record { count = numberAt 2 7 rec; total = numberAt 8 24 rec })

@@ -9,27 +9,27 @@ use Rattle.answer.specs.declared.Reason.{Reason}
 use Rattle.answer.specs.declared.Answer.{Answer}
 use Rattle.answer.specs.declared.Answer.the-variants.{Accepted, Refused}
 use Rattle.answer.specs.Orders.{_then_}
-use Rattle.layout.specs.declared.Named.{Named}
-use Rattle.layout.specs.declared.Named.the-variants.{Is, Other}
+use Rattle.layout.specs.declared.MaybeRecord.{MaybeRecord}
+use Rattle.layout.specs.declared.MaybeRecord.the-variants.{Is, Other}
 use Rattle.layout.specs.declared.Record.the-variants.{Header, Payment, Trailer}
 use Rattle.layout.specs.Layouts.{recordLength, namedBy}
-use Rattle.record.specs.Values.{decodeOf}
+use Rattle.record.specs.Values.{decodedRecord}
 use Rattle.session.specs.declared.Session.{Session}
-use Rattle.session.specs.declared.Took.{Took}
-use Rattle.session.specs.declared.Ran.{Ran}
-use Rattle.session.specs.Sessions.{takeAnswer, follows, finishOf}
-use Rattle.session.specs.Runs.{piecesUpTo, piecesOf, closedBy, after, unlessRefused, runAll, runOf}
-use Rattle.quadro.specs.declared.Filled.{Filled}
-use Rattle.quadro.specs.declared.Filled.the-variants.{Ended}
-use Rattle.quadro.specs.Days.{fedOf, endedOf, Counted, Within}
+use Rattle.session.specs.declared.TakeResult.{TakeResult}
+use Rattle.session.specs.declared.RunResult.{RunResult}
+use Rattle.session.specs.Sessions.{takeAnswer, nextSession, finishOf}
+use Rattle.session.specs.Runs.{piecesUpTo, piecesOf, closedBy, after, stoppedIfRefused, runAll, runOf}
+use Rattle.quadro.specs.declared.ReadResult.{ReadResult}
+use Rattle.quadro.specs.declared.ReadResult.the-variants.{Ended}
+use Rattle.quadro.specs.Days.{runBufferOf, endedOf, Counted, CountsWithin}
 
-closed-few : (n : Named) → closedBy n ≤ 1
+closed-few : (n : MaybeRecord) → closedBy n ≤ 1
 closed-few (Is Header) = omega arith
 closed-few (Is Payment) = omega arith
 closed-few (Is Trailer) = omega arith
 closed-few Other = omega arith
 
-one-more : (a : Answer) (s : Session) (closed n : ℕ) (next : Ran) → closed ≤ 1 → Counted n next → Counted (suc n) (unlessRefused a s (after 1 closed next))
+one-more : (a : Answer) (s : Session) (closed n : ℕ) (next : RunResult) → closed ≤ 1 → Counted n next → Counted (suc n) (stoppedIfRefused a s (after 1 closed next))
 one-more Accepted s closed n next h c = (omega arith, omega arith)
 one-more (Refused why place) s closed n next h c = (omega arith, omega arith)
 
@@ -37,7 +37,7 @@ all-few : (s : Session) (rs : List (List ℕ)) → Counted (length rs) (runAll s
 all-few s [] = (omega arith, omega arith)
 all-few s (r ∷ rs) =
     let named = namedBy (getD r 0 0) in
-    one-more (takeAnswer s r) s (closedBy named) (length rs) (runAll (follows s (decodeOf r)) rs) (closed-few named) (all-few (follows s (decodeOf r)) rs)
+    one-more (takeAnswer s r) s (closedBy named) (length rs) (runAll (nextSession s (decodedRecord r)) rs) (closed-few named) (all-few (nextSession s (decodedRecord r)) rs)
 
 pieces-few : (n : ℕ) (bytes : List ℕ) → length (piecesUpTo n bytes) ≤ n
 pieces-few zero bytes = omega arith
@@ -52,25 +52,25 @@ run-few s bytes =
 
 -- What the program's steps make.
 
-pub counted : (s : Session) (bytes : List ℕ) {r : Ran} → r ≡ runOf s bytes → Counted (length bytes) r
+pub counted : (s : Session) (bytes : List ℕ) {r : RunResult} → r ≡ runOf s bytes → Counted (length bytes) r
 counted s bytes e = rw e (run-few s bytes)
 
 -- the first n bytes of a buffer
-pub few-fed : (s : Session) (buf : List ℕ) (n : ℕ) {r : Ran} → n ≤ length buf → r ≡ runOf s (take n buf) → Counted n r
+pub few-fed : (s : Session) (buf : List ℕ) (n : ℕ) {r : RunResult} → n ≤ length buf → r ≡ runOf s (take n buf) → Counted n r
 few-fed s buf n h e = rw (length-take-le n buf h) at (counted s (take n buf) e)
 
-pub fed : (day : Ran) (bytes : List ℕ) {r : Ran} → r ≡ runOf (day .session) bytes → after (day .records) (day .files) r ≡ fedOf day bytes
+pub fed : (day : RunResult) (bytes : List ℕ) {r : RunResult} → r ≡ runOf (day .session) bytes → after (day .records) (day .files) r ≡ runBufferOf day bytes
 fed day bytes e = ap (after (day .records) (day .files)) e
 
-pub ended-refused : (day : Ran) {why : Reason} {place : ℕ} → day .answer ≡ Refused why place → day ≡ endedOf day
+pub ended-refused : (day : RunResult) {why : Reason} {place : ℕ} → day .answer ≡ Refused why place → day ≡ endedOf day
 ended-refused day e =
     let same : day .answer ≡ (day .answer then finishOf (day .session) .answer) = rw e in
     ap (λ (a : Answer). record { answer = a; session = day .session; records = day .records; files = day .files }) same
 
-pub ended-accepted : (day : Ran) {took : Took} → day .answer ≡ Accepted → took ≡ finishOf (day .session)
+pub ended-accepted : (day : RunResult) {took : TakeResult} → day .answer ≡ Accepted → took ≡ finishOf (day .session)
     → record { answer = took .answer; session = day .session; records = day .records; files = day .files } ≡ endedOf day
 ended-accepted day e f = rw (e, f)
 
 -- where the input ended, the bytes fit
-pub ended : {r : Filled} {k n : ℕ} → r ≡ Ended k → Within n r → k ≤ n
+pub ended : {r : ReadResult} {k n : ℕ} → r ≡ Ended k → CountsWithin n r → k ≤ n
 ended e w = rw e at w

@@ -10,16 +10,16 @@ use Rattle.answer.specs.declared.Answer.{Answer}
 use Rattle.answer.specs.declared.Answer.the-variants.{Accepted, Refused}
 use Rattle.answer.proofs.Orders.{not-both}
 use Rattle.layout.specs.Layouts.{recordLength, namedBy}
-use Rattle.record.specs.Values.{decodeOf}
+use Rattle.record.specs.Values.{decodedRecord}
 use Rattle.session.specs.declared.Session.{Session}
-use Rattle.session.specs.declared.Ran.{Ran}
-use Rattle.session.specs.Sessions.{takeAnswer, follows}
+use Rattle.session.specs.declared.RunResult.{RunResult}
+use Rattle.session.specs.Sessions.{takeAnswer, nextSession}
 use Rattle.session.specs.Runs.{closedBy, ranOut, after, runOf}
 use Rattle.session.proofs.Runs.{run-refused, run-on, after-after, after-none}
-use Rattle.quadro.specs.Days.{fedOf, FeedingIsOneRun, FullBufferIsWhole}
+use Rattle.quadro.specs.Days.{runBufferOf, FeedingIsOneRun, FullBufferIsWhole}
 
 -- the run over what is left behind a run
-abbrev behind : Ran → List ℕ → Ran
+abbrev behind : RunResult → List ℕ → RunResult
 behind r rest = after (r .records) (r .files) (runOf (r .session) rest)
 
 -- a front of at least one record, and the rest behind it
@@ -28,7 +28,7 @@ module _ (s : Session) (front rest : List ℕ) (whole : recordLength ≤ length 
   piece = take recordLength front
 
   abbrev next : Session
-  next = follows s (decodeOf piece)
+  next = nextSession s (decodedRecord piece)
 
   abbrev closed : ℕ
   closed = closedBy (namedBy (getD piece 0 0))
@@ -52,7 +52,7 @@ module _ (s : Session) (front rest : List ℕ) (whole : recordLength ≤ length 
   goes-on e =
       let h : takeAnswer s (take recordLength (front ++ rest)) ≡ Accepted = ap (takeAnswer s) same-piece ∙ e in
       run-on s (front ++ rest) more-on h
-      ∙ ap (λ (r : List ℕ). after 1 (closedBy (namedBy (getD r 0 0))) (runOf (follows s (decodeOf r)) (drop recordLength (front ++ rest)))) same-piece
+      ∙ ap (λ (r : List ℕ). after 1 (closedBy (namedBy (getD r 0 0))) (runOf (nextSession s (decodedRecord r)) (drop recordLength (front ++ rest)))) same-piece
       ∙ ap (λ (l : List ℕ). after 1 closed (runOf next l)) (drop-append-le recordLength front rest whole)
 
   module _ {why : Reason} {p : ℕ} (e : takeAnswer s piece ≡ Refused why p) where
@@ -68,16 +68,16 @@ module _ (s : Session) (front rest : List ℕ) (whole : recordLength ≤ length 
   join-piece Accepted e on a =
       let r = runOf next front-left in
       let g = goes e in
-      goes-on e ∙ ap (after 1 closed) (on (ap (λ (x : Ran). x .answer) (sym g) ∙ a))
-      ∙ after-after 1 closed (r .records) (r .files) (runOf (r .session) rest) ∙ ap (λ (x : Ran). behind x rest) (sym g)
-  join-piece (Refused why p) e on a = not-both (takeAnswer s piece) e (ap (λ (x : Ran). x .answer) (sym (stops e)) ∙ a)
+      goes-on e ∙ ap (after 1 closed) (on (ap (λ (x : RunResult). x .answer) (sym g) ∙ a))
+      ∙ after-after 1 closed (r .records) (r .files) (runOf (r .session) rest) ∙ ap (λ (x : RunResult). behind x rest) (sym g)
+  join-piece (Refused why p) e on a = not-both (takeAnswer s piece) e (ap (λ (x : RunResult). x .answer) (sym (stops e)) ∙ a)
 
   end-piece : (x : Answer) → takeAnswer s piece ≡ x
       → ((runOf next front-left .answer ≡ Accepted → ⊥) → runOf next (front-left ++ rest) ≡ runOf next front-left)
       → (runOf s front .answer ≡ Accepted → ⊥) → runOf s (front ++ rest) ≡ runOf s front
   end-piece Accepted e on a =
       let g = goes e in
-      goes-on e ∙ ap (after 1 closed) (on (λ (b : runOf next front-left .answer ≡ Accepted). a (ap (λ (x : Ran). x .answer) g ∙ b))) ∙ sym g
+      goes-on e ∙ ap (after 1 closed) (on (λ (b : runOf next front-left .answer ≡ Accepted). a (ap (λ (x : RunResult). x .answer) g ∙ b))) ∙ sym g
   end-piece (Refused why p) e on a = stops-too e ∙ sym (stops e)
 
 left : (n : ℕ) (front : List ℕ) → length front ≡ suc n * recordLength → length (drop recordLength front) ≡ n * recordLength
@@ -89,7 +89,7 @@ joins zero s [] rest h a = sym (after-none (runOf s rest))
 joins zero s (b ∷ front) rest h a = absurd (omega arith)
 joins (suc n) s front rest h a =
     join-piece s front rest (omega arith) (takeAnswer s (take recordLength front)) refl
-    (joins n (follows s (decodeOf (take recordLength front))) (drop recordLength front) rest (left n front h)) a
+    (joins n (nextSession s (decodedRecord (take recordLength front))) (drop recordLength front) rest (left n front h)) a
 
 ends : (n : ℕ) (s : Session) (front rest : List ℕ) → length front ≡ n * recordLength → (runOf s front .answer ≡ Accepted → ⊥)
     → runOf s (front ++ rest) ≡ runOf s front
@@ -97,16 +97,16 @@ ends zero s [] rest h a = absurd (a refl)
 ends zero s (b ∷ front) rest h a = absurd (omega arith)
 ends (suc n) s front rest h a =
     end-piece s front rest (omega arith) (takeAnswer s (take recordLength front)) refl
-    (ends n (follows s (decodeOf (take recordLength front))) (drop recordLength front) rest (left n front h)) a
+    (ends n (nextSession s (decodedRecord (take recordLength front))) (drop recordLength front) rest (left n front h)) a
 
 pub feeding-is-one-run : FeedingIsOneRun
 feeding-is-one-run day n front rest h =
     let r = runOf (day .session) front in (
-      λ (a : fedOf day front .answer ≡ Accepted).
+      λ (a : runBufferOf day front .answer ≡ Accepted).
           sym
           (ap (after (day .records) (day .files)) (joins n (day .session) front rest h a)
           ∙ after-after (day .records) (day .files) (r .records) (r .files) (runOf (r .session) rest)),
-      λ (a : fedOf day front .answer ≡ Accepted → ⊥). ap (after (day .records) (day .files)) (ends n (day .session) front rest h a),
+      λ (a : runBufferOf day front .answer ≡ Accepted → ⊥). ap (after (day .records) (day .files)) (ends n (day .session) front rest h a),
     )
 
 pub full-buffer-is-whole : FullBufferIsWhole

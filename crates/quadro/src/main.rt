@@ -2,12 +2,12 @@
 ghost use mathlib.Core.Path.{_≡_};
 ghost use Prim.Native.Nat.{_≤_};
 ghost use lib.ListN.{length, take};
-ghost use Rattle.quadro.specs.Days.{bufferLength, most, fresh, fedOf, endedOf, Counted, Grown, Within};
+ghost use Rattle.quadro.specs.Days.{bufferLength, mostCounted, freshDay, runBufferOf, endedOf, Counted, Grown, CountsWithin};
 use answer::Answer;
 use libc::STDERR_FILENO;
 use libc::STDIN_FILENO;
 use libc::STDOUT_FILENO;
-use session::Ran;
+use session::RunResult;
 use session::Session;
 
 // 436 records, so that a full buffer holds whole ones.
@@ -16,7 +16,7 @@ const SIZE: usize = 65400;
 // Nothing says that an input ends, so the buffers are counted: 2^60 bytes, which no input has.
 const TURNS: u64 = 17628769183591;
 
-pub enum Filled {
+pub enum ReadResult {
     Full,
     // the input ended behind so many bytes
     Ended(usize),
@@ -24,28 +24,28 @@ pub enum Filled {
 }
 
 // Reads until the buffer is full, the input ends or a read fails.
-fn fill(buf: &mut [u8]) -> Filled
-    ensures { λ r. ⌜ Within (length (now (buf .entry))) r ⌝ }
+fn read_buffer(buf: &mut [u8]) -> ReadResult
+    ensures { λ r. ⌜ CountsWithin (length (now (buf .entry))) r ⌝ }
 {
     let mut n: usize = 0;
     while n < buf.len() {
         let got = libc::read(STDIN_FILENO, &mut buf[n..]);
         if got < 0 {
-            return Filled::Failed;
+            return ReadResult::Failed;
         }
         let more = io::count(got, &buf[n..]);
         if more == 0 {
-            return Filled::Ended(n);
+            return ReadResult::Ended(n);
         }
         n += more;
     }
-    Filled::Full
+    ReadResult::Full
 }
 
-fn start() -> Ran
-    ensures { λ r. ⌜ r ≡ fresh ⌝ }
+fn start() -> RunResult
+    ensures { λ r. ⌜ r ≡ freshDay ⌝ }
 {
-    Ran {
+    RunResult {
         answer: Answer::Accepted,
         session: Session::new(),
         records: 0,
@@ -54,16 +54,16 @@ fn start() -> Ran
 }
 
 // The first bytes of a buffer, after those before them.
-fn feed(day: Ran, buf: &[u8], n: usize) -> Ran
-    requires { ⌜ Counted most day × (n ≤ bufferLength) × (n ≤ length (now buf)) ⌝ }
-    ensures { λ r. ⌜ r ≡ fedOf day (take n (now (buf .entry))) ⌝ }
+fn run_buffer(day: RunResult, buf: &[u8], n: usize) -> RunResult
+    requires { ⌜ Counted mostCounted day × (n ≤ bufferLength) × (n ≤ length (now buf)) ⌝ }
+    ensures { λ r. ⌜ r ≡ runBufferOf day (take n (now (buf .entry))) ⌝ }
     ensures few { λ r. ⌜ Grown day r ⌝ }
 {
     let before = day.session;
     let ran = before.run(&buf[..n]);
     let answer = ran.answer;
     let session = ran.session;
-    Ran {
+    RunResult {
         answer,
         session,
         records: day.records + ran.records,
@@ -71,7 +71,7 @@ fn feed(day: Ran, buf: &[u8], n: usize) -> Ran
     }
 }
 
-fn end(day: Ran) -> Ran
+fn end(day: RunResult) -> RunResult
     ensures { λ r. ⌜ r ≡ endedOf day ⌝ }
 {
     let answer = day.answer;
@@ -81,7 +81,7 @@ fn end(day: Ran) -> Ran
             let session = day.session;
             let took = session.finish();
             let answer = took.answer;
-            Ran {
+            RunResult {
                 answer,
                 session,
                 records: day.records,
@@ -100,7 +100,7 @@ pub enum Went {
 
 pub struct Turn {
     pub went: Went,
-    pub day: Ran,
+    pub day: RunResult,
 }
 
 fn unless_refused(answer: Answer) -> Went {
@@ -111,24 +111,24 @@ fn unless_refused(answer: Answer) -> Went {
 }
 
 // One buffer of input. It takes the array, so that nothing is asked of its length in the loop.
-fn take_turn(day: Ran, buf: &mut [u8; SIZE]) -> Turn
-    requires { ⌜ Counted most day ⌝ }
+fn take_turn(day: RunResult, buf: &mut [u8; SIZE]) -> Turn
+    requires { ⌜ Counted mostCounted day ⌝ }
     ensures { λ r. ⌜ Grown day (r .day) ⌝ }
 {
-    match fill(buf) {
-        Filled::Full => {
-            let next = feed(day, buf, SIZE);
+    match read_buffer(buf) {
+        ReadResult::Full => {
+            let next = run_buffer(day, buf, SIZE);
             let answer = next.answer;
             Turn {
                 went: unless_refused(answer),
                 day: next,
             }
         }
-        Filled::Ended(n) => Turn {
+        ReadResult::Ended(n) => Turn {
             went: Went::Over,
-            day: end(feed(day, buf, n)),
+            day: end(run_buffer(day, buf, n)),
         },
-        Filled::Failed => Turn {
+        ReadResult::Failed => Turn {
             went: Went::Failed,
             day,
         },
@@ -163,12 +163,12 @@ fn read_day() -> Turn {
     }
 }
 
-fn print_page(day: Ran) {
-    let mut page = [0u8; paper::PAGE];
+fn print_page(day: RunResult) {
+    let mut page = [0u8; page::PAGE];
     let answer = day.answer;
     let session = day.session;
     let board = session.shown;
-    let printed = paper::print(answer, day.records, day.files, board, &mut page);
+    let printed = page::print(answer, day.records, day.files, board, &mut page);
     let length = printed.length;
     if !io::write_all(STDOUT_FILENO, &page[..length]) {
         os::fail(b"quadro: standard output");

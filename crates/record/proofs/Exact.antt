@@ -18,30 +18,30 @@ use Rattle.decimal.specs.Numbers.{numberOf, lowNumberOf}
 use Rattle.decimal.proofs.Finite.{never}
 use Rattle.decimal.proofs.Numbers.{low-of-digits}
 use Rattle.calendar.specs.declared.Date.{Date}
-use Rattle.calendar.specs.declared.Dated.the-variants as days
-use Rattle.calendar.specs.Dates.{dateOf, isOne}
+use Rattle.calendar.specs.declared.MaybeDate.the-variants as days
+use Rattle.calendar.specs.Dates.{dateOf, isFound}
 use Rattle.barcode.specs.declared.Fields.{Fields}
 use Rattle.barcode.specs.declared.Issuer.{Issuer}
-use Rattle.barcode.specs.declared.Payee.the-variants.{Nobody}
+use Rattle.barcode.specs.declared.MaybeIssuer.the-variants.{Nobody}
 use Rattle.barcode.specs.declared.Decoded.the-variants as read
 use Rattle.barcode.specs.Codes as codes
-use Rattle.barcode.specs.Codes.{barcodeAnswer, issuerOf, payeeOf, fieldsOf}
+use Rattle.barcode.specs.Codes.{barcodeAnswer, issuerOf, acceptedIssuer, fieldsOf}
 use Rattle.barcode.proofs.OnePass.{unequal}
-use Rattle.layout.specs.declared.Named.{Named}
-use Rattle.layout.specs.declared.Named.the-variants.{Is, Other}
+use Rattle.layout.specs.declared.MaybeRecord.{MaybeRecord}
+use Rattle.layout.specs.declared.MaybeRecord.the-variants.{Is, Other}
 use Rattle.layout.specs.declared.Record.the-variants.{Header, Payment, Trailer}
 use Rattle.layout.specs.Layouts.{recordLength, namedBy, layoutOf, rowAt, table, accountRow, barcodeRow, receivedRow, numberRow, branchRow, captureRow, authenticationRow, formRow, paymentBlankRow, paidRow, creditedRow, tariffRow}
 use Rattle.kinds.specs.Kinds.{isCapture, isForm}
 use Rattle.record.specs.declared.Decoded.{Decoded}
 use Rattle.record.specs.declared.Decoded.the-variants as decoded
 use Rattle.record.specs.declared.Payment.{Payment as Shows}
-use Rattle.record.specs.declared.quick.Seen.the-variants.{Paid, Other as Unpaid}
-use Rattle.record.specs.declared.Pays.the-variants.{To, Nothing}
-use Rattle.record.specs.Looks.{spanOf, isPlain, isCoded, isDated, isPayment, looksPaid, seenOf}
-use Rattle.record.specs.Records.{partOf, recordAnswer}
-use Rattle.record.specs.Values.{shownOf, unlessRefused, decodeOf, paysOf}
+use Rattle.record.specs.declared.fast.FastDecoded.the-variants.{Paid, Other as Unpaid}
+use Rattle.record.specs.declared.PaymentDue.the-variants.{To, Nothing}
+use Rattle.record.specs.FastPath.{spanOf, isPlain, isCoded, isDated, isPayment, looksLikePayment, fastDecodedOf}
+use Rattle.record.specs.Records.{fieldBytes, recordAnswer}
+use Rattle.record.specs.Values.{recordShown, shownUnlessRefused, decodedRecord, paymentDueOf}
 use Rattle.record.proofs.Shown.{accepted-is, right-fields-are-accepted}
-use Rattle.record.proofs.Looks.{places-length, inner, named-payment, text, money, digits, blank, capture, form, code, date, captured, mark, joined, one-byte}
+use Rattle.record.proofs.FastPath.{places-length, inner, named-payment, text, money, digits, blank, capture, form, code, date, captured, mark, joined, one-byte}
 
 infixr 20 _and_
 _and_ : {A B : Type 0} → A → B → A × B
@@ -55,10 +55,10 @@ module _ (rec : List ℕ) where
   plain : (isPlain rec ≡ true) ↔ Plain
   unfolding isPlain rowAt table layoutOf
   plain =
-      let account = all (isOf Text) (partOf (rowAt accountRow) rec) in
+      let account = all (isOf Text) (fieldBytes (rowAt accountRow) rec) in
       let behind = all (isOf Text) (spanOf (rowAt branchRow) (rowAt authenticationRow) rec) in
       let numbers = all (isOf Digit) (spanOf (rowAt receivedRow) (rowAt numberRow) rec) in
-      let rest = all (isOf Blank) (partOf (rowAt paymentBlankRow) rec) in
+      let rest = all (isOf Blank) (fieldBytes (rowAt paymentBlankRow) rec) in
       let whole = and-eq-true-iff (account && (behind && numbers)) rest in
       let parts = and-eq-true-iff account (behind && numbers) in
       let later = and-eq-true-iff behind numbers in (
@@ -68,13 +68,13 @@ module _ (rec : List ℕ) where
 
   coded : (isCoded rec ≡ true) ↔ ((isCapture (getD (take 1 (drop 116 rec)) 0 0) ≡ true) × (isForm (getD (take 1 (drop 140 rec)) 0 0) ≡ true))
   unfolding isCoded rowAt table layoutOf
-  coded = and-eq-true-iff (isCapture (getD (partOf (rowAt captureRow) rec) 0 0)) (isForm (getD (partOf (rowAt formRow) rec) 0 0))
+  coded = and-eq-true-iff (isCapture (getD (fieldBytes (rowAt captureRow) rec) 0 0)) (isForm (getD (fieldBytes (rowAt formRow) rec) 0 0))
 
-  dated : (isDated rec ≡ true) ↔ ((isOne (dateOf (partOf (rowAt paidRow) rec)) ≡ true) × (isOne (dateOf (partOf (rowAt creditedRow) rec)) ≡ true))
-  dated = and-eq-true-iff (isOne (dateOf (partOf (rowAt paidRow) rec))) (isOne (dateOf (partOf (rowAt creditedRow) rec)))
+  dated : (isDated rec ≡ true) ↔ ((isFound (dateOf (fieldBytes (rowAt paidRow) rec)) ≡ true) × (isFound (dateOf (fieldBytes (rowAt creditedRow) rec)) ≡ true))
+  dated = and-eq-true-iff (isFound (dateOf (fieldBytes (rowAt paidRow) rec))) (isFound (dateOf (fieldBytes (rowAt creditedRow) rec)))
 
   abbrev Right : Type 0
-  Right = (isPlain rec ≡ true) × (isCoded rec ≡ true) × (isDated rec ≡ true) × (barcodeAnswer (partOf (rowAt barcodeRow) rec) ≡ Accepted)
+  Right = (isPlain rec ≡ true) × (isCoded rec ≡ true) × (isDated rec ≡ true) × (barcodeAnswer (fieldBytes (rowAt barcodeRow) rec) ≡ Accepted)
 
   module _ (n : length rec ≡ recordLength) where
     holds : namedBy (getD rec 0 0) ≡ Is Payment → Right → recordAnswer rec ≡ Accepted
@@ -122,20 +122,20 @@ module _ (rec : List ℕ) where
 
 -- An accepted payment, or anything else.
 
-payment-named : (m : Named) → isPayment m ≡ true → m ≡ Is Payment
+payment-named : (m : MaybeRecord) → isPayment m ≡ true → m ≡ Is Payment
 payment-named (Is Header) t = never t
 payment-named (Is Payment) t = refl
 payment-named (Is Trailer) t = never t
 payment-named Other t = never t
 
 abbrev Unseen : List ℕ → Type 0
-Unseen rec = (Nothing ≡ paysOf (decodeOf rec)) × (Unpaid ≡ seenOf (decodeOf rec))
+Unseen rec = (Nothing ≡ paymentDueOf (decodedRecord rec)) × (Unpaid ≡ fastDecodedOf (decodedRecord rec))
 
 unseen : (rec : List ℕ) → (recordAnswer rec ≡ Accepted → isPayment (namedBy (getD rec 0 0)) ≡ true → ⊥) → Unseen rec
 unseen rec h = go (recordAnswer rec) (namedBy (getD rec 0 0)) h
   where
-    go : (a : Answer) (m : Named) → (a ≡ Accepted → isPayment m ≡ true → ⊥)
-        → (Nothing ≡ paysOf (unlessRefused a (shownOf m rec))) × (Unpaid ≡ seenOf (unlessRefused a (shownOf m rec)))
+    go : (a : Answer) (m : MaybeRecord) → (a ≡ Accepted → isPayment m ≡ true → ⊥)
+        → (Nothing ≡ paymentDueOf (shownUnlessRefused a (recordShown m rec))) × (Unpaid ≡ fastDecodedOf (shownUnlessRefused a (recordShown m rec)))
     go (Refused why place) m h = (refl, refl)
     go Accepted (Is Header) h = (refl, refl)
     go Accepted (Is Payment) h = absurd (h refl refl)
@@ -149,29 +149,29 @@ module _ (rec : List ℕ) (n : length rec ≡ recordLength) where
   right-when : recordAnswer rec ≡ Accepted → isPayment (namedBy (getD rec 0 0)) ≡ true → Right rec
   right-when a p = seen rec n (payment-named _ p) a
 
-  pub not-looking : looksPaid rec ≡ false → Unseen rec
+  pub not-looking : looksLikePayment rec ≡ false → Unseen rec
   not-looking f =
       unseen rec (λ a p. let r = right-when a p in unequal (and-eq-true-iff (isPayment (namedBy (getD rec 0 0))) (isPlain rec && isCoded rec) .1 (p, and-eq-true-iff (isPlain rec) (isCoded rec) .1 (r .0, r .1))) f)
 
   pub not-dated : isDated rec ≡ false → Unseen rec
   not-dated f = unseen rec (λ a p. unequal (right-when a p .2) f)
 
-  pub no-payment-date : dateOf (partOf (rowAt paidRow) rec) ≡ days.NoDate → Unseen rec
-  no-payment-date e = unseen rec (λ a p. unequal (dated rec .0 (right-when a p .2) .0) (ap isOne e))
+  pub no-payment-date : dateOf (fieldBytes (rowAt paidRow) rec) ≡ days.NoDate → Unseen rec
+  no-payment-date e = unseen rec (λ a p. unequal (dated rec .0 (right-when a p .2) .0) (ap isFound e))
 
-  pub no-credit-date : dateOf (partOf (rowAt creditedRow) rec) ≡ days.NoDate → Unseen rec
-  no-credit-date e = unseen rec (λ a p. unequal (dated rec .0 (right-when a p .2) .1) (ap isOne e))
+  pub no-credit-date : dateOf (fieldBytes (rowAt creditedRow) rec) ≡ days.NoDate → Unseen rec
+  no-credit-date e = unseen rec (λ a p. unequal (dated rec .0 (right-when a p .2) .1) (ap isFound e))
 
-  pub both-dates : {p c : Date} → dateOf (partOf (rowAt paidRow) rec) ≡ days.On p → dateOf (partOf (rowAt creditedRow) rec) ≡ days.On c → isDated rec ≡ true
-  both-dates e f = dated rec .1 (ap isOne e, ap isOne f)
+  pub both-dates : {p c : Date} → dateOf (fieldBytes (rowAt paidRow) rec) ≡ days.On p → dateOf (fieldBytes (rowAt creditedRow) rec) ≡ days.On c → isDated rec ≡ true
+  both-dates e f = dated rec .1 (ap isFound e, ap isFound f)
 
-  pub no-payee : Nobody ≡ payeeOf (partOf (rowAt barcodeRow) rec) → Unseen rec
+  pub no-payee : Nobody ≡ acceptedIssuer (fieldBytes (rowAt barcodeRow) rec) → Unseen rec
   no-payee e = unseen rec (λ a p. let k = rw (right-when a p .3) at e in let z : _≡_ {A = ℕ} 0 1 = cc in omega arith)
 
-  pub no-code : {why : Reason} {place : ℕ} → read.Refused why place ≡ codes.decodeOf (partOf (rowAt barcodeRow) rec) → Unseen rec
+  pub no-code : {why : Reason} {place : ℕ} → read.Refused why place ≡ codes.decodedBarcode (fieldBytes (rowAt barcodeRow) rec) → Unseen rec
   no-code e = unseen rec (λ a p. let k = rw (right-when a p .3) at e in let z : _≡_ {A = ℕ} 0 1 = cc in omega arith)
 
-  module _ (looks : looksPaid rec ≡ true) (dates : isDated rec ≡ true) (right : barcodeAnswer (partOf (rowAt barcodeRow) rec) ≡ Accepted) where
+  module _ (looks : looksLikePayment rec ≡ true) (dates : isDated rec ≡ true) (right : barcodeAnswer (fieldBytes (rowAt barcodeRow) rec) ≡ Accepted) where
     looked : (namedBy (getD rec 0 0) ≡ Is Payment) × (isPlain rec ≡ true) × (isCoded rec ≡ true)
     looked =
         let both = and-eq-true-iff (isPayment (namedBy (getD rec 0 0))) (isPlain rec && isCoded rec) .0 looks in
@@ -187,36 +187,36 @@ module _ (rec : List ℕ) (n : length rec ≡ recordLength) where
         let l : length (take m (drop (81 + j) rec)) ≡ m = length-take-le m (drop (81 + j) rec) (omega (arith, length-drop (81 + j) rec)) in
         e ∙ low-of-digits (take m (drop (81 + j) rec)) (inner (isOf Digit) rec 81 27 j m (omega arith) (plain rec .0 (looked .1) .2)) (omega arith)
 
-    pub pays-it : {i : Issuer} {c : ℕ} → i ≡ issuerOf (partOf (rowAt barcodeRow) rec) → c ≡ lowNumberOf (partOf (rowAt receivedRow) rec) → To i c ≡ paysOf (decodeOf rec)
+    pub pays-it : {i : Issuer} {c : ℕ} → i ≡ issuerOf (fieldBytes (rowAt barcodeRow) rec) → c ≡ lowNumberOf (fieldBytes (rowAt receivedRow) rec) → To i c ≡ paymentDueOf (decodedRecord rec)
     unfolding rowAt table layoutOf
     pays-it ei ec = rw (accepted, looked .0, ei, low 0 12 (omega arith) (omega arith) ec)
 
-    pub shows-it : {p c : Date} {f : Fields} {r t n : ℕ} → dateOf (partOf (rowAt paidRow) rec) ≡ days.On p → dateOf (partOf (rowAt creditedRow) rec) ≡ days.On c
-        → f ≡ fieldsOf (partOf (rowAt barcodeRow) rec) → r ≡ lowNumberOf (partOf (rowAt receivedRow) rec) → t ≡ lowNumberOf (partOf (rowAt tariffRow) rec)
-        → n ≡ lowNumberOf (partOf (rowAt numberRow) rec)
-        → Paid (record { paid = p; credited = c; barcode = f; received = r; tariff = t; number = n }) ≡ seenOf (decodeOf rec)
+    pub shows-it : {p c : Date} {f : Fields} {r t n : ℕ} → dateOf (fieldBytes (rowAt paidRow) rec) ≡ days.On p → dateOf (fieldBytes (rowAt creditedRow) rec) ≡ days.On c
+        → f ≡ fieldsOf (fieldBytes (rowAt barcodeRow) rec) → r ≡ lowNumberOf (fieldBytes (rowAt receivedRow) rec) → t ≡ lowNumberOf (fieldBytes (rowAt tariffRow) rec)
+        → n ≡ lowNumberOf (fieldBytes (rowAt numberRow) rec)
+        → Paid (record { paid = p; credited = c; barcode = f; received = r; tariff = t; number = n }) ≡ fastDecodedOf (decodedRecord rec)
     unfolding rowAt table layoutOf
     shows-it ep ec ef er et en = rw (accepted, looked .0, ep, ec, ef, low 0 12 (omega arith) (omega arith) er, low 12 7 (omega arith) (omega arith) et, low 19 8 (omega arith) (omega arith) en)
 
 -- What is seen was accepted.
 
-pub paid-accepted : (rec : List ℕ) {i : Issuer} {c : ℕ} → To i c ≡ paysOf (decodeOf rec) → Accepted ≡ recordAnswer rec
+pub paid-accepted : (rec : List ℕ) {i : Issuer} {c : ℕ} → To i c ≡ paymentDueOf (decodedRecord rec) → Accepted ≡ recordAnswer rec
 paid-accepted rec {i} {c} e = go (recordAnswer rec) e
   where
-    go : (a : Answer) → To i c ≡ paysOf (unlessRefused a (shownOf (namedBy (getD rec 0 0)) rec)) → Accepted ≡ a
+    go : (a : Answer) → To i c ≡ paymentDueOf (shownUnlessRefused a (recordShown (namedBy (getD rec 0 0)) rec)) → Accepted ≡ a
     go Accepted e = refl
     go (Refused why place) e = let z : _≡_ {A = ℕ} 0 1 = cc in absurd (omega arith)
 
-pub seen-shown : (d : Decoded) {p : Shows} → Paid p ≡ seenOf d → decoded.Payment p ≡ d
+pub seen-shown : (d : Decoded) {p : Shows} → Paid p ≡ fastDecodedOf d → decoded.Payment p ≡ d
 seen-shown (decoded.Header h) e = let z : _≡_ {A = ℕ} 0 1 = cc in absurd (omega arith)
 seen-shown (decoded.Payment q) e = cc
 seen-shown (decoded.Trailer t) e = let z : _≡_ {A = ℕ} 0 1 = cc in absurd (omega arith)
 seen-shown (decoded.Refused why place) e = let z : _≡_ {A = ℕ} 0 1 = cc in absurd (omega arith)
 
-pub other-shown : (rec : List ℕ) → Unpaid ≡ seenOf (decodeOf rec) → recordAnswer rec ≡ Accepted → isPayment (namedBy (getD rec 0 0)) ≡ false
+pub other-shown : (rec : List ℕ) → Unpaid ≡ fastDecodedOf (decodedRecord rec) → recordAnswer rec ≡ Accepted → isPayment (namedBy (getD rec 0 0)) ≡ false
 other-shown rec e a = go (namedBy (getD rec 0 0)) (rw a at e)
   where
-    go : (m : Named) → Unpaid ≡ seenOf (shownOf m rec) → isPayment m ≡ false
+    go : (m : MaybeRecord) → Unpaid ≡ fastDecodedOf (recordShown m rec) → isPayment m ≡ false
     go (Is Header) e = refl
     go (Is Payment) e = let z : _≡_ {A = ℕ} 0 1 = cc in absurd (omega arith)
     go (Is Trailer) e = refl

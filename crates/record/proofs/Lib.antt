@@ -1,4 +1,4 @@
 pub mod Exact
-pub mod Looks
+pub mod FastPath
 pub mod Shown
 pub mod Walks

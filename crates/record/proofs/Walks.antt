@@ -13,33 +13,33 @@ use lib.Seq.{slice, slice-empty, slice-cons}
 use Rattle.answer.specs.declared.Answer.{Answer}
 use Rattle.answer.specs.declared.Answer.the-variants.{Accepted, Refused}
 use Rattle.answer.specs.declared.Reason.{Reason}
-use Rattle.answer.specs.Orders.{_then_, first}
+use Rattle.answer.specs.Orders.{_then_, firstRefusal}
 use Rattle.layout.specs.declared.Field.{Field}
-use Rattle.layout.specs.declared.Named.{Named}
-use Rattle.layout.specs.declared.Named.the-variants.{Is, Other}
+use Rattle.layout.specs.declared.MaybeRecord.{MaybeRecord}
+use Rattle.layout.specs.declared.MaybeRecord.the-variants.{Is, Other}
 use Rattle.layout.specs.declared.Record.{Record}
 use Rattle.layout.specs.declared.Record.the-variants.{Header, Payment, Trailer}
 use Rattle.layout.specs.declared.Rows.{Rows}
 use Rattle.layout.specs.Layouts.{layoutOf, table, noField, rowAt, rowsOf, InRecord}
 use Rattle.layout.proofs.Layouts.{row-lies, rows-are}
 use Rattle.decimal.proofs.Finite.{never}
-use Rattle.record.specs.Records.{fieldAnswer, bodyAnswer}
+use Rattle.record.specs.Records.{fieldAnswer, layoutAnswer}
 use Rattle.record.specs.Values.{hasRow}
 
 -- The rows of any table: the row accepts, the row refuses, there is no row left.
 module _ {A : Type 0} (question : A → Answer) (rows : List A) (d : A) (i to : ℕ) where
-  rows-cons : i < to → to ≤ length rows → first question (slice i to rows) ≡ question (getD rows i d) then first question (slice (i + 1) to rows)
+  rows-cons : i < to → to ≤ length rows → firstRefusal question (slice i to rows) ≡ question (getD rows i d) then firstRefusal question (slice (i + 1) to rows)
   rows-cons h k = rw (slice-cons i to rows d h k, add-one)
 
-  pub later : {r : Answer} → i < to → to ≤ length rows → question (getD rows i d) ≡ Accepted → first question (slice i to rows) ≡ r
-      → first question (slice (i + 1) to rows) ≡ r
+  pub later : {r : Answer} → i < to → to ≤ length rows → question (getD rows i d) ≡ Accepted → firstRefusal question (slice i to rows) ≡ r
+      → firstRefusal question (slice (i + 1) to rows) ≡ r
   later h k e q = rw (rows-cons h k, e) at q
 
   pub here : {r a : Answer} {why : Reason} {at : ℕ} → i < to → to ≤ length rows → a ≡ question (getD rows i d) → a ≡ Refused why at
-      → first question (slice i to rows) ≡ r → a ≡ r
+      → firstRefusal question (slice i to rows) ≡ r → a ≡ r
   here {why = why} {at = at} h k e f q = let g : question (getD rows i d) ≡ Refused why at = sym e ∙ f in f ∙ (rw (rows-cons h k, g) at q)
 
-pub none : {A : Type 0} (question : A → Answer) (rows : List A) (i to : ℕ) {r : Answer} → i ≤ to → to ≤ i → first question (slice i to rows) ≡ r
+pub none : {A : Type 0} (question : A → Answer) (rows : List A) (i to : ℕ) {r : Answer} → i ≤ to → to ≤ i → firstRefusal question (slice i to rows) ≡ r
     → Accepted ≡ r
 none question rows i to h k q = rw (le-antisymm h k, slice-empty) at q
 
@@ -65,14 +65,14 @@ module _ (which : Record) {rows : Rows} {copy : List Field} (t : copy ≡ table)
   pub rows-here : slice (rows .from) (rows .to) copy ≡ layoutOf which
   rows-here = rw (t, e) (rows-are which)
 
-  pub walked : (rec : List ℕ) → first (fieldAnswer rec) (slice (rows .from) (rows .to) copy) ≡ bodyAnswer which rec
-  walked rec = ap (first (fieldAnswer rec)) rows-here
+  pub walked : (rec : List ℕ) → firstRefusal (fieldAnswer rec) (slice (rows .from) (rows .to) copy) ≡ layoutAnswer which rec
+  walked rec = ap (firstRefusal (fieldAnswer rec)) rows-here
 
 row-shown : (which : Record) {rows : Rows} {f : Field} (i : ℕ) → rows ≡ rowsOf which → f ≡ rowAt i → i < rows .to → InRecord f
 unfolding rowAt
 row-shown which i e q h = rw q (row-placed which refl e i noField h)
 
-pub row-of-named : (n : Named) {f : Field} (i : ℕ) → hasRow n i ≡ true → f ≡ rowAt i → InRecord f
+pub row-of-named : (n : MaybeRecord) {f : Field} (i : ℕ) → hasRow n i ≡ true → f ≡ rowAt i → InRecord f
 row-of-named (Is r) i h q =
     row-shown r i refl q (ltb-true i (rowsOf r .to) (and-eq-true-iff (leb (rowsOf r .from) i) (ltb i (rowsOf r .to)) .0 h .1))
 row-of-named Other i h q = never h

@@ -1,3 +1,3 @@
-pub mod Looks
+pub mod FastPath
 pub mod Records
 pub mod Values

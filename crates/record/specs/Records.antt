@@ -6,30 +6,30 @@ use lib.ListN.{length, getD}
 use Rattle.answer.specs.declared.Reason.the-variants.{WrongLength, NotExpected}
 use Rattle.answer.specs.declared.Answer.{Answer}
 use Rattle.answer.specs.declared.Answer.the-variants as answer
-use Rattle.answer.specs.Orders.{asked, _then_, first, movedBy, behind}
+use Rattle.answer.specs.Orders.{require, _then_, firstRefusal, movedBy, behind}
 use Rattle.decimal.specs.Places.{partAt}
 use Rattle.layout.specs.declared.Field.{Field}
-use Rattle.layout.specs.declared.Named.{Named}
-use Rattle.layout.specs.declared.Named.the-variants.{Is, Other}
+use Rattle.layout.specs.declared.MaybeRecord.{MaybeRecord}
+use Rattle.layout.specs.declared.MaybeRecord.the-variants.{Is, Other}
 use Rattle.layout.specs.declared.Record.{Record}
 use Rattle.layout.specs.Layouts.{recordLength, namedBy, layoutOf, stretchOf}
 use Rattle.kinds.specs.Kinds.{kindAnswer}
 
-abbrev pub partOf : Field → List ℕ → List ℕ
-partOf f rec = partAt (stretchOf f) rec
+abbrev pub fieldBytes : Field → List ℕ → List ℕ
+fieldBytes f rec = partAt (stretchOf f) rec
 
 -- a field of a record, answered with places of the record
 unfoldable pub fieldAnswer : List ℕ → Field → Answer
-fieldAnswer rec f = movedBy (behind (f .first - 1)) (kindAnswer (f .kind) (partOf f rec))
+fieldAnswer rec f = movedBy (behind (f .first - 1)) (kindAnswer (f .kind) (fieldBytes f rec))
 
 -- the fields from left to right: the first refusal
-abbrev pub bodyAnswer : Record → List ℕ → Answer
-bodyAnswer r rec = first (fieldAnswer rec) (layoutOf r)
+abbrev pub layoutAnswer : Record → List ℕ → Answer
+layoutAnswer r rec = firstRefusal (fieldAnswer rec) (layoutOf r)
 
-abbrev pub namedAnswer : Named → List ℕ → Answer
-namedAnswer (Is r) rec = bodyAnswer r rec
+abbrev pub namedAnswer : MaybeRecord → List ℕ → Answer
+namedAnswer (Is r) rec = layoutAnswer r rec
 namedAnswer Other rec = answer.Refused NotExpected 1
 
 -- record: 1, 9, then the fields
 unfoldable pub recordAnswer : List ℕ → Answer
-recordAnswer rec = asked (eqb (length rec) recordLength) WrongLength 0 then namedAnswer (namedBy (getD rec 0 0)) rec
+recordAnswer rec = require (eqb (length rec) recordLength) WrongLength 0 then namedAnswer (namedBy (getD rec 0 0)) rec

@@ -1,8 +1,8 @@
 // The three records, each decoded alone.
 ghost use mathlib.Core.Path.{_≡_};
-ghost use Rattle.record.specs.Values.{answerOf};
+ghost use Rattle.record.specs.Values.{answerOfRecord};
 
-mod quick;
+mod fast;
 mod values;
 mod walk;
 
@@ -11,7 +11,7 @@ use answer::Reason;
 use barcode::Fields;
 use barcode::Issuer;
 use calendar::Date;
-pub use quick::paid;
+pub use fast::accepted_payment;
 pub use values::decode;
 pub use values::field;
 pub use walk::check;
@@ -41,7 +41,7 @@ pub struct Trailer {
 }
 
 // To whom an accepted G pays, and the centavos received.
-pub enum Pays {
+pub enum PaymentDue {
     To(Issuer, u64),
     Nothing,
 }
@@ -55,7 +55,7 @@ pub enum Decoded {
 
 impl Decoded {
     pub fn answer(self) -> Answer
-        ensures { λ r. ⌜ r ≡ answerOf self ⌝ }
+        ensures { λ r. ⌜ r ≡ answerOfRecord self ⌝ }
     {
         match self {
             Decoded::Header(_) => Answer::Accepted,

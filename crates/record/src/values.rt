@@ -6,21 +6,21 @@ ghost use lib.ListN.{length, getD};
 ghost use Rattle.decimal.specs.Numbers.{numberOf};
 ghost use Rattle.calendar.specs.Dates.{dateOf};
 ghost use Rattle.layout.specs.Layouts.{recordLength, namedBy, InRecord};
-ghost use Rattle.record.specs.Records.{partOf};
-ghost use Rattle.record.specs.Looks.{isPayment};
-ghost use Rattle.record.specs.Values.{dayOf, headerOf, trailerOf, shownOf, decodeOf, fieldIn, shownField, hasRow};
+ghost use Rattle.record.specs.Records.{fieldBytes};
+ghost use Rattle.record.specs.FastPath.{isPayment};
+ghost use Rattle.record.specs.Values.{dayOf, headerShown, trailerShown, recordShown, decodedRecord, fieldIn, shownField, hasRow};
 use crate::Decoded;
 use crate::Header;
 use crate::Trailer;
-use crate::quick;
-use crate::quick::Seen;
+use crate::fast;
+use crate::fast::FastDecoded;
 use crate::walk;
 use answer::Answer;
 use answer::Reason;
 use calendar::Date;
-use calendar::Dated;
+use calendar::MaybeDate;
 use layout::Field;
-use layout::Named;
+use layout::MaybeRecord;
 use layout::Record;
 use layout::a;
 use layout::z;
@@ -29,7 +29,7 @@ fn number_in(rec: &[u8], f: Field) -> u64
     requires { ⌜ length (now rec) ≡ recordLength ⌝ }
     requires { ⌜ InRecord f ⌝ }
     requires { ⌜ f .last ≤ f .first + 18 ⌝ }
-    ensures { λ r. ⌜ r ≡ numberOf (partOf f (now (rec .entry))) ⌝ }
+    ensures { λ r. ⌜ r ≡ numberOf (fieldBytes f (now (rec .entry))) ⌝ }
 {
     decimal::number(walk::part_of(rec, f))
 }
@@ -37,11 +37,11 @@ fn number_in(rec: &[u8], f: Field) -> u64
 fn date_in(rec: &[u8], f: Field) -> Date
     requires { ⌜ length (now rec) ≡ recordLength ⌝ }
     requires { ⌜ InRecord f ⌝ }
-    ensures { λ r. ⌜ r ≡ dayOf (dateOf (partOf f (now (rec .entry)))) ⌝ }
+    ensures { λ r. ⌜ r ≡ dayOf (dateOf (fieldBytes f (now (rec .entry)))) ⌝ }
 {
-    match quick::date_of(rec, f) {
-        Dated::On(date) => date,
-        Dated::NoDate => Date {
+    match fast::date_of(rec, f) {
+        MaybeDate::On(date) => date,
+        MaybeDate::NoDate => Date {
             year: 0,
             month: 0,
             day: 0,
@@ -51,7 +51,7 @@ fn date_in(rec: &[u8], f: Field) -> Date
 
 fn read_header(rec: &[u8]) -> Header
     requires { ⌜ length (now rec) ≡ recordLength ⌝ }
-    ensures { λ r. ⌜ r ≡ headerOf (now (rec .entry)) ⌝ }
+    ensures { λ r. ⌜ r ≡ headerShown (now (rec .entry)) ⌝ }
 {
     Header {
         bank: number_in(rec, a::BANK),
@@ -62,7 +62,7 @@ fn read_header(rec: &[u8]) -> Header
 
 fn read_trailer(rec: &[u8]) -> Trailer
     requires { ⌜ length (now rec) ≡ recordLength ⌝ }
-    ensures { λ r. ⌜ r ≡ trailerOf (now (rec .entry)) ⌝ }
+    ensures { λ r. ⌜ r ≡ trailerShown (now (rec .entry)) ⌝ }
 {
     Trailer {
         count: number_in(rec, z::COUNT),
@@ -74,41 +74,41 @@ fn read_trailer(rec: &[u8]) -> Trailer
 fn shown(rec: &[u8]) -> Decoded
     requires { ⌜ length (now rec) ≡ recordLength ⌝ }
     requires { ⌜ isPayment (namedBy (getD (now rec) 0 0)) ≡ false ⌝ }
-    ensures { λ r. ⌜ r ≡ shownOf (namedBy (getD (now (rec .entry)) 0 0)) (now (rec .entry)) ⌝ }
+    ensures { λ r. ⌜ r ≡ recordShown (namedBy (getD (now (rec .entry)) 0 0)) (now (rec .entry)) ⌝ }
 {
     let none = Decoded::Refused(Reason::NotExpected, 1);
     match layout::named_by(rec[0]) {
-        Named::Is(which) => match which {
+        MaybeRecord::Is(which) => match which {
             Record::Header => Decoded::Header(read_header(rec)),
             Record::Payment => none,
             Record::Trailer => Decoded::Trailer(read_trailer(rec)),
         },
-        Named::Other => none,
+        MaybeRecord::Other => none,
     }
 }
 
 // What the quick look sees needs no walk.
 pub fn decode(rec: &[u8]) -> Decoded
-    ensures { λ r. ⌜ r ≡ decodeOf (now (rec .entry)) ⌝ }
+    ensures { λ r. ⌜ r ≡ decodedRecord (now (rec .entry)) ⌝ }
 {
-    match quick::payment(rec) {
-        Seen::Paid(payment) => Decoded::Payment(payment),
-        Seen::Other => match walk::walked(rec) {
+    match fast::decode_payment(rec) {
+        FastDecoded::Paid(payment) => Decoded::Payment(payment),
+        FastDecoded::Other => match walk::check_in_order(rec) {
             Answer::Accepted => shown(rec),
             Answer::Refused(why, place) => Decoded::Refused(why, place),
         },
     }
 }
 
-fn has_row(named: Named, row: usize) -> bool
+fn has_row(named: MaybeRecord, row: usize) -> bool
     ensures { λ r. ⌜ r ≡ hasRow named row ⌝ }
 {
     match named {
-        Named::Is(which) => {
+        MaybeRecord::Is(which) => {
             let rows = layout::rows_of(which);
             rows.from <= row && row < rows.to
         }
-        Named::Other => false,
+        MaybeRecord::Other => false,
     }
 }
 

@@ -2,20 +2,20 @@
 ghost use mathlib.Core.Path.{_≡_};
 ghost use lib.ListN.{length};
 ghost use Rattle.layout.specs.Layouts.{recordLength, InRecord};
-ghost use Rattle.record.specs.Records.{partOf, fieldAnswer, bodyAnswer, recordAnswer};
-use crate::Pays;
-use crate::quick;
+ghost use Rattle.record.specs.Records.{fieldBytes, fieldAnswer, layoutAnswer, recordAnswer};
+use crate::PaymentDue;
+use crate::fast;
 use answer::Answer;
 use answer::Reason;
 use layout::Field;
-use layout::Named;
+use layout::MaybeRecord;
 use layout::Record;
 
 // A field's bytes, as a part of the record's.
 pub(crate) fn part_of(rec: &[u8], f: Field) -> &[u8]
     requires { ⌜ length (now rec) ≡ recordLength ⌝ }
     requires { ⌜ InRecord f ⌝ }
-    ensures { λ r. ⌜ now r ≡ partOf f (now (rec .entry)) ⌝ }
+    ensures { λ r. ⌜ now r ≡ fieldBytes f (now (rec .entry)) ⌝ }
 {
     let first = f.first;
     let last = f.last;
@@ -35,7 +35,7 @@ fn field_answer(rec: &[u8], f: Field) -> Answer
 // The table is copied once: a constant array would be made anew at each row.
 fn body_answer(which: Record, rec: &[u8]) -> Answer
     requires { ⌜ length (now rec) ≡ recordLength ⌝ }
-    ensures { λ r. ⌜ r ≡ bodyAnswer which (now (rec .entry)) ⌝ }
+    ensures { λ r. ⌜ r ≡ layoutAnswer which (now (rec .entry)) ⌝ }
 {
     let table = layout::table();
     let rows = layout::rows_of(which);
@@ -56,15 +56,15 @@ fn body_answer(which: Record, rec: &[u8]) -> Answer
 }
 
 // A record alone: its length, what it is, then its fields.
-pub(crate) fn walked(rec: &[u8]) -> Answer
+pub(crate) fn check_in_order(rec: &[u8]) -> Answer
     ensures { λ r. ⌜ r ≡ recordAnswer (now (rec .entry)) ⌝ }
 {
     if rec.len() != layout::LENGTH {
         return Answer::Refused(Reason::WrongLength, 0);
     }
     match layout::named_by(rec[0]) {
-        Named::Is(which) => body_answer(which, rec),
-        Named::Other => Answer::Refused(Reason::NotExpected, 1),
+        MaybeRecord::Is(which) => body_answer(which, rec),
+        MaybeRecord::Other => Answer::Refused(Reason::NotExpected, 1),
     }
 }
 
@@ -72,8 +72,8 @@ pub(crate) fn walked(rec: &[u8]) -> Answer
 pub fn check(rec: &[u8]) -> Answer
     ensures { λ r. ⌜ r ≡ recordAnswer (now (rec .entry)) ⌝ }
 {
-    match quick::paid(rec) {
-        Pays::To(_, _) => Answer::Accepted,
-        Pays::Nothing => walked(rec),
+    match fast::accepted_payment(rec) {
+        PaymentDue::To(_, _) => Answer::Accepted,
+        PaymentDue::Nothing => check_in_order(rec),
     }
 }

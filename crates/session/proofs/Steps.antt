@@ -6,54 +6,54 @@ use mathlib.Core.Path.{_≡_, sym, ap, _∙_}
 use Rattle.answer.specs.declared.Reason.{Reason}
 use Rattle.answer.specs.declared.Answer.{Answer}
 use Rattle.answer.specs.declared.Answer.the-variants.{Accepted, Refused}
-use Rattle.answer.specs.Orders.{asked, _then_}
+use Rattle.answer.specs.Orders.{require, _then_}
 use Rattle.file.specs.declared.File.{File}
-use Rattle.file.specs.declared.Taken.{Taken}
-use Rattle.file.specs.Files.{takenOf, fileAnswer, fileWith}
+use Rattle.file.specs.declared.FileResult.{FileResult}
+use Rattle.file.specs.Files.{fileResultOf, fileAnswer, fileWith}
 use Rattle.board.specs.declared.Lane.{Lane}
 use Rattle.board.specs.declared.Board.{Board}
-use Rattle.board.specs.declared.Posted.{Posted}
-use Rattle.board.specs.Boards.{postAnswer, boardWith, postedOf}
+use Rattle.board.specs.declared.PostResult.{PostResult}
+use Rattle.board.specs.Boards.{postAnswer, boardWith, postResultOf}
 use Rattle.record.specs.declared.Decoded.{Decoded}
-use Rattle.record.specs.Values.{decodeOf}
+use Rattle.record.specs.Values.{decodedRecord}
 use Rattle.session.specs.declared.Session.{Session}
-use Rattle.session.specs.declared.Took.{Took}
-use Rattle.session.specs.Sessions.{meets, follows, took}
+use Rattle.session.specs.declared.TakeResult.{TakeResult}
+use Rattle.session.specs.Sessions.{applyAnswer, nextSession, takeResult}
 
 -- an answer handed on, with the session as it was or with the next
 pub took-refused : {a b : Answer} {why : Reason} {p : ℕ} (new old : Session) → a ≡ b → a ≡ Refused why p
-    → _≡_ {A = Took} (record { answer = a; session = old }) (took b new old)
+    → _≡_ {A = TakeResult} (record { answer = a; session = old }) (takeResult b new old)
 took-refused {a} {b} {why} {p} new old e f = let g : b ≡ Refused why p = cc in rw (g, f)
 
 pub took-next : {a b : Answer} {s new : Session} (old : Session) → a ≡ b → a ≡ Accepted → s ≡ new
-    → _≡_ {A = Took} (record { answer = a; session = s }) (took b new old)
+    → _≡_ {A = TakeResult} (record { answer = a; session = s }) (takeResult b new old)
 took-next {a} {b} old e f h = let g : b ≡ Accepted = cc in rw (g, f, h)
 
 -- a question before the rest: it stops, or the rest is what was taken
 pub took-stop : {t : Bool} (why : Reason) (p : ℕ) (next : Answer) (new old : Session) → t ≡ false
-    → _≡_ {A = Took} (record { answer = Refused why p; session = old }) (took (asked t why p then next) new old)
+    → _≡_ {A = TakeResult} (record { answer = Refused why p; session = old }) (takeResult (require t why p then next) new old)
 took-stop why p next new old e = rw e
 
-pub took-go : {t : Bool} {r : Took} (why : Reason) (p : ℕ) (next : Answer) (new old : Session) → t ≡ true → r ≡ took next new old
-    → r ≡ took (asked t why p then next) new old
+pub took-go : {t : Bool} {r : TakeResult} (why : Reason) (p : ℕ) (next : Answer) (new old : Session) → t ≡ true → r ≡ takeResult next new old
+    → r ≡ takeResult (require t why p then next) new old
 took-go why p next new old e f = rw e f
 
 -- the file took it: what is left is the board's
-pub took-then : {a b : Answer} {r : Took} (next : Answer) (new old : Session) → a ≡ b → a ≡ Accepted → r ≡ took next new old → r ≡ took (b then next) new old
+pub took-then : {a b : Answer} {r : TakeResult} (next : Answer) (new old : Session) → a ≡ b → a ≡ Accepted → r ≡ takeResult next new old → r ≡ takeResult (b then next) new old
 took-then {a} {b} next new old e f h = let g : b ≡ Accepted = cc in rw g h
 
 -- what was posted, where it is accepted
-pub posted-board : {r : Posted} (b : Board) (p : Lane) → r ≡ postedOf b p → r .answer ≡ Accepted → r .board ≡ boardWith b p
+pub posted-board : {r : PostResult} (b : Board) (p : Lane) → r ≡ postResultOf b p → r .answer ≡ Accepted → r .board ≡ boardWith b p
 posted-board {r} b p e f =
-    let g : postAnswer b p ≡ Accepted = sym (ap (λ (x : Posted). x .answer) e) ∙ f in
-    ap (λ (x : Posted). x .board) e ∙ rw g
+    let g : postAnswer b p ≡ Accepted = sym (ap (λ (x : PostResult). x .answer) e) ∙ f in
+    ap (λ (x : PostResult). x .board) e ∙ rw g
 
-pub taken-file : {r : Taken} (f : File) (x : ℕ) → r ≡ takenOf f x → r .answer ≡ Accepted → r .file ≡ fileWith f x
+pub taken-file : {r : FileResult} (f : File) (x : ℕ) → r ≡ fileResultOf f x → r .answer ≡ Accepted → r .file ≡ fileWith f x
 taken-file {r} f x e h =
-    let g : fileAnswer f x ≡ Accepted = sym (ap (λ (t : Taken). t .answer) e) ∙ h in
-    ap (λ (t : Taken). t .file) e ∙ rw g
+    let g : fileAnswer f x ≡ Accepted = sym (ap (λ (t : FileResult). t .answer) e) ∙ h in
+    ap (λ (t : FileResult). t .file) e ∙ rw g
 
 -- a record that was decoded as this
-pub met : (s : Session) (rec : List ℕ) {e d : Decoded} {r : Took} → e ≡ decodeOf rec → e ≡ d → r ≡ took (meets s d) (follows s d) s
-    → r ≡ took (meets s (decodeOf rec)) (follows s (decodeOf rec)) s
-met s rec {e} {d} q f h = let g : decodeOf rec ≡ d = sym q ∙ f in rw g h
+pub met : (s : Session) (rec : List ℕ) {e d : Decoded} {r : TakeResult} → e ≡ decodedRecord rec → e ≡ d → r ≡ takeResult (applyAnswer s d) (nextSession s d) s
+    → r ≡ takeResult (applyAnswer s (decodedRecord rec)) (nextSession s (decodedRecord rec)) s
+met s rec {e} {d} q f h = let g : decodedRecord rec ≡ d = sym q ∙ f in rw g h

@@ -7,9 +7,9 @@ use lib.ListN.{length, getD}
 use Rattle.answer.specs.declared.Reason.the-variants.{WrongLength, NotExpected, FileOpen}
 use Rattle.answer.specs.declared.Answer.{Answer}
 use Rattle.answer.specs.declared.Answer.the-variants as answer
-use Rattle.answer.specs.Orders.{asked, _then_, kept}
-use Rattle.layout.specs.declared.Named.{Named}
-use Rattle.layout.specs.declared.Named.the-variants.{Is, Other}
+use Rattle.answer.specs.Orders.{require, _then_, ifAccepted}
+use Rattle.layout.specs.declared.MaybeRecord.{MaybeRecord}
+use Rattle.layout.specs.declared.MaybeRecord.the-variants.{Is, Other}
 use Rattle.layout.specs.declared.Record.{Record}
 use Rattle.layout.specs.declared.Record.the-variants as layout
 use Rattle.layout.specs.Layouts.{recordLength, namedBy}
@@ -17,16 +17,16 @@ use Rattle.record.specs.declared.Payment.{Payment}
 use Rattle.record.specs.declared.Trailer.{Trailer}
 use Rattle.record.specs.declared.Decoded.{Decoded}
 use Rattle.record.specs.declared.Decoded.the-variants as decoded
-use Rattle.record.specs.Values.{decodeOf}
+use Rattle.record.specs.Values.{decodedRecord}
 use Rattle.file.specs.declared.File.{File}
 use Rattle.file.specs.declared.Figures.{Figures}
 use Rattle.file.specs.Files.{freshFile, fileAnswer, fileWith, figuresAnswer}
 use Rattle.board.specs.declared.Lane.{Lane}
 use Rattle.board.specs.declared.Board.{Board}
-use Rattle.board.specs.Lanes.{paymentOf}
+use Rattle.board.specs.Lanes.{laneOfOne}
 use Rattle.board.specs.Boards.{freshBoard, postAnswer, boardWith}
 use Rattle.session.specs.declared.Session.{Session}
-use Rattle.session.specs.declared.Took.{Took}
+use Rattle.session.specs.declared.TakeResult.{TakeResult}
 
 -- a session with no file open shows this board; the working board is the board shown
 abbrev pub closedAt : Board → Session
@@ -46,13 +46,13 @@ expectsThe opened layout.Header = not opened
 expectsThe opened layout.Payment = opened
 expectsThe opened layout.Trailer = opened
 
-abbrev pub expects : Bool → Named → Bool
-expects opened (Is which) = expectsThe opened which
-expects opened Other = false
+abbrev pub sessionExpects : Bool → MaybeRecord → Bool
+sessionExpects opened (Is which) = expectsThe opened which
+sessionExpects opened Other = false
 
 -- what a G pays to a lane, and the figures that a Z shows
-abbrev pub paidBy : Payment → Lane
-paidBy p = paymentOf (p .barcode .issuer) (p .received)
+abbrev pub laneOfPayment : Payment → Lane
+laneOfPayment p = laneOfOne (p .barcode .issuer) (p .received)
 
 abbrev pub figuresIn : Trailer → Figures
 figuresIn t = record { count = t .count; total = t .total }
@@ -69,37 +69,37 @@ abbrev pub paying : Session → Lane → Session
 paying s p = posting s p (fileWith (s .file) (p .tally .centavos))
 
 -- what a record meets in the session, its own refusals first; Z: 13, 14
-abbrev pub meets : Session → Decoded → Answer
-meets s (decoded.Header h) = answer.Accepted
-meets s (decoded.Payment p) = payAnswer s (paidBy p)
-meets s (decoded.Trailer t) = figuresAnswer (s .file) (figuresIn t)
-meets s (decoded.Refused why place) = answer.Refused why place
+abbrev pub applyAnswer : Session → Decoded → Answer
+applyAnswer s (decoded.Header h) = answer.Accepted
+applyAnswer s (decoded.Payment p) = payAnswer s (laneOfPayment p)
+applyAnswer s (decoded.Trailer t) = figuresAnswer (s .file) (figuresIn t)
+applyAnswer s (decoded.Refused why place) = answer.Refused why place
 
 -- the session that follows: payments of an open file appear together when its Z is accepted
-abbrev pub follows : Session → Decoded → Session
-follows s (decoded.Header h) = openedAt (s .shown)
-follows s (decoded.Payment p) = paying s (paidBy p)
-follows s (decoded.Trailer t) = closedAt (s .work)
-follows s (decoded.Refused why place) = s
+abbrev pub nextSession : Session → Decoded → Session
+nextSession s (decoded.Header h) = openedAt (s .shown)
+nextSession s (decoded.Payment p) = paying s (laneOfPayment p)
+nextSession s (decoded.Trailer t) = closedAt (s .work)
+nextSession s (decoded.Refused why place) = s
 
 -- an answer with the session that it leaves
-abbrev pub took : Answer → Session → Session → Took
-took a new old = record { answer = a; session = kept a new old }
+abbrev pub takeResult : Answer → Session → Session → TakeResult
+takeResult a new old = record { answer = a; session = ifAccepted a new old }
 
 -- record: 1, 9, then its own and the session's
 abbrev pub takeAnswer : Session → List ℕ → Answer
 takeAnswer s rec =
-    asked (eqb (length rec) recordLength) WrongLength 0
-    then asked (expects (s .opened) (namedBy (getD rec 0 0))) NotExpected 1
-    then meets s (decodeOf rec)
+    require (eqb (length rec) recordLength) WrongLength 0
+    then require (sessionExpects (s .opened) (namedBy (getD rec 0 0))) NotExpected 1
+    then applyAnswer s (decodedRecord rec)
 
-abbrev pub takeOf : Session → List ℕ → Took
-takeOf s rec = took (takeAnswer s rec) (follows s (decodeOf rec)) s
+abbrev pub takeOf : Session → List ℕ → TakeResult
+takeOf s rec = takeResult (takeAnswer s rec) (nextSession s (decodedRecord rec)) s
 
 -- abandoning drops an open file and does nothing otherwise
 abbrev pub abandonOf : Session → Session
 abandonOf s = cond (s .opened) (closedAt (s .shown)) s
 
 -- finishing answers 19 while a file is open, else 0, and changes nothing
-abbrev pub finishOf : Session → Took
-finishOf s = record { answer = asked (not (s .opened)) FileOpen 0; session = s }
+abbrev pub finishOf : Session → TakeResult
+finishOf s = record { answer = require (not (s .opened)) FileOpen 0; session = s }

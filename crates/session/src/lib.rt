@@ -1,10 +1,10 @@
 // A session takes the records of return files one after the other.
 ghost use mathlib.Core.Path.{_≡_};
-ghost use Rattle.record.specs.Values.{decodeOf};
+ghost use Rattle.record.specs.Values.{decodedRecord};
 ghost use Rattle.file.specs.Files.{figuresAnswer};
-ghost use Rattle.board.specs.Lanes.{paymentOf};
+ghost use Rattle.board.specs.Lanes.{laneOfOne};
 ghost use Rattle.board.specs.Boards.{postAnswer};
-ghost use Rattle.session.specs.Sessions.{freshSession, openedAt, closedAt, expectsThe, expects, payAnswer, paying, posting, meets, follows, took, takeOf, abandonOf, finishOf};
+ghost use Rattle.session.specs.Sessions.{freshSession, openedAt, closedAt, expectsThe, sessionExpects, payAnswer, paying, posting, applyAnswer, nextSession, takeResult, takeOf, abandonOf, finishOf};
 
 mod running;
 
@@ -14,7 +14,7 @@ use barcode::Issuer;
 use board::Board;
 use file::Figures;
 use file::File;
-use layout::Named;
+use layout::MaybeRecord;
 use layout::Record;
 use record::Decoded;
 
@@ -28,13 +28,13 @@ pub struct Session {
 }
 
 // A refusal leaves the session as it was.
-pub struct Took {
+pub struct TakeResult {
     pub answer: Answer,
     pub session: Session,
 }
 
 // How many records were accepted and how many files were closed before the first refusal.
-pub struct Ran {
+pub struct RunResult {
     pub answer: Answer,
     pub session: Session,
     pub records: u64,
@@ -51,12 +51,12 @@ fn is_the_expected(opened: bool, which: Record) -> bool
     }
 }
 
-fn is_expected(opened: bool, named: Named) -> bool
-    ensures { λ r. ⌜ r ≡ expects opened named ⌝ }
+fn is_expected(opened: bool, named: MaybeRecord) -> bool
+    ensures { λ r. ⌜ r ≡ sessionExpects opened named ⌝ }
 {
     match named {
-        Named::Is(which) => is_the_expected(opened, which),
-        Named::Other => false,
+        MaybeRecord::Is(which) => is_the_expected(opened, which),
+        MaybeRecord::Other => false,
     }
 }
 
@@ -84,14 +84,14 @@ impl Session {
     }
 
     // One payment: 15, 16, 17, 18, or the session with it.
-    fn pay(self, issuer: Issuer, received: u64) -> Took
-        ensures { λ r. ⌜ r ≡ took (payAnswer self (paymentOf issuer received)) (paying self (paymentOf issuer received)) self ⌝ }
+    fn pay(self, issuer: Issuer, received: u64) -> TakeResult
+        ensures { λ r. ⌜ r ≡ takeResult (payAnswer self (laneOfOne issuer received)) (paying self (laneOfOne issuer received)) self ⌝ }
     {
         let file = self.file;
         let taken = file.take(received);
         let a = taken.answer;
         match a {
-            Answer::Refused(_, _) => Took {
+            Answer::Refused(_, _) => TakeResult {
                 answer: a,
                 session: self,
             },
@@ -100,21 +100,21 @@ impl Session {
     }
 
     // 17, 18, or the session with the payment and the file that took it.
-    fn post(self, issuer: Issuer, received: u64, file: File) -> Took
-        ensures { λ r. ⌜ r ≡ took (postAnswer (self .work) (paymentOf issuer received)) (posting self (paymentOf issuer received) file) self ⌝ }
+    fn post(self, issuer: Issuer, received: u64, file: File) -> TakeResult
+        ensures { λ r. ⌜ r ≡ takeResult (postAnswer (self .work) (laneOfOne issuer received)) (posting self (laneOfOne issuer received) file) self ⌝ }
     {
         let work = self.work;
         let posted = work.post(issuer, received);
         let a = posted.answer;
         match a {
-            Answer::Refused(_, _) => Took {
+            Answer::Refused(_, _) => TakeResult {
                 answer: a,
                 session: self,
             },
             Answer::Accepted => {
                 let shown = self.shown;
                 let after = posted.board;
-                Took {
+                TakeResult {
                     answer: a,
                     session: Session {
                         shown,
@@ -128,19 +128,19 @@ impl Session {
     }
 
     // 13, 14, or the session with the file's payments on its board.
-    fn close(self, shown: Figures) -> Took
-        ensures { λ r. ⌜ r ≡ took (figuresAnswer (self .file) shown) (closedAt (self .work)) self ⌝ }
+    fn close(self, shown: Figures) -> TakeResult
+        ensures { λ r. ⌜ r ≡ takeResult (figuresAnswer (self .file) shown) (closedAt (self .work)) self ⌝ }
     {
         let file = self.file;
-        let a = file.judge(shown);
+        let a = file.check_trailer(shown);
         match a {
-            Answer::Refused(_, _) => Took {
+            Answer::Refused(_, _) => TakeResult {
                 answer: a,
                 session: self,
             },
             Answer::Accepted => {
                 let work = self.work;
-                Took {
+                TakeResult {
                     answer: a,
                     session: Session {
                         shown: work,
@@ -166,15 +166,15 @@ impl Session {
     }
 
     // A record that is expected now and of the right length.
-    fn meet(self, rec: &[u8]) -> Took
-        ensures { λ r. ⌜ r ≡ took (meets self (decodeOf (now (rec .entry)))) (follows self (decodeOf (now (rec .entry)))) self ⌝ }
+    fn apply(self, rec: &[u8]) -> TakeResult
+        ensures { λ r. ⌜ r ≡ takeResult (applyAnswer self (decodedRecord (now (rec .entry)))) (nextSession self (decodedRecord (now (rec .entry)))) self ⌝ }
     {
         match record::decode(rec) {
-            Decoded::Refused(why, place) => Took {
+            Decoded::Refused(why, place) => TakeResult {
                 answer: Answer::Refused(why, place),
                 session: self,
             },
-            Decoded::Header(_) => Took {
+            Decoded::Header(_) => TakeResult {
                 answer: Answer::Accepted,
                 session: self.open(),
             },
@@ -187,22 +187,22 @@ impl Session {
     }
 
     // One record of any bytes and any length: its answer, and the session that follows.
-    pub fn take(self, rec: &[u8]) -> Took
+    pub fn take(self, rec: &[u8]) -> TakeResult
         ensures { λ r. ⌜ r ≡ takeOf self (now (rec .entry)) ⌝ }
     {
         if rec.len() != Self::RECORD {
-            return Took {
+            return TakeResult {
                 answer: Answer::Refused(Reason::WrongLength, 0),
                 session: self,
             };
         }
         if !is_expected(self.opened, layout::named_by(rec[0])) {
-            return Took {
+            return TakeResult {
                 answer: Answer::Refused(Reason::NotExpected, 1),
                 session: self,
             };
         }
-        self.meet(rec)
+        self.apply(rec)
     }
 
     // Drops an open file, and does nothing otherwise.
@@ -222,16 +222,16 @@ impl Session {
     }
 
     // 19 while a file is open; changes nothing.
-    pub fn finish(self) -> Took
+    pub fn finish(self) -> TakeResult
         ensures { λ r. ⌜ r ≡ finishOf self ⌝ }
     {
         if self.opened {
-            return Took {
+            return TakeResult {
                 answer: Answer::Refused(Reason::FileOpen, 0),
                 session: self,
             };
         }
-        Took {
+        TakeResult {
             answer: Answer::Accepted,
             session: self,
         }

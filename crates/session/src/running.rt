@@ -2,9 +2,9 @@
 ghost use mathlib.Core.Path.{_≡_};
 ghost use Prim.Native.Nat.{_+_, _-_, _%_, _<_, _≤_, min};
 ghost use Rattle.layout.specs.Layouts.{recordLength};
-ghost use Rattle.board.specs.Lanes.{mostLanes, paymentOf};
-ghost use Rattle.session.specs.Runs.{closedBy, runOf, PaidOf, DueAt, FilledOf, Starts};
-use crate::Ran;
+ghost use Rattle.board.specs.Lanes.{mostLanes, laneOfOne};
+ghost use Rattle.session.specs.Runs.{closedBy, runOf, PaidPrefixOf, NextPaymentAt, FilledSlotOf, SearchStarts};
+use crate::RunResult;
 use crate::Session;
 use answer::Answer;
 use barcode::Issuer;
@@ -13,12 +13,12 @@ use board::Lane;
 use board::Slot;
 use board::Tally;
 use file::File;
-use layout::Named;
+use layout::MaybeRecord;
 use layout::Record;
-use record::Pays;
+use record::PaymentDue;
 
 // The working board and the file after some payments, and how many records and bytes these were.
-struct Paid {
+struct PaidPrefix {
     work: Board,
     file: File,
     records: u64,
@@ -32,7 +32,7 @@ enum Due {
 }
 
 // What a payment leaves where it is posted: its lane, the lanes in use and the total.
-enum Filled {
+enum FilledSlot {
     With(Lane, usize, Tally),
     Refused,
 }
@@ -54,22 +54,22 @@ fn piece_end(at: usize, length: usize) -> usize
     at + Session::RECORD
 }
 
-fn files_closed(named: Named) -> u64
+fn files_closed(named: MaybeRecord) -> u64
     ensures { λ r. ⌜ r ≡ closedBy named ⌝ }
     ensures small { λ r. ⌜ r ≤ 1 ⌝ }
 {
     match named {
-        Named::Is(which) => match which {
+        MaybeRecord::Is(which) => match which {
             Record::Header => 0,
             Record::Payment => 0,
             Record::Trailer => 1,
         },
-        Named::Other => 0,
+        MaybeRecord::Other => 0,
     }
 }
 
 fn paid_to(issuer: Issuer, received: u64) -> Lane
-    ensures { λ r. ⌜ r ≡ paymentOf issuer received ⌝ }
+    ensures { λ r. ⌜ r ≡ laneOfOne issuer received ⌝ }
 {
     Lane {
         issuer,
@@ -81,8 +81,8 @@ fn paid_to(issuer: Issuer, received: u64) -> Lane
 }
 
 // The payment that stands at an index.
-fn due_at(opened: bool, file: File, bytes: &[u8], at: usize) -> Due
-    ensures { λ r. ⌜ DueAt opened file (now (bytes .entry)) at r ⌝ }
+fn next_payment(opened: bool, file: File, bytes: &[u8], at: usize) -> Due
+    ensures { λ r. ⌜ NextPaymentAt opened file (now (bytes .entry)) at r ⌝ }
 {
     if !opened {
         return Due::Nothing;
@@ -91,7 +91,7 @@ fn due_at(opened: bool, file: File, bytes: &[u8], at: usize) -> Due
         return Due::Nothing;
     }
     let end = piece_end(at, bytes.len());
-    let Pays::To(issuer, received) = record::paid(&bytes[at..end]) else {
+    let PaymentDue::To(issuer, received) = record::accepted_payment(&bytes[at..end]) else {
         return Due::Nothing;
     };
     let taken = file.take(received);
@@ -128,7 +128,7 @@ fn seen_at(mark: u8) -> usize
 
 // A search among lanes that is over at once where the lane that was seen last is the issuer's.
 fn search_for(issuer: Issuer, guess: usize, seen: Lane, used: usize) -> Search
-    ensures { λ r. ⌜ Starts issuer guess seen used (r .from) (r .to) ⌝ }
+    ensures { λ r. ⌜ SearchStarts issuer guess seen used (r .from) (r .to) ⌝ }
 {
     if guess < used {
         if seen.is_of(issuer) {
@@ -144,8 +144,8 @@ fn search_for(issuer: Issuer, guess: usize, seen: Lane, used: usize) -> Search
     }
 }
 
-fn fill(place: usize, lane: Lane, used: usize, total: Tally, payment: Lane) -> Filled
-    ensures { λ r. ⌜ FilledOf (record { at = place; lane = lane; used = used; total = total }) payment r ⌝ }
+fn post_in_slot(place: usize, lane: Lane, used: usize, total: Tally, payment: Lane) -> FilledSlot
+    ensures { λ r. ⌜ FilledSlotOf (record { at = place; lane = lane; used = used; total = total }) payment r ⌝ }
 {
     let slot = Slot {
         at: place,
@@ -156,30 +156,30 @@ fn fill(place: usize, lane: Lane, used: usize, total: Tally, payment: Lane) -> F
     let entry = slot.post(payment);
     let answer = entry.answer;
     let Answer::Accepted = answer else {
-        return Filled::Refused;
+        return FilledSlot::Refused;
     };
     let lane = entry.slot.lane;
     let total = entry.slot.total;
-    Filled::With(lane, entry.slot.used, total)
+    FilledSlot::With(lane, entry.slot.used, total)
 }
 
 impl Session {
     // The accepted payments at the front, up to the first other record. No board is copied for them: each is posted in place.
-    fn pay_on(self, bytes: &[u8]) -> Paid
-        ensures { λ r. ⌜ PaidOf self (now (bytes .entry)) r ⌝ }
+    fn pay_prefix(self, bytes: &[u8]) -> PaidPrefix
+        ensures { λ r. ⌜ PaidPrefixOf self (now (bytes .entry)) r ⌝ }
     {
         let mut work = self.work;
         let mut file = self.file;
         let mut records: u64 = 0;
         let mut at: usize = 0;
         // Where lanes were seen last. Of lanes that are not moved, a place once found stays the one that a search finds.
-        let mut marks = [0u8; 256];
+        let mut lane_cache = [0u8; 256];
         loop {
-            let Due::To(payment, next, end) = due_at(self.opened, file, bytes, at) else {
+            let Due::To(payment, next, end) = next_payment(self.opened, file, bytes, at) else {
                 break;
             };
             let mark = mark_of(payment.issuer.number);
-            let guess = seen_at(marks[mark]);
+            let guess = seen_at(lane_cache[mark]);
             let search = search_for(payment.issuer, guess, work.lanes[guess], work.used);
             let mut place = search.from;
             while place < search.to {
@@ -191,7 +191,7 @@ impl Session {
             if Self::LANES <= place {
                 break;
             }
-            let Filled::With(lane, used, total) = fill(
+            let FilledSlot::With(lane, used, total) = post_in_slot(
                 place,
                 work.lanes[place],
                 work.used,
@@ -203,12 +203,12 @@ impl Session {
             work.lanes[place] = lane;
             work.used = used;
             work.total = total;
-            marks[mark] = place as u8;
+            lane_cache[mark] = place as u8;
             file = next;
             records += 1;
             at = end;
         }
-        Paid {
+        PaidPrefix {
             work,
             file,
             records,
@@ -217,7 +217,7 @@ impl Session {
     }
 
     // Records one after the other, until the first that is refused.
-    pub fn run(self, bytes: &[u8]) -> Ran
+    pub fn run(self, bytes: &[u8]) -> RunResult
         ensures { λ r. ⌜ r ≡ runOf self (now (bytes .entry)) ⌝ }
     {
         let mut session = self;
@@ -225,7 +225,7 @@ impl Session {
         let mut files: u64 = 0;
         let mut at: usize = 0;
         loop {
-            let paid = session.pay_on(&bytes[at..]);
+            let paid = session.pay_prefix(&bytes[at..]);
             let work = paid.work;
             let file = paid.file;
             session.work = work;
@@ -233,7 +233,7 @@ impl Session {
             records += paid.records;
             at += paid.at;
             if bytes.len() <= at {
-                return Ran {
+                return RunResult {
                     answer: Answer::Accepted,
                     session,
                     records,
@@ -244,7 +244,7 @@ impl Session {
             let took = session.take(&bytes[at..end]);
             let answer = took.answer;
             let Answer::Accepted = answer else {
-                return Ran {
+                return RunResult {
                     answer,
                     session,
                     records,

@@ -21,14 +21,14 @@ use Rattle.layout.specs.declared.Record.{Record}
 use Rattle.layout.specs.declared.Record.the-variants.{Payment, Trailer}
 use Rattle.layout.specs.Layouts.{layoutOf, stretchOf, givenLength, joinedOf, rowAt, table, countRow}
 use Rattle.kinds.specs.Kinds.{kindAnswer}
-use Rattle.record.specs.Records.{partOf}
-use Rattle.record.specs.Values.{trailerOf}
+use Rattle.record.specs.Records.{fieldBytes}
+use Rattle.record.specs.Values.{trailerShown}
 use Rattle.fields.specs.Making.{writtenOf, isMoney, putAnswer, takes, pieceOf, pieceAnswer, amountsAfter, madeOf, makingAnswer, makeAnswer, amountsIn}
 use Rattle.fields.proofs.Trips.{fields-make-the-record, made-is-accepted}
 use Rattle.file.specs.Files.{figuresOf, closingAnswer}
 use Rattle.file.proofs.Files.{closing-accepts, figures-fit}
 use Rattle.writer.specs.declared.Writer.{Writer}
-use Rattle.writer.specs.Writers.{doorAnswer, countBytes, trailerBytes, WrittenAmountsAreRead, TrailerShowsTheFigures}
+use Rattle.writer.specs.Writers.{callAnswer, countBytes, trailerBytes, WrittenAmountsAreRead, TrailerShowsTheFigures}
 use Rattle.writer.proofs.Written.{making-is, written-is-accepted}
 
 -- One field: what is written for two amounts is as long, and tells them apart.
@@ -119,21 +119,21 @@ written-amounts-are-read given received tariff room e =
     (ap (λ (l : List ℕ). getD l 0 0) back, ap (λ (l : List ℕ). getD l 1 0) back)
 
 -- The trailer: its count is its field bytes, its total its one amount.
-pub count-back : (rec : List ℕ) → joinedOf Trailer rec ≡ partOf (rowAt countRow) rec
+pub count-back : (rec : List ℕ) → joinedOf Trailer rec ≡ fieldBytes (rowAt countRow) rec
 unfolding layoutOf rowAt table
-count-back rec = append-nil (partOf (rowAt countRow) rec)
+count-back rec = append-nil (fieldBytes (rowAt countRow) rec)
 
 count-written : (w : Writer) → closingAnswer (w .file) ≡ Accepted → numberOf (countBytes w) ≡ figuresOf (w .file) .count
 unfolding givenLength layoutOf
 count-written w c = number-of-digits 6 (figuresOf (w .file) .count) (figures-fit (w .file) (closing-accepts (w .file) .0 c) .0)
 
-total-back : (w : Writer) (room : ℕ) → makeAnswer Trailer (countBytes w) (figuresOf (w .file) .total ∷ 0 ∷ []) room ≡ Accepted → trailerOf (trailerBytes w) .total ≡ w .file .total
+total-back : (w : Writer) (room : ℕ) → makeAnswer Trailer (countBytes w) (figuresOf (w .file) .total ∷ 0 ∷ []) room ≡ Accepted → trailerShown (trailerBytes w) .total ≡ w .file .total
 unfolding layoutOf rowAt table
 total-back w room e = ap (λ (l : List ℕ). getD l 0 0) (read-back Trailer (countBytes w) (figuresOf (w .file) .total ∷ 0 ∷ []) room e)
 
 pub trailer-shows-the-figures : TrailerShowsTheFigures
 trailer-shows-the-figures w room e =
-    let door = doorAnswer w Trailer (givenLength Trailer) room in
+    let door = callAnswer w Trailer (givenLength Trailer) room in
     let make = makeAnswer Trailer (countBytes w) (figuresOf (w .file) .total ∷ 0 ∷ []) room in
     let behind-door = then-accepts door (closingAnswer (w .file) then make) .0 e .1 in
     let both = then-accepts (closingAnswer (w .file)) make .0 behind-door in

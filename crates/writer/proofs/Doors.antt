@@ -9,7 +9,7 @@ use lib.ListN.{length}
 use Rattle.answer.specs.declared.Reason.the-variants.{WrongLength, NotExpected, TooWide}
 use Rattle.answer.specs.declared.Answer.{Answer}
 use Rattle.answer.specs.declared.Answer.the-variants.{Accepted}
-use Rattle.answer.specs.Orders.{asked, kept}
+use Rattle.answer.specs.Orders.{require, ifAccepted}
 use Rattle.answer.proofs.Orders.{asked-accepts, then-accepts, refusal-keeps, accepted-takes}
 use Rattle.decimal.specs.Numbers.{digitsOf, widthAnswer}
 use Rattle.decimal.specs.Places.{putAt}
@@ -23,18 +23,18 @@ use Rattle.file.specs.declared.Figures.{Figures}
 use Rattle.file.specs.Files.{figuresOf, closingAnswer}
 use Rattle.file.proofs.Files.{closing-accepts, figures-fit}
 use Rattle.writer.specs.declared.Writer.{Writer}
-use Rattle.writer.specs.Writers.{expects, doorAnswer, countBytes, trailerBytes, RefusalKeepsWriter}
+use Rattle.writer.specs.Writers.{writerExpects, callAnswer, countBytes, trailerBytes, RefusalKeepsWriter}
 
-pub door-room : (w : Writer) (r : Record) (given room : ℕ) → doorAnswer w r given room ≡ Accepted → room ≡ recordLength
+pub door-room : (w : Writer) (r : Record) (given room : ℕ) → callAnswer w r given room ≡ Accepted → room ≡ recordLength
 door-room w r given room e =
-    let both = then-accepts (asked (eqb room recordLength && eqb given (givenLength r)) WrongLength 0) (asked (expects (w .stage) r) NotExpected 1) .0 e in
+    let both = then-accepts (require (eqb room recordLength && eqb given (givenLength r)) WrongLength 0) (require (writerExpects (w .stage) r) NotExpected 1) .0 e in
     let t = asked-accepts (eqb room recordLength && eqb given (givenLength r)) WrongLength 0 .0 (both .0) in
     eqb-true room recordLength (and-eq-true-iff (eqb room recordLength) (eqb given (givenLength r)) .0 t .0)
 
 -- what the door is told, asked with a length that is the one it asks
-pub door-told : (w : Writer) (r : Record) (room : ℕ) {n : ℕ} {a b : Answer} → n ≡ givenLength r → a ≡ doorAnswer w r n room → a ≡ b
-    → doorAnswer w r (givenLength r) room ≡ b
-door-told w r room e q told = ap (λ (k : ℕ). doorAnswer w r k room) (sym e) ∙ sym q ∙ told
+pub door-told : (w : Writer) (r : Record) (room : ℕ) {n : ℕ} {a b : Answer} → n ≡ givenLength r → a ≡ callAnswer w r n room → a ≡ b
+    → callAnswer w r (givenLength r) room ≡ b
+door-told w r room e q told = ap (λ (k : ℕ). callAnswer w r k room) (sym e) ∙ sym q ∙ told
 
 -- what a making is told
 pub made-told : (r : Record) (given amounts : List ℕ) (room : ℕ) {a b : Answer} → a ≡ makeAnswer r given amounts room → a ≡ b
@@ -46,7 +46,7 @@ refusal-keeps-writer a new old h = refusal-keeps a new old h
 
 -- The trailer's own figures, in a file that has room for them.
 module _ (w : Writer) {f : Figures} (c : closingAnswer (w .file) ≡ Accepted) (e : f ≡ figuresOf (w .file)) where
-  pub count-written : {r : Answer} {l : List ℕ} (old : List ℕ) → length old ≡ 6 → r ≡ widthAnswer 6 (f .count) → l ≡ kept r (putAt 0 (digitsOf 6 (f .count)) old) old
+  pub count-written : {r : Answer} {l : List ℕ} (old : List ℕ) → length old ≡ 6 → r ≡ widthAnswer 6 (f .count) → l ≡ ifAccepted r (putAt 0 (digitsOf 6 (f .count)) old) old
       → l ≡ countBytes w
   unfolding givenLength layoutOf
   count-written {r} old n q h =
@@ -58,6 +58,6 @@ module _ (w : Writer) {f : Figures} (c : closingAnswer (w .file) ≡ Accepted) (
       → a ≡ makeAnswer Trailer (countBytes w) (figuresOf (w .file) .total ∷ 0 ∷ []) room
   made-as room h q = rw (← h, ← e) q
 
-  pub bytes-as : {l x : List ℕ} (a : Answer) (out : List ℕ) → l ≡ countBytes w → x ≡ kept a (madeOf (layoutOf Trailer) l (f .total ∷ 0 ∷ [])) out
-      → x ≡ kept a (trailerBytes w) out
+  pub bytes-as : {l x : List ℕ} (a : Answer) (out : List ℕ) → l ≡ countBytes w → x ≡ ifAccepted a (madeOf (layoutOf Trailer) l (f .total ∷ 0 ∷ [])) out
+      → x ≡ ifAccepted a (trailerBytes w) out
   bytes-as a out h q = rw (← h, ← e) q

@@ -15,81 +15,81 @@ use Rattle.decimal.specs.Bytes.{isOf, all, eachIs}
 use Rattle.decimal.specs.Numbers.{numberOf, digitsOf}
 use Rattle.decimal.proofs.Bytes.{each-accepts}
 use Rattle.decimal.proofs.Numbers.{digits-of-number, number-fits}
-use Rattle.layout.specs.declared.Named.the-variants.{Is}
+use Rattle.layout.specs.declared.MaybeRecord.the-variants.{Is}
 use Rattle.layout.specs.declared.Record.the-variants.{Trailer}
 use Rattle.layout.specs.Layouts.{recordLength, namedBy, noField, layoutOf, givenLength, joinedOf, rowAt, table, countRow, totalRow}
 use Rattle.layout.proofs.Layouts.{row-lies}
 use Rattle.kinds.specs.Kinds.{kindAnswer}
-use Rattle.record.specs.Records.{partOf, fieldAnswer, bodyAnswer, recordAnswer}
-use Rattle.record.specs.Values.{trailerOf}
+use Rattle.record.specs.Records.{fieldBytes, fieldAnswer, layoutAnswer, recordAnswer}
+use Rattle.record.specs.Values.{trailerShown}
 use Rattle.record.proofs.Shown.{part-length}
 use Rattle.fields.specs.Making.{amountsIn, madeOf, makingAnswer, makeAnswer}
 use Rattle.file.specs.Files.{figuresOf, closingAnswer}
 use Rattle.file.proofs.Files.{closing-accepts}
 use Rattle.writer.specs.declared.Writer.{Writer}
-use Rattle.writer.specs.Writers.{expects, doorAnswer, countBytes, FieldsWriteTheTrailer}
+use Rattle.writer.specs.Writers.{writerExpects, callAnswer, countBytes, FieldsWriteTheTrailer}
 use Rattle.writer.proofs.Amounts.{count-back}
 use Rattle.writer.proofs.Written.{body, made, door-opens, makes, joined-length}
 
 -- its count has six digits, its total 17
 module _ (rec : List ℕ) (n : length rec ≡ recordLength) where
-  count-width : length (partOf (rowAt countRow) rec) ≡ 6
+  count-width : length (fieldBytes (rowAt countRow) rec) ≡ 6
   unfolding rowAt table layoutOf
   count-width = part-length (rowAt countRow) rec (row-lies countRow noField (lit< tt)) n
 
-  total-width : length (partOf (rowAt totalRow) rec) ≡ 17
+  total-width : length (fieldBytes (rowAt totalRow) rec) ≡ 17
   unfolding rowAt table layoutOf
   total-width = part-length (rowAt totalRow) rec (row-lies totalRow noField (lit< tt)) n
 
-count-digits : (rec : List ℕ) → bodyAnswer Trailer rec ≡ Accepted → all (isOf Digit) (partOf (rowAt countRow) rec) ≡ true
+count-digits : (rec : List ℕ) → layoutAnswer Trailer rec ≡ Accepted → all (isOf Digit) (fieldBytes (rowAt countRow) rec) ≡ true
 unfolding rowAt table layoutOf fieldAnswer kindAnswer
 count-digits rec e =
-    let bs = partOf (rowAt countRow) rec in
+    let bs = fieldBytes (rowAt countRow) rec in
     let each = first-accepts (fieldAnswer rec) (layoutOf Trailer) .0 e in
     each-accepts (isOf Digit) NoDigit 1 bs .0 (moved-accepts (behind 1) (eachIs (isOf Digit) NoDigit 1 bs) .0 (each .1 .0))
 
 -- one amount; behind it the writer gives a 0 that no field takes
 one-amount : (rec given : List ℕ)
-    → (makingAnswer (layoutOf Trailer) given (amountsIn (layoutOf Trailer) rec) ≡ makingAnswer (layoutOf Trailer) given (trailerOf rec .total ∷ 0 ∷ []))
-    × (madeOf (layoutOf Trailer) given (amountsIn (layoutOf Trailer) rec) ≡ madeOf (layoutOf Trailer) given (trailerOf rec .total ∷ 0 ∷ []))
+    → (makingAnswer (layoutOf Trailer) given (amountsIn (layoutOf Trailer) rec) ≡ makingAnswer (layoutOf Trailer) given (trailerShown rec .total ∷ 0 ∷ []))
+    × (madeOf (layoutOf Trailer) given (amountsIn (layoutOf Trailer) rec) ≡ madeOf (layoutOf Trailer) given (trailerShown rec .total ∷ 0 ∷ []))
 unfolding layoutOf rowAt table
 one-amount rec given = (refl, refl)
 
 module _ (w : Writer) (rec : List ℕ) (accepts : recordAnswer rec ≡ Accepted) (named : namedBy (getD rec 0 0) ≡ Is Trailer) where
   abbrev amounts : List ℕ
-  amounts = trailerOf rec .total ∷ 0 ∷ []
+  amounts = trailerShown rec .total ∷ 0 ∷ []
 
-  right : (length rec ≡ recordLength) × (bodyAnswer Trailer rec ≡ Accepted)
+  right : (length rec ≡ recordLength) × (layoutAnswer Trailer rec ≡ Accepted)
   right = body w Trailer rec amounts accepts named
 
-  count-is : trailerOf rec .count ≡ w .file .taken + 2 → countBytes w ≡ joinedOf Trailer rec
+  count-is : trailerShown rec .count ≡ w .file .taken + 2 → countBytes w ≡ joinedOf Trailer rec
   unfolding givenLength layoutOf
   count-is c =
-      let bs = partOf (rowAt countRow) rec in
+      let bs = fieldBytes (rowAt countRow) rec in
       ap (digitsOf 6) (sym c) ∙ ap (λ (k : ℕ). digitsOf k (numberOf bs)) (sym (count-width rec (right .0))) ∙ digits-of-number bs (count-digits rec (right .1)) ∙ sym (count-back rec)
 
-  closes : trailerOf rec .count ≡ w .file .taken + 2 → trailerOf rec .total ≡ w .file .total → closingAnswer (w .file) ≡ Accepted
+  closes : trailerShown rec .count ≡ w .file .taken + 2 → trailerShown rec .total ≡ w .file .total → closingAnswer (w .file) ≡ Accepted
   closes c t =
-      let few = number-fits (partOf (rowAt countRow) rec) in
-      let small = number-fits (partOf (rowAt totalRow) rec) in
+      let few = number-fits (fieldBytes (rowAt countRow) rec) in
+      let small = number-fits (fieldBytes (rowAt totalRow) rec) in
       let few6 = rw (count-width rec (right .0)) at few in
       let small17 = rw (total-width rec (right .0)) at small in
       closing-accepts (w .file) .1 (record { taken = omega (arith, few6, c); total = omega (arith, small17, t) })
 
 pub fields-write-the-trailer : FieldsWriteTheTrailer
 fields-write-the-trailer w rec accepts named opened c t =
-    let amounts = trailerOf rec .total ∷ 0 ∷ [] in
+    let amounts = trailerShown rec .total ∷ 0 ∷ [] in
     let given = joinedOf Trailer rec in
     let n = right w rec accepts named .0 in
     let both = made w Trailer rec amounts accepts named in
     let same = one-amount rec given in
-    let expected : expects (w .stage) Trailer ≡ true = rw opened in
-    let door : doorAnswer w Trailer (givenLength Trailer) recordLength ≡ Accepted =
-    ap (λ (k : ℕ). doorAnswer w Trailer k recordLength) (sym (joined-length Trailer rec n)) ∙ door-opens w Trailer rec amounts accepts named expected in
+    let expected : writerExpects (w .stage) Trailer ≡ true = rw opened in
+    let door : callAnswer w Trailer (givenLength Trailer) recordLength ≡ Accepted =
+    ap (λ (k : ℕ). callAnswer w Trailer k recordLength) (sym (joined-length Trailer rec n)) ∙ door-opens w Trailer rec amounts accepts named expected in
     let count = count-is w rec accepts named c in
     let make : makeAnswer Trailer (countBytes w) (figuresOf (w .file) .total ∷ 0 ∷ []) recordLength ≡ Accepted =
     rw (count, ← t) (makes w Trailer rec amounts accepts named (sym (same .0) ∙ both .0)) in (
-      then-accepts (doorAnswer w Trailer (givenLength Trailer) recordLength) (closingAnswer (w .file) then makeAnswer Trailer (countBytes w) (figuresOf (w .file) .total ∷ 0 ∷ []) recordLength) .1
+      then-accepts (callAnswer w Trailer (givenLength Trailer) recordLength) (closingAnswer (w .file) then makeAnswer Trailer (countBytes w) (figuresOf (w .file) .total ∷ 0 ∷ []) recordLength) .1
           (door, then-accepts (closingAnswer (w .file)) (makeAnswer Trailer (countBytes w) (figuresOf (w .file) .total ∷ 0 ∷ []) recordLength) .1 (closes w rec accepts named c t, make)),
       rw (count, ← t) (sym (same .1) ∙ both .1),
     )

@@ -10,22 +10,22 @@ use lib.ListN.{length, getD, drop, length-append, length-drop}
 use lib.Seq.{length-take-le}
 use Rattle.answer.specs.declared.Reason.the-variants.{WrongLength, NotExpected}
 use Rattle.answer.specs.declared.Answer.the-variants.{Accepted}
-use Rattle.answer.specs.Orders.{asked, _then_}
+use Rattle.answer.specs.Orders.{require, _then_}
 use Rattle.answer.proofs.Orders.{asked-accepts, then-accepts}
 use Rattle.decimal.specs.Places.{Stretch, widthOf, partAt, gather}
-use Rattle.layout.specs.declared.Named.the-variants.{Is}
+use Rattle.layout.specs.declared.MaybeRecord.the-variants.{Is}
 use Rattle.layout.specs.declared.Record.{Record}
 use Rattle.layout.specs.declared.Record.the-variants.{Header, Payment, Trailer}
 use Rattle.layout.specs.Layouts.{recordLength, markOf, namedBy, layoutOf, planOf, widthsOf, givenLength, joinedOf, rowAt, table}
 use Rattle.layout.proofs.Layouts.{mark-names}
-use Rattle.record.specs.Records.{bodyAnswer, recordAnswer}
-use Rattle.record.specs.Values.{paymentOf}
+use Rattle.record.specs.Records.{layoutAnswer, recordAnswer}
+use Rattle.record.specs.Values.{paymentShown}
 use Rattle.fields.specs.Making.{amountsIn, madeOf, makingAnswer, makeAnswer}
 use Rattle.record.proofs.Shown.{accepted-is, named-is}
 use Rattle.fields.proofs.Trips.{fields-make-the-record, made-is-accepted}
 use Rattle.file.specs.Files.{fileAnswer}
 use Rattle.writer.specs.declared.Writer.{Writer}
-use Rattle.writer.specs.Writers.{freshWriter, expects, doorAnswer, WrittenIsAccepted, FieldsWriteTheHeader, FieldsWriteThePayment}
+use Rattle.writer.specs.Writers.{freshWriter, writerExpects, callAnswer, WrittenIsAccepted, FieldsWriteTheHeader, FieldsWriteThePayment}
 
 pub first-byte : (r : Record) (given amounts : List ℕ) → getD (madeOf (layoutOf r) given amounts) 0 0 ≡ markOf r
 unfolding layoutOf
@@ -34,7 +34,7 @@ first-byte Payment given amounts = refl
 first-byte Trailer given amounts = refl
 
 -- a record of 150 bytes that its own first byte names
-accepted : (r : Record) (rec : List ℕ) → length rec ≡ recordLength → getD rec 0 0 ≡ markOf r → bodyAnswer r rec ≡ Accepted → recordAnswer rec ≡ Accepted
+accepted : (r : Record) (rec : List ℕ) → length rec ≡ recordLength → getD rec 0 0 ≡ markOf r → layoutAnswer r rec ≡ Accepted → recordAnswer rec ≡ Accepted
 accepted r rec n m b = named-is r rec n (ap namedBy m ∙ mark-names r .0) ∙ b
 
 -- an accepted making: as many field bytes as are asked, and every field accepted
@@ -43,7 +43,7 @@ pub making-is : (r : Record) (given amounts : List ℕ) (room : ℕ) → makeAns
 unfolding makeAnswer
 making-is r given amounts room e =
     let lengths = eqb room recordLength && eqb (length given) (givenLength r) in
-    let both = then-accepts (asked lengths WrongLength 0) (makingAnswer (layoutOf r) given amounts) .0 e in
+    let both = then-accepts (require lengths WrongLength 0) (makingAnswer (layoutOf r) given amounts) .0 e in
     let t = asked-accepts lengths WrongLength 0 .0 (both .0) in
     (eqb-true (length given) (givenLength r) (and-eq-true-iff (eqb room recordLength) (eqb (length given) (givenLength r)) .0 t .1), both .1)
 
@@ -79,7 +79,7 @@ joined-length r rec n = gathered-length (planOf r) rec (rw n (lies-inside r))
 
 -- The fields of an accepted record, with any amounts that make it as its own do.
 module _ (w : Writer) (r : Record) (rec amounts : List ℕ) (accepts : recordAnswer rec ≡ Accepted) (named : namedBy (getD rec 0 0) ≡ Is r) where
-  pub body : (length rec ≡ recordLength) × (bodyAnswer r rec ≡ Accepted)
+  pub body : (length rec ≡ recordLength) × (layoutAnswer r rec ≡ Accepted)
   body = let both = accepted-is rec accepts in (both .0, rw named at (both .1))
 
   pub made : (makingAnswer (layoutOf r) (joinedOf r rec) (amountsIn (layoutOf r) rec) ≡ Accepted)
@@ -89,15 +89,15 @@ module _ (w : Writer) (r : Record) (rec amounts : List ℕ) (accepts : recordAns
   lengths-right : eqb recordLength recordLength && eqb (length (joinedOf r rec)) (givenLength r) ≡ true
   lengths-right = let n = joined-length r rec (body .0) in rw n (and-eq-true-iff (eqb recordLength recordLength) (eqb (givenLength r) (givenLength r)) .1 (refl, eq-eqb (givenLength r) (givenLength r) refl))
 
-  pub door-opens : expects (w .stage) r ≡ true → doorAnswer w r (length (joinedOf r rec)) recordLength ≡ Accepted
+  pub door-opens : writerExpects (w .stage) r ≡ true → callAnswer w r (length (joinedOf r rec)) recordLength ≡ Accepted
   door-opens t =
-      then-accepts (asked (eqb recordLength recordLength && eqb (length (joinedOf r rec)) (givenLength r)) WrongLength 0) (asked (expects (w .stage) r) NotExpected 1) .1
-      (asked-accepts (eqb recordLength recordLength && eqb (length (joinedOf r rec)) (givenLength r)) WrongLength 0 .1 lengths-right, asked-accepts (expects (w .stage) r) NotExpected 1 .1 t)
+      then-accepts (require (eqb recordLength recordLength && eqb (length (joinedOf r rec)) (givenLength r)) WrongLength 0) (require (writerExpects (w .stage) r) NotExpected 1) .1
+      (asked-accepts (eqb recordLength recordLength && eqb (length (joinedOf r rec)) (givenLength r)) WrongLength 0 .1 lengths-right, asked-accepts (writerExpects (w .stage) r) NotExpected 1 .1 t)
 
   pub makes : makingAnswer (layoutOf r) (joinedOf r rec) amounts ≡ Accepted → makeAnswer r (joinedOf r rec) amounts recordLength ≡ Accepted
   unfolding makeAnswer
   makes a =
-      then-accepts (asked (eqb recordLength recordLength && eqb (length (joinedOf r rec)) (givenLength r)) WrongLength 0) (makingAnswer (layoutOf r) (joinedOf r rec) amounts) .1
+      then-accepts (require (eqb recordLength recordLength && eqb (length (joinedOf r rec)) (givenLength r)) WrongLength 0) (makingAnswer (layoutOf r) (joinedOf r rec) amounts) .1
       (asked-accepts (eqb recordLength recordLength && eqb (length (joinedOf r rec)) (givenLength r)) WrongLength 0 .1 lengths-right, a)
 
 -- A has no amounts; those of G are what it received and its tariff.
@@ -107,7 +107,7 @@ header-amounts : (rec : List ℕ)
 unfolding layoutOf
 header-amounts rec = (refl, refl)
 
-payment-amounts : (rec : List ℕ) → amountsIn (layoutOf Payment) rec ≡ paymentOf rec .received ∷ paymentOf rec .tariff ∷ []
+payment-amounts : (rec : List ℕ) → amountsIn (layoutOf Payment) rec ≡ paymentShown rec .received ∷ paymentShown rec .tariff ∷ []
 unfolding layoutOf rowAt table
 payment-amounts rec = refl
 
@@ -115,22 +115,22 @@ pub fields-write-the-header : FieldsWriteTheHeader
 fields-write-the-header rec accepts named =
     let both = made freshWriter Header rec (0 ∷ 0 ∷ []) accepts named in
     let same = header-amounts rec in (
-      then-accepts (doorAnswer freshWriter Header (length (joinedOf Header rec)) recordLength) (makeAnswer Header (joinedOf Header rec) (0 ∷ 0 ∷ []) recordLength) .1
+      then-accepts (callAnswer freshWriter Header (length (joinedOf Header rec)) recordLength) (makeAnswer Header (joinedOf Header rec) (0 ∷ 0 ∷ []) recordLength) .1
           (door-opens freshWriter Header rec (0 ∷ 0 ∷ []) accepts named refl, makes freshWriter Header rec (0 ∷ 0 ∷ []) accepts named (sym (same .0) ∙ both .0)),
       sym (same .1) ∙ both .1,
     )
 
 pub fields-write-the-payment : FieldsWriteThePayment
 fields-write-the-payment w rec accepts named opened room =
-    let amounts = paymentOf rec .received ∷ paymentOf rec .tariff ∷ [] in
+    let amounts = paymentShown rec .received ∷ paymentShown rec .tariff ∷ [] in
     let given = joinedOf Payment rec in
     let both = made w Payment rec amounts accepts named in
     let same = payment-amounts rec in
-    let expected : expects (w .stage) Payment ≡ true = rw opened in
+    let expected : writerExpects (w .stage) Payment ≡ true = rw opened in
     let asks : makingAnswer (layoutOf Payment) given amounts ≡ Accepted = rw same at (both .0) in (
-      then-accepts (doorAnswer w Payment (length given) recordLength) (makeAnswer Payment given amounts recordLength then fileAnswer (w .file) (paymentOf rec .received)) .1 (
+      then-accepts (callAnswer w Payment (length given) recordLength) (makeAnswer Payment given amounts recordLength then fileAnswer (w .file) (paymentShown rec .received)) .1 (
         door-opens w Payment rec amounts accepts named expected,
-        then-accepts (makeAnswer Payment given amounts recordLength) (fileAnswer (w .file) (paymentOf rec .received)) .1 (makes w Payment rec amounts accepts named asks, room),
+        then-accepts (makeAnswer Payment given amounts recordLength) (fileAnswer (w .file) (paymentShown rec .received)) .1 (makes w Payment rec amounts accepts named asks, room),
       ),
       ap (madeOf (layoutOf Payment) given) (sym same) ∙ both .1,
     )

@@ -8,9 +8,9 @@ use lib.ListN.{length, getD}
 use Rattle.answer.specs.declared.Reason.the-variants.{WrongLength, NotExpected}
 use Rattle.answer.specs.declared.Answer.{Answer}
 use Rattle.answer.specs.declared.Answer.the-variants.{Accepted}
-use Rattle.answer.specs.Orders.{asked, _then_, kept}
+use Rattle.answer.specs.Orders.{require, _then_, ifAccepted}
 use Rattle.decimal.specs.Numbers.{digitsOf}
-use Rattle.layout.specs.declared.Named.the-variants.{Is}
+use Rattle.layout.specs.declared.MaybeRecord.the-variants.{Is}
 use Rattle.layout.specs.declared.Record.{Record}
 use Rattle.layout.specs.declared.Record.the-variants.{Header, Payment, Trailer}
 use Rattle.layout.specs.Layouts.{recordLength, namedBy, layoutOf, givenLength, joinedOf}
@@ -21,35 +21,35 @@ use Rattle.file.specs.Files.{freshFile, fileAnswer, fileWith, figuresOf, closin
 use Rattle.writer.specs.declared.Stage.{Stage}
 use Rattle.writer.specs.declared.Stage.the-variants.{Fresh, Open, Closed}
 use Rattle.writer.specs.declared.Writer.{Writer}
-use Rattle.writer.specs.declared.Wrote.{Wrote}
+use Rattle.writer.specs.declared.WriteResult.{WriteResult}
 
 abbrev pub freshWriter : Writer
 freshWriter = record { stage = Fresh; file = freshFile }
 
 -- a fresh writer expects A, an open file G or Z; once it is closed, nothing
-abbrev pub expects : Stage → Record → Bool
-expects Fresh Header = true
-expects Fresh Payment = false
-expects Fresh Trailer = false
-expects Open Header = false
-expects Open Payment = true
-expects Open Trailer = true
-expects Closed r = false
+abbrev pub writerExpects : Stage → Record → Bool
+writerExpects Fresh Header = true
+writerExpects Fresh Payment = false
+writerExpects Fresh Trailer = false
+writerExpects Open Header = false
+writerExpects Open Payment = true
+writerExpects Open Trailer = true
+writerExpects Closed r = false
 
 -- 1 for either length, then 9
-abbrev pub doorAnswer : Writer → Record → ℕ → ℕ → Answer
-doorAnswer w r given room =
-    asked (eqb room recordLength && eqb given (givenLength r)) WrongLength 0 then asked (expects (w .stage) r) NotExpected 1
+abbrev pub callAnswer : Writer → Record → ℕ → ℕ → Answer
+callAnswer w r given room =
+    require (eqb room recordLength && eqb given (givenLength r)) WrongLength 0 then require (writerExpects (w .stage) r) NotExpected 1
 
-abbrev pub wrote : Answer → Writer → Writer → Wrote
-wrote a new old = record { answer = a; writer = kept a new old }
+abbrev pub writeResult : Answer → Writer → Writer → WriteResult
+writeResult a new old = record { answer = a; writer = ifAccepted a new old }
 
 -- A: the fields
 abbrev pub headerAnswer : Writer → List ℕ → ℕ → Answer
-headerAnswer w given room = doorAnswer w Header (length given) room then makeAnswer Header given (0 ∷ 0 ∷ []) room
+headerAnswer w given room = callAnswer w Header (length given) room then makeAnswer Header given (0 ∷ 0 ∷ []) room
 
-abbrev pub headerOf : Writer → List ℕ → ℕ → Wrote
-headerOf w given room = wrote (headerAnswer w given room) (record { stage = Open; file = freshFile }) w
+abbrev pub headerWritten : Writer → List ℕ → ℕ → WriteResult
+headerWritten w given room = writeResult (headerAnswer w given room) (record { stage = Open; file = freshFile }) w
 
 abbrev pub headerBytes : List ℕ → List ℕ
 headerBytes given = madeOf (layoutOf Header) given (0 ∷ 0 ∷ [])
@@ -57,13 +57,13 @@ headerBytes given = madeOf (layoutOf Header) given (0 ∷ 0 ∷ [])
 -- G: the fields, 21 in the money fields' turn, then 15 and 16
 abbrev pub paymentAnswer : Writer → List ℕ → ℕ → ℕ → ℕ → Answer
 paymentAnswer w given received tariff room =
-    doorAnswer w Payment (length given) room
+    callAnswer w Payment (length given) room
     then makeAnswer Payment given (received ∷ tariff ∷ []) recordLength
     then fileAnswer (w .file) received
 
-abbrev pub paymentOf : Writer → List ℕ → ℕ → ℕ → ℕ → Wrote
-paymentOf w given received tariff room =
-    wrote (paymentAnswer w given received tariff room) (record { stage = w .stage; file = fileWith (w .file) received }) w
+abbrev pub paymentWritten : Writer → List ℕ → ℕ → ℕ → ℕ → WriteResult
+paymentWritten w given received tariff room =
+    writeResult (paymentAnswer w given received tariff room) (record { stage = w .stage; file = fileWith (w .file) received }) w
 
 abbrev pub paymentBytes : List ℕ → ℕ → ℕ → List ℕ
 paymentBytes given received tariff = madeOf (layoutOf Payment) given (received ∷ tariff ∷ [])
@@ -74,12 +74,12 @@ countBytes w = digitsOf (givenLength Trailer) (figuresOf (w .file) .count)
 
 abbrev pub trailerAnswer : Writer → ℕ → Answer
 trailerAnswer w room =
-    doorAnswer w Trailer (givenLength Trailer) room
+    callAnswer w Trailer (givenLength Trailer) room
     then closingAnswer (w .file)
     then makeAnswer Trailer (countBytes w) (figuresOf (w .file) .total ∷ 0 ∷ []) room
 
-abbrev pub trailerOf : Writer → ℕ → Wrote
-trailerOf w room = wrote (trailerAnswer w room) (record { stage = Closed; file = w .file }) w
+abbrev pub trailerWritten : Writer → ℕ → WriteResult
+trailerWritten w room = writeResult (trailerAnswer w room) (record { stage = Closed; file = w .file }) w
 
 abbrev pub trailerBytes : Writer → List ℕ
 trailerBytes w = madeOf (layoutOf Trailer) (countBytes w) (figuresOf (w .file) .total ∷ 0 ∷ [])
@@ -96,13 +96,13 @@ WrittenIsAccepted =
 abbrev pub WrittenAmountsAreRead : Type 0
 WrittenAmountsAreRead =
     (given : List ℕ) (received tariff room : ℕ) → makeAnswer Payment given (received ∷ tariff ∷ []) room ≡ Accepted
-    → (paid.paymentOf (paymentBytes given received tariff) .received ≡ received) × (paid.paymentOf (paymentBytes given received tariff) .tariff ≡ tariff)
+    → (paid.paymentShown (paymentBytes given received tariff) .received ≡ received) × (paid.paymentShown (paymentBytes given received tariff) .tariff ≡ tariff)
 
 -- the trailer shows the writer's own figures: its payments, A and Z, and what they received
 abbrev pub TrailerShowsTheFigures : Type 0
 TrailerShowsTheFigures =
     (w : Writer) (room : ℕ) → trailerAnswer w room ≡ Accepted
-    → (paid.trailerOf (trailerBytes w) .count ≡ w .file .taken + 2) × (paid.trailerOf (trailerBytes w) .total ≡ w .file .total)
+    → (paid.trailerShown (trailerBytes w) .count ≡ w .file .taken + 2) × (paid.trailerShown (trailerBytes w) .total ≡ w .file .total)
 
 -- the fields of an accepted A, given to a fresh writer, write that A; those of an accepted G, to one whose file is open and has room for it, that G
 abbrev pub FieldsWriteTheHeader : Type 0
@@ -113,17 +113,17 @@ FieldsWriteTheHeader =
 abbrev pub FieldsWriteThePayment : Type 0
 FieldsWriteThePayment =
     (w : Writer) (rec : List ℕ) → recordAnswer rec ≡ Accepted → namedBy (getD rec 0 0) ≡ Is Payment
-    → w .stage ≡ Open → fileAnswer (w .file) (paid.paymentOf rec .received) ≡ Accepted
-    → (paymentAnswer w (joinedOf Payment rec) (paid.paymentOf rec .received) (paid.paymentOf rec .tariff) recordLength ≡ Accepted)
-    × (paymentBytes (joinedOf Payment rec) (paid.paymentOf rec .received) (paid.paymentOf rec .tariff) ≡ rec)
+    → w .stage ≡ Open → fileAnswer (w .file) (paid.paymentShown rec .received) ≡ Accepted
+    → (paymentAnswer w (joinedOf Payment rec) (paid.paymentShown rec .received) (paid.paymentShown rec .tariff) recordLength ≡ Accepted)
+    × (paymentBytes (joinedOf Payment rec) (paid.paymentShown rec .received) (paid.paymentShown rec .tariff) ≡ rec)
 
 -- an accepted Z that shows the writer's own figures is the Z that it writes
 abbrev pub FieldsWriteTheTrailer : Type 0
 FieldsWriteTheTrailer =
     (w : Writer) (rec : List ℕ) → recordAnswer rec ≡ Accepted → namedBy (getD rec 0 0) ≡ Is Trailer
-    → w .stage ≡ Open → paid.trailerOf rec .count ≡ w .file .taken + 2 → paid.trailerOf rec .total ≡ w .file .total
+    → w .stage ≡ Open → paid.trailerShown rec .count ≡ w .file .taken + 2 → paid.trailerShown rec .total ≡ w .file .total
     → (trailerAnswer w recordLength ≡ Accepted) × (trailerBytes w ≡ rec)
 
 -- a refusal leaves the writer as it was
 abbrev pub RefusalKeepsWriter : Type 0
-RefusalKeepsWriter = (a : Answer) (new old : Writer) → (a ≡ Accepted → ⊥) → wrote a new old .writer ≡ old
+RefusalKeepsWriter = (a : Answer) (new old : Writer) → (a ≡ Accepted → ⊥) → writeResult a new old .writer ≡ old

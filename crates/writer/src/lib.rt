@@ -1,8 +1,8 @@
 // A return file made record by record.
 ghost use mathlib.Core.Path.{_≡_};
 ghost use lib.ListN.{length};
-ghost use Rattle.answer.specs.Orders.{kept};
-ghost use Rattle.writer.specs.Writers.{freshWriter, expects, doorAnswer, headerOf, headerBytes, paymentOf, paymentBytes, trailerOf, trailerBytes};
+ghost use Rattle.answer.specs.Orders.{ifAccepted};
+ghost use Rattle.writer.specs.Writers.{freshWriter, writerExpects, callAnswer, headerWritten, headerBytes, paymentWritten, paymentBytes, trailerWritten, trailerBytes};
 use answer::Answer;
 use answer::Reason;
 use file::File;
@@ -20,13 +20,13 @@ pub struct Writer {
 }
 
 // A refusal leaves the writer as it was.
-pub struct Wrote {
+pub struct WriteResult {
     pub answer: Answer,
     pub writer: Writer,
 }
 
 fn is_expected(stage: Stage, which: Record) -> bool
-    ensures { λ r. ⌜ r ≡ expects stage which ⌝ }
+    ensures { λ r. ⌜ r ≡ writerExpects stage which ⌝ }
 {
     match stage {
         Stage::Fresh => match which {
@@ -56,8 +56,8 @@ impl Writer {
     }
 
     // 1 for either length, 9 for a record that is not expected now.
-    fn door(self, which: Record, given: usize, room: usize) -> Answer
-        ensures { λ r. ⌜ r ≡ doorAnswer self which given room ⌝ }
+    fn check_call(self, which: Record, given: usize, room: usize) -> Answer
+        ensures { λ r. ⌜ r ≡ callAnswer self which given room ⌝ }
     {
         if room != Self::RECORD {
             return Answer::Refused(Reason::WrongLength, 0);
@@ -73,14 +73,14 @@ impl Writer {
     }
 
     // The header of a file, from its 78 field bytes.
-    pub fn header(self, fields: &[u8], out: &mut [u8]) -> Wrote
-        ensures answer { λ r. ⌜ r ≡ headerOf self (now (fields .entry)) (length (now (out .entry))) ⌝ }
-        ensures bytes { λ r. ⌜ now (out .exit) ≡ kept (r .answer) (headerBytes (now (fields .entry))) (now (out .entry)) ⌝ }
+    pub fn header(self, fields: &[u8], out: &mut [u8]) -> WriteResult
+        ensures answer { λ r. ⌜ r ≡ headerWritten self (now (fields .entry)) (length (now (out .entry))) ⌝ }
+        ensures bytes { λ r. ⌜ now (out .exit) ≡ ifAccepted (r .answer) (headerBytes (now (fields .entry))) (now (out .entry)) ⌝ }
     {
-        let d = self.door(Record::Header, fields.len(), out.len());
+        let d = self.check_call(Record::Header, fields.len(), out.len());
         match d {
             Answer::Refused(_, _) => {
-                return Wrote {
+                return WriteResult {
                     answer: d,
                     writer: self,
                 };
@@ -89,11 +89,11 @@ impl Writer {
         }
         let a = fields::make(Record::Header, fields, 0, 0, out);
         match a {
-            Answer::Refused(_, _) => Wrote {
+            Answer::Refused(_, _) => WriteResult {
                 answer: a,
                 writer: self,
             },
-            Answer::Accepted => Wrote {
+            Answer::Accepted => WriteResult {
                 answer: a,
                 writer: Writer {
                     stage: Stage::Open,
@@ -104,14 +104,14 @@ impl Writer {
     }
 
     // A payment, from its 121 field bytes and its two amounts.
-    pub fn payment(self, fields: &[u8], received: u64, tariff: u64, out: &mut [u8]) -> Wrote
-        ensures answer { λ r. ⌜ r ≡ paymentOf self (now (fields .entry)) received tariff (length (now (out .entry))) ⌝ }
-        ensures bytes { λ r. ⌜ now (out .exit) ≡ kept (r .answer) (paymentBytes (now (fields .entry)) received tariff) (now (out .entry)) ⌝ }
+    pub fn payment(self, fields: &[u8], received: u64, tariff: u64, out: &mut [u8]) -> WriteResult
+        ensures answer { λ r. ⌜ r ≡ paymentWritten self (now (fields .entry)) received tariff (length (now (out .entry))) ⌝ }
+        ensures bytes { λ r. ⌜ now (out .exit) ≡ ifAccepted (r .answer) (paymentBytes (now (fields .entry)) received tariff) (now (out .entry)) ⌝ }
     {
-        let d = self.door(Record::Payment, fields.len(), out.len());
+        let d = self.check_call(Record::Payment, fields.len(), out.len());
         match d {
             Answer::Refused(_, _) => {
-                return Wrote {
+                return WriteResult {
                     answer: d,
                     writer: self,
                 };
@@ -122,7 +122,7 @@ impl Writer {
         let a = fields::make(Record::Payment, fields, received, tariff, &mut made);
         match a {
             Answer::Refused(_, _) => {
-                return Wrote {
+                return WriteResult {
                     answer: a,
                     writer: self,
                 };
@@ -133,7 +133,7 @@ impl Writer {
         let taken = file.take(received);
         let t = taken.answer;
         match t {
-            Answer::Refused(_, _) => Wrote {
+            Answer::Refused(_, _) => WriteResult {
                 answer: t,
                 writer: self,
             },
@@ -141,7 +141,7 @@ impl Writer {
                 bytes::copy(&made, out);
                 let stage = self.stage;
                 let after = taken.file;
-                Wrote {
+                WriteResult {
                     answer: t,
                     writer: Writer { stage, file: after },
                 }
@@ -150,18 +150,18 @@ impl Writer {
     }
 
     // The trailer, with the count and the total of its own file; then the writer is closed.
-    pub fn trailer(self, out: &mut [u8]) -> Wrote
-        ensures answer { λ r. ⌜ r ≡ trailerOf self (length (now (out .entry))) ⌝ }
-        ensures bytes { λ r. ⌜ now (out .exit) ≡ kept (r .answer) (trailerBytes self) (now (out .entry)) ⌝ }
+    pub fn trailer(self, out: &mut [u8]) -> WriteResult
+        ensures answer { λ r. ⌜ r ≡ trailerWritten self (length (now (out .entry))) ⌝ }
+        ensures bytes { λ r. ⌜ now (out .exit) ≡ ifAccepted (r .answer) (trailerBytes self) (now (out .entry)) ⌝ }
     {
-        let d = self.door(
+        let d = self.check_call(
             Record::Trailer,
             layout::given_length(Record::Trailer),
             out.len(),
         );
         match d {
             Answer::Refused(_, _) => {
-                return Wrote {
+                return WriteResult {
                     answer: d,
                     writer: self,
                 };
@@ -173,7 +173,7 @@ impl Writer {
         let t = closed.answer;
         match t {
             Answer::Refused(_, _) => {
-                return Wrote {
+                return WriteResult {
                     answer: t,
                     writer: self,
                 };
@@ -185,11 +185,11 @@ impl Writer {
         decimal::put_number(figures.count, 6, &mut count, 0);
         let a = fields::make(Record::Trailer, &count, figures.total, 0, out);
         match a {
-            Answer::Refused(_, _) => Wrote {
+            Answer::Refused(_, _) => WriteResult {
                 answer: a,
                 writer: self,
             },
-            Answer::Accepted => Wrote {
+            Answer::Accepted => WriteResult {
                 answer: a,
                 writer: Writer {
                     stage: Stage::Closed,

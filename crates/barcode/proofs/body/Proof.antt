@@ -5,8 +5,8 @@ use Rattle.answer.proofs.Steps.{handed, onward, stop, pass}
 use Rattle.barcode.proofs.body.Statement.{statement}
 use Rattle.barcode.proofs.body.Tie as tie
 
-front-requires : tie.Need-front-requires
-front-requires c κs = search needs
+check-prefix-requires : tie.Need-check-prefix-requires
+check-prefix-requires c κs = search needs
 
 enum-told : tie.Need-enum-told
 enum-told c = search needs
@@ -18,19 +18,19 @@ general-right-requires : tie.Need-general-right-requires
 general-right-requires c κs = search needs
 
 returns : tie.Need-returns
-returns c = handed _ (c .before .before .front .ensures) (c .enum-told .given .1)
+returns c = handed _ (c .before .before .check-prefix .ensures) (c .enum-told .given .1)
 
 returns-2 : tie.Need-returns-2
-returns-2 c = onward (c .before .before .before .before .front .ensures) (c .before .before .enum-told2 .given .1) (pass _ _ _ (sym (c .before .general-right .ensures) ∙ c .if1 .taken))
+returns-2 c = onward (c .before .before .before .before .check-prefix .ensures) (c .before .before .enum-told2 .given .1) (pass _ _ _ (sym (c .before .general-right .ensures) ∙ c .if1 .taken))
 
 returns-3 : tie.Need-returns-3
-returns-3 c = onward (c .before .before .before .before .front .ensures) (c .before .before .enum-told2 .given .1) (stop _ _ _ (sym (c .before .general-right .ensures) ∙ c .if1 .left))
+returns-3 c = onward (c .before .before .before .before .check-prefix .ensures) (c .before .before .enum-told2 .given .1) (stop _ _ _ (sym (c .before .general-right .ensures) ∙ c .if1 .left))
 
 pub body-spec : {M : Type 1} → statement M
 body-spec =
     tie.close
     (tie.spec
-    front-requires
+    check-prefix-requires
     enum-told
     enum-told-2
     general-right-requires

@@ -6,8 +6,8 @@ use borrow.Author.Needs.{needs}
 use Rattle.barcode.proofs.decode.Statement.{statement}
 use Rattle.barcode.proofs.decode.Tie as tie
 
-pays-requires : tie.Need-pays-requires
-pays-requires c κs = search needs
+accepted-issuer-requires : tie.Need-accepted-issuer-requires
+accepted-issuer-requires c κs = search needs
 
 enum-known-issuer : tie.Need-enum-known-issuer
 enum-known-issuer c = search needs
@@ -15,14 +15,14 @@ enum-known-issuer c = search needs
 fields-in-requires : tie.Need-fields-in-requires
 fields-in-requires c κs =
     let code = c .before .before .before .before .before .args .code .now in
-    let to = sym (c .before .issuer .given .1) ∙ c .before .before .before .pays .ensures in
+    let to = sym (c .before .issuer .given .1) ∙ c .before .before .before .accepted-issuer .ensures in
     (paid-length code to, (paid-digits code to, paid-issuer code to))
 
 enum-told : tie.Need-enum-told
 enum-told c = search needs
 
-walked-requires : tie.Need-walked-requires
-walked-requires c κs = search needs
+check-in-order-requires : tie.Need-check-in-order-requires
+check-in-order-requires c κs = search needs
 
 enum-known-why : tie.Need-enum-known-why
 enum-known-why c = search needs
@@ -36,27 +36,27 @@ read-fields-requires c κs = search needs
 returns : tie.Need-returns
 returns c =
     let asked = c .before .before .before .before in
-    let to = sym (c .before .before .issuer .given .1) ∙ asked .pays .ensures in
+    let to = sym (c .before .before .issuer .given .1) ∙ asked .accepted-issuer .ensures in
     paid-reads (asked .before .before .args .code .now) to (c .fields-in .ensures)
 
 returns-2 : tie.Need-returns-2
-returns-2 c = as-refused (c .before .before .before .before .before .before .before .before .args .code .now) (c .before .before .before .walked .ensures) (c .before .why .given .1)
+returns-2 c = as-refused (c .before .before .before .before .before .before .before .before .args .code .now) (c .before .before .before .check-in-order .ensures) (c .before .why .given .1)
 
 returns-3 : tie.Need-returns-3
 returns-3 c =
     let walked = c .before .before .before in
     let code = walked .before .before .before .before .before .args .code .now in
-    as-read code (walked .walked .ensures) (c .before .enum-told2 .given .1) (c .read-fields .ensures)
+    as-read code (walked .check-in-order .ensures) (c .before .enum-told2 .given .1) (c .read-fields .ensures)
 
 pub decode-spec : {M : Type 1} → statement M
 decode-spec =
     tie.close
     (tie.spec
-    pays-requires
+    accepted-issuer-requires
     enum-known-issuer
     fields-in-requires
     enum-told
-    walked-requires
+    check-in-order-requires
     enum-known-why
     enum-told-2
     read-fields-requires

@@ -19,11 +19,11 @@ abbrev μ-loop : tie.MeasureT-loop
 loop-holds : tie.Need-loop-holds Inv-loop μ-loop
 loop-holds c = (search needs, refl)
 
-shared-slice-read-flag : tie.Need-shared-slice-read-flag Inv-loop μ-loop
-shared-slice-read-flag c = search needs
+shared-slice-read-class-error-bit : tie.Need-shared-slice-read-class-error-bit Inv-loop μ-loop
+shared-slice-read-class-error-bit c = search needs
 
-flag-requires : tie.Need-flag-requires Inv-loop μ-loop
-flag-requires c κs = search needs
+class-error-bit-requires : tie.Need-class-error-bit-requires Inv-loop μ-loop
+class-error-bit-requires c κs = search needs
 
 add-i : tie.Need-add-i Inv-loop μ-loop
 add-i c = search needs
@@ -35,7 +35,7 @@ loop-again : tie.Need-loop-again Inv-loop μ-loop
 loop-again c =
     let a = c .before .before .before .before .before .args in
     let l = c .before .before .before .loop in
-    (search needs, flag-step (isOf (a .class)) (a .part .now) (l .i) (l .flags) (c .before .before .loop-test .taken) (c .flag .ensures) (l .inv .1))
+    (search needs, flag-step (isOf (a .class)) (a .part .now) (l .i) (l .flags) (c .before .before .loop-test .taken) (c .class-error-bit .ensures) (l .inv .1))
 
 returns : tie.Need-returns Inv-loop μ-loop
 returns c =
@@ -50,8 +50,8 @@ all-of-spec =
     Inv-loop
     μ-loop
     loop-holds
-    shared-slice-read-flag
-    flag-requires
+    shared-slice-read-class-error-bit
+    class-error-bit-requires
     add-i
     loop-less
     loop-again

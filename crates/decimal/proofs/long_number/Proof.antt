@@ -4,12 +4,12 @@ use mathlib.Core.Path.{_≡_, refl}
 use borrow.Author.Needs.{needs}
 use lib.ListN.{length, drop}
 use Rattle.decimal.proofs.Numbers.{read-step, read-end}
-use Rattle.decimal.specs.Numbers.{numberFrom, numberOf, most, heldOf}
+use Rattle.decimal.specs.Numbers.{numberFrom, numberOf, largestNumber, capped}
 use Rattle.decimal.proofs.long_number.Statement.{statement}
 use Rattle.decimal.proofs.long_number.Tie as tie
 
 abbrev Inv-loop : tie.InvT-loop
-Inv-loop part n₀ i₀ n i = (i ≤ length part) × (n ≤ most) × (heldOf (numberFrom n (drop i part)) ≡ heldOf (numberOf part))
+Inv-loop part n₀ i₀ n i = (i ≤ length part) × (n ≤ largestNumber) × (capped (numberFrom n (drop i part)) ≡ capped (numberOf part))
 
 abbrev μ-loop : tie.MeasureT-loop
 μ-loop part n₀ i₀ n i = length part - i

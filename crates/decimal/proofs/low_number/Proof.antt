@@ -27,17 +27,17 @@ mul-n c =
     let fit = low-fit (c .before .before .before .before .args .part .now) (l .i) (l .n) (omega (arith, c .before .before .if1 .left)) (c .loop-test .taken) (l .inv .1) in
     record { fits = omega arith }
 
-shared-slice-read-low : tie.Need-shared-slice-read-low Inv-loop μ-loop
-shared-slice-read-low c = search needs
+shared-slice-read-low-half : tie.Need-shared-slice-read-low-half Inv-loop μ-loop
+shared-slice-read-low-half c = search needs
 
-low-requires : tie.Need-low-requires Inv-loop μ-loop
-low-requires c κs = search needs
+low-half-requires : tie.Need-low-half-requires Inv-loop μ-loop
+low-half-requires c κs = search needs
 
 add-n : tie.Need-add-n Inv-loop μ-loop
 add-n c =
     let l = c .before .before .before .loop in
     let fit = low-fit (c .before .before .before .before .before .before .args .part .now) (l .i) (l .n) (omega (arith, c .before .before .before .before .if1 .left)) (c .before .before .loop-test .taken) (l .inv .1) in
-    record { fits = rw (c .low .ensures) (omega arith) }
+    record { fits = rw (c .low-half .ensures) (omega arith) }
 
 add-i : tie.Need-add-i Inv-loop μ-loop
 add-i c = search needs
@@ -48,7 +48,7 @@ loop-less c = search needs
 loop-again : tie.Need-loop-again Inv-loop μ-loop
 loop-again c =
     let l = c .before .before .before .loop in
-    (search needs, rw (c .low .ensures) (low-step (c .before .before .before .before .before .before .args .part .now) (l .i) (l .n) (c .before .before .loop-test .taken) (l .inv .1)))
+    (search needs, rw (c .low-half .ensures) (low-step (c .before .before .before .before .before .before .args .part .now) (l .i) (l .n) (c .before .before .loop-test .taken) (l .inv .1)))
 
 returns-2 : tie.Need-returns-2 Inv-loop μ-loop
 returns-2 c = low-end (c .before .before .before .before .args .part .now) (c .before .loop .i) (c .before .loop .n) (omega (arith, c .before .before .if1 .left)) (c .loop-test .left) (c .before .loop .inv .1)
@@ -62,8 +62,8 @@ low-number-spec =
     returns
     loop-holds
     mul-n
-    shared-slice-read-low
-    low-requires
+    shared-slice-read-low-half
+    low-half-requires
     add-n
     add-i
     loop-less

@@ -10,8 +10,8 @@ enum-known-kind c = search needs
 is-mark-requires : tie.Need-is-mark-requires
 is-mark-requires c κs = search needs
 
-unless-requires : tie.Need-unless-requires
-unless-requires c κs = search needs
+require-requires : tie.Need-require-requires
+require-requires c κs = search needs
 
 enum-told : tie.Need-enum-told
 enum-told c = search needs
@@ -22,8 +22,8 @@ slice-aggregate-same-bytes c = search needs
 same-bytes-requires : tie.Need-same-bytes-requires
 same-bytes-requires c κs = search needs
 
-unless-requires-2 : tie.Need-unless-requires-2
-unless-requires-2 c κs = search needs
+require-requires-2 : tie.Need-require-requires-2
+require-requires-2 c κs = search needs
 
 enum-told-2 : tie.Need-enum-told-2
 enum-told-2 c = search needs
@@ -31,8 +31,8 @@ enum-told-2 c = search needs
 is-service-requires : tie.Need-is-service-requires
 is-service-requires c κs = search needs
 
-unless-requires-3 : tie.Need-unless-requires-3
-unless-requires-3 c κs = search needs
+require-requires-3 : tie.Need-require-requires-3
+require-requires-3 c κs = search needs
 
 enum-told-3 : tie.Need-enum-told-3
 enum-told-3 c = search needs
@@ -40,26 +40,26 @@ enum-told-3 c = search needs
 all-of-requires : tie.Need-all-of-requires
 all-of-requires c κs = search needs
 
-unless-requires-4 : tie.Need-unless-requires-4
-unless-requires-4 c κs = search needs
+require-requires-4 : tie.Need-require-requires-4
+require-requires-4 c κs = search needs
 
 enum-told-4 : tie.Need-enum-told-4
 enum-told-4 c = search needs
 
-first-not-requires : tie.Need-first-not-requires
-first-not-requires c κs = search needs
+require-class-requires : tie.Need-require-class-requires
+require-class-requires c κs = search needs
 
 enum-told-5 : tie.Need-enum-told-5
 enum-told-5 c = search needs
 
-first-not-requires-2 : tie.Need-first-not-requires-2
-first-not-requires-2 c κs = search needs
+require-class-requires-2 : tie.Need-require-class-requires-2
+require-class-requires-2 c κs = search needs
 
 enum-told-6 : tie.Need-enum-told-6
 enum-told-6 c = search needs
 
-first-not-requires-3 : tie.Need-first-not-requires-3
-first-not-requires-3 c κs = search needs
+require-class-requires-3 : tie.Need-require-class-requires-3
+require-class-requires-3 c κs = search needs
 
 enum-told-7 : tie.Need-enum-told-7
 enum-told-7 c = search needs
@@ -82,8 +82,8 @@ byte-at-requires c κs = search needs
 is-capture-requires : tie.Need-is-capture-requires
 is-capture-requires c κs = search needs
 
-unless-requires-5 : tie.Need-unless-requires-5
-unless-requires-5 c κs = search needs
+require-requires-5 : tie.Need-require-requires-5
+require-requires-5 c κs = search needs
 
 enum-told-10 : tie.Need-enum-told-10
 enum-told-10 c = search needs
@@ -94,36 +94,36 @@ byte-at-requires-2 c κs = search needs
 is-form-requires : tie.Need-is-form-requires
 is-form-requires c κs = search needs
 
-unless-requires-6 : tie.Need-unless-requires-6
-unless-requires-6 c κs = search needs
+require-requires-6 : tie.Need-require-requires-6
+require-requires-6 c κs = search needs
 
 returns : tie.Need-returns
 unfolding kindAnswer
-returns c = simp (c .before .before .before .kind .given .1, c .unless .ensures, c .before .is-mark .ensures)
+returns c = simp (c .before .before .before .kind .given .1, c .require .ensures, c .before .is-mark .ensures)
 
 returns-2 : tie.Need-returns-2
 unfolding kindAnswer
-returns-2 c = simp (c .before .before .before .enum-told .given .1, c .unless2 .ensures, c .before .same-bytes .ensures)
+returns-2 c = simp (c .before .before .before .enum-told .given .1, c .require2 .ensures, c .before .same-bytes .ensures)
 
 returns-3 : tie.Need-returns-3
 unfolding kindAnswer
-returns-3 c = simp (c .before .before .enum-told2 .given .1, c .unless3 .ensures, c .before .is-service .ensures)
+returns-3 c = simp (c .before .before .enum-told2 .given .1, c .require3 .ensures, c .before .is-service .ensures)
 
 returns-4 : tie.Need-returns-4
 unfolding kindAnswer
-returns-4 c = simp (c .before .before .enum-told3 .given .1, c .unless4 .ensures, c .before .all-of .ensures)
+returns-4 c = simp (c .before .before .enum-told3 .given .1, c .require4 .ensures, c .before .all-of .ensures)
 
 returns-5 : tie.Need-returns-5
 unfolding kindAnswer
-returns-5 c = simp (c .before .enum-told4 .given .1) (c .first-not .ensures)
+returns-5 c = simp (c .before .enum-told4 .given .1) (c .require-class .ensures)
 
 returns-6 : tie.Need-returns-6
 unfolding kindAnswer
-returns-6 c = simp (c .before .enum-told5 .given .1) (c .first-not2 .ensures)
+returns-6 c = simp (c .before .enum-told5 .given .1) (c .require-class2 .ensures)
 
 returns-7 : tie.Need-returns-7
 unfolding kindAnswer
-returns-7 c = simp (c .before .enum-told6 .given .1) (c .first-not3 .ensures)
+returns-7 c = simp (c .before .enum-told6 .given .1) (c .require-class3 .ensures)
 
 returns-8 : tie.Need-returns-8
 unfolding kindAnswer
@@ -135,11 +135,11 @@ returns-9 c = rw (c .before .enum-told8 .given .1) (c .check .ensures)
 
 returns-10 : tie.Need-returns-10
 unfolding kindAnswer
-returns-10 c = simp (c .before .before .before .enum-told9 .given .1, c .unless5 .ensures, c .before .is-capture .ensures, c .before .before .byte-at .ensures)
+returns-10 c = simp (c .before .before .before .enum-told9 .given .1, c .require5 .ensures, c .before .is-capture .ensures, c .before .before .byte-at .ensures)
 
 returns-11 : tie.Need-returns-11
 unfolding kindAnswer
-returns-11 c = simp (c .before .before .before .enum-told10 .given .1, c .unless6 .ensures, c .before .is-form .ensures, c .before .before .byte-at2 .ensures)
+returns-11 c = simp (c .before .before .before .enum-told10 .given .1, c .require6 .ensures, c .before .is-form .ensures, c .before .before .byte-at2 .ensures)
 
 pub check-spec : {M : Type 1} → statement M
 check-spec =
@@ -147,23 +147,23 @@ check-spec =
     (tie.spec
     enum-known-kind
     is-mark-requires
-    unless-requires
+    require-requires
     enum-told
     slice-aggregate-same-bytes
     same-bytes-requires
-    unless-requires-2
+    require-requires-2
     enum-told-2
     is-service-requires
-    unless-requires-3
+    require-requires-3
     enum-told-3
     all-of-requires
-    unless-requires-4
+    require-requires-4
     enum-told-4
-    first-not-requires
+    require-class-requires
     enum-told-5
-    first-not-requires-2
+    require-class-requires-2
     enum-told-6
-    first-not-requires-3
+    require-class-requires-3
     enum-told-7
     check-date-requires
     enum-told-8
@@ -171,11 +171,11 @@ check-spec =
     enum-told-9
     byte-at-requires
     is-capture-requires
-    unless-requires-5
+    require-requires-5
     enum-told-10
     byte-at-requires-2
     is-form-requires
-    unless-requires-6
+    require-requires-6
     returns
     returns-2
     returns-3

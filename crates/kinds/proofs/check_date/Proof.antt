@@ -14,8 +14,8 @@ enum-told c = search needs
 enum-told-2 : tie.Need-enum-told-2
 enum-told-2 c = search needs
 
-first-not-requires : tie.Need-first-not-requires
-first-not-requires c κs = search needs
+require-class-requires : tie.Need-require-class-requires
+require-class-requires c κs = search needs
 
 enum-told-3 : tie.Need-enum-told-3
 enum-told-3 c = search needs
@@ -29,12 +29,12 @@ returns c = date-accepted _ _ (sym (c .before .before .read-date .ensures) ∙ c
 returns-2 : tie.Need-returns-2
 returns-2 c =
     let e = no-date _ (sym (c .before .before .before .before .before .read-date .ensures) ∙ c .before .before .before .enum-told2 .given .1) in
-    rw (sym (c .before .before .first-not .ensures) ∙ c .enum-told3 .given .1) at e
+    rw (sym (c .before .before .require-class .ensures) ∙ c .enum-told3 .given .1) at e
 
 returns-3 : tie.Need-returns-3
 returns-3 c =
     let e = no-date _ (sym (c .before .before .before .before .before .read-date .ensures) ∙ c .before .before .before .enum-told2 .given .1) in
-    c .enum-told4 .given .1 ∙ (rw (sym (c .before .before .first-not .ensures) ∙ c .enum-told4 .given .1) at e)
+    c .enum-told4 .given .1 ∙ (rw (sym (c .before .before .require-class .ensures) ∙ c .enum-told4 .given .1) at e)
 
 pub check-date-spec : {M : Type 1} → statement M
 check-date-spec =
@@ -43,7 +43,7 @@ check-date-spec =
     read-date-requires
     enum-told
     enum-told-2
-    first-not-requires
+    require-class-requires
     enum-told-3
     enum-told-4
     returns

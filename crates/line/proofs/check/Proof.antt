@@ -14,14 +14,14 @@ slice-aggregate-put-code c = search needs
 put-code-requires : tie.Need-put-code-requires
 put-code-requires c κs = search needs
 
-slice-aggregate-ask-body : tie.Need-slice-aggregate-ask-body
-slice-aggregate-ask-body c = search needs
+slice-aggregate-check-body : tie.Need-slice-aggregate-check-body
+slice-aggregate-check-body c = search needs
 
-ask-body-requires : tie.Need-ask-body-requires
-ask-body-requires c κs = search needs
+check-body-requires : tie.Need-check-body-requires
+check-body-requires c κs = search needs
 
 returns-2 : tie.Need-returns-2
-returns-2 c = c .ask-body .ensures ∙ sym (line-body (c .before .before .before .before .before .before .before .args .line .now) (c .before .before .before .before .before .if1 .left))
+returns-2 c = c .check-body .ensures ∙ sym (line-body (c .before .before .before .before .before .before .before .args .line .now) (c .before .before .before .before .before .if1 .left))
 
 pub check-spec : {M : Type 1} → statement M
 check-spec =
@@ -30,6 +30,6 @@ check-spec =
     returns
     slice-aggregate-put-code
     put-code-requires
-    slice-aggregate-ask-body
-    ask-body-requires
+    slice-aggregate-check-body
+    check-body-requires
     returns-2)

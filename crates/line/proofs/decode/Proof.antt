@@ -15,11 +15,11 @@ slice-aggregate-put-code c = search needs
 put-code-requires : tie.Need-put-code-requires
 put-code-requires c κs = search needs
 
-slice-aggregate-ask-body : tie.Need-slice-aggregate-ask-body
-slice-aggregate-ask-body c = search needs
+slice-aggregate-check-body : tie.Need-slice-aggregate-check-body
+slice-aggregate-check-body c = search needs
 
-ask-body-requires : tie.Need-ask-body-requires
-ask-body-requires c κs = search needs
+check-body-requires : tie.Need-check-body-requires
+check-body-requires c κs = search needs
 
 enum-known-why : tie.Need-enum-known-why
 enum-known-why c = search needs
@@ -38,7 +38,7 @@ returns-2 c =
     let asked = c .before .before .before in
     let long = asked .before .before .before .before .before in
     let body = line-body (long .before .before .args .line .now) (long .if1 .left) in
-    shown-refused _ (asked .ask-body .ensures ∙ sym body) (c .before .why .given .1)
+    shown-refused _ (asked .check-body .ensures ∙ sym body) (c .before .why .given .1)
 
 returns-3 : tie.Need-returns-3
 returns-3 c =
@@ -48,7 +48,7 @@ returns-3 c =
     let n = long .if1 .left in
     let line = long .before .before .args .line .now in
     let read = c .read-fields .ensures ∙ ap readOf (put .put-code .ensures) ∙ fields-read line n in
-    shown-read (asked .ask-body .ensures ∙ sym (line-body line n)) (c .before .before .enum-told .given .1) read
+    shown-read (asked .check-body .ensures ∙ sym (line-body line n)) (c .before .before .enum-told .given .1) read
 
 pub decode-spec : {M : Type 1} → statement M
 decode-spec =
@@ -57,8 +57,8 @@ decode-spec =
     returns
     slice-aggregate-put-code
     put-code-requires
-    slice-aggregate-ask-body
-    ask-body-requires
+    slice-aggregate-check-body
+    check-body-requires
     enum-known-why
     enum-told
     slice-aggregate-read-fields

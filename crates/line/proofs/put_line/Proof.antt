@@ -17,8 +17,8 @@ shared-slice-read-value c = search needs
 value-requires : tie.Need-value-requires
 value-requires c κs = search needs
 
-named-requires : tie.Need-named-requires
-named-requires c κs = search needs
+modulus-of-kind-requires : tie.Need-modulus-of-kind-requires
+modulus-of-kind-requires c κs = search needs
 
 sub-put-box : tie.Need-sub-put-box
 sub-put-box c = search needs
@@ -81,8 +81,8 @@ returns c =
     let start = named .before .before .before .before .before in
     let code = start .args .code .now in
     let n = start .pre .0 in
-    let m = named .named .result in
-    let e : m ≡ modulusOf (digitAt 3 code) = named .named .ensures ∙ ap modulusOf (named .before .value .ensures) in
+    let m = named .modulus-of-kind .result in
+    let e : m ≡ modulusOf (digitAt 3 code) = named .modulus-of-kind .ensures ∙ ap modulusOf (named .before .value .ensures) in
     let box : ℕ → List ℕ = λ k. checkedBox m (take 11 (drop k code)) in
     let twelve : (k : ℕ) → k + 11 ≤ 44 → length (box k) ≡ 12 = λ k h. checked-length m (take 11 (drop k code)) (eleven code k (omega arith)) in
     rw (← e)
@@ -96,7 +96,7 @@ put-line-spec =
     (tie.spec
     shared-slice-read-value
     value-requires
-    named-requires
+    modulus-of-kind-requires
     sub-put-box
     part-put-box-start
     part-put-box-end

@@ -5,12 +5,12 @@ use native.Mathlib.Omega.{arith}
 use borrow.Author.Needs.{needs}
 use lib.ListN.{length, getD, drop}
 use Rattle.modulus.proofs.Sums.{sum-step, sum-end, term-small}
-use Rattle.modulus.specs.Checks.{sumOf}
+use Rattle.modulus.specs.Checks.{weightedSum}
 use Rattle.modulus.proofs.short_sum.Statement.{statement}
 use Rattle.modulus.proofs.short_sum.Tie as tie
 
 abbrev Inv-loop : tie.InvT-loop
-Inv-loop m digits right sum₀ i₀ sum i = (i ≤ length digits) × (sum ≤ 81 * i) × (sum + sumOf m right (drop i digits) ≡ sumOf m right digits)
+Inv-loop m digits right sum₀ i₀ sum i = (i ≤ length digits) × (sum ≤ 81 * i) × (sum + weightedSum m right (drop i digits) ≡ weightedSum m right digits)
 
 abbrev μ-loop : tie.MeasureT-loop
 μ-loop m digits right sum₀ i₀ sum i = length digits - i

@@ -5,14 +5,14 @@ use Rattle.quadro.proofs.Days.{ended}
 use Rattle.quadro.proofs.take_turn.Statement.{statement}
 use Rattle.quadro.proofs.take_turn.Tie as tie
 
-fill-requires : tie.Need-fill-requires
-fill-requires c κs = search needs
+read-buffer-requires : tie.Need-read-buffer-requires
+read-buffer-requires c κs = search needs
 
 enum-told : tie.Need-enum-told
 enum-told c = search needs
 
-feed-requires : tie.Need-feed-requires
-feed-requires c κs = search needs
+run-buffer-requires : tie.Need-run-buffer-requires
+run-buffer-requires c κs = search needs
 
 unless-refused-requires : tie.Need-unless-refused-requires
 unless-refused-requires c κs = search needs
@@ -20,8 +20,8 @@ unless-refused-requires c κs = search needs
 enum-known-n : tie.Need-enum-known-n
 enum-known-n c = search needs
 
-feed-requires-2 : tie.Need-feed-requires-2
-feed-requires-2 c κs = let fits = ended (c .before .before .before .n .given .1) (c .before .before .before .before .before .fill .ensures) in (search needs, omega (arith, fits), omega (arith, fits))
+run-buffer-requires-2 : tie.Need-run-buffer-requires-2
+run-buffer-requires-2 c κs = let fits = ended (c .before .before .before .n .given .1) (c .before .before .before .before .before .read-buffer .ensures) in (search needs, omega (arith, fits), omega (arith, fits))
 
 end-requires : tie.Need-end-requires
 end-requires c κs = search needs
@@ -33,7 +33,7 @@ returns : tie.Need-returns
 returns c = search needs
 
 returns-2 : tie.Need-returns-2
-returns-2 c = rw (c .end .ensures) (c .before .feed2 .ensures .1)
+returns-2 c = rw (c .end .ensures) (c .before .run-buffer2 .ensures .1)
 
 returns-3 : tie.Need-returns-3
 returns-3 c = search needs
@@ -42,12 +42,12 @@ pub take-turn-spec : {M : Type 1} → statement M
 take-turn-spec =
     tie.close
     (tie.spec
-    fill-requires
+    read-buffer-requires
     enum-told
-    feed-requires
+    run-buffer-requires
     unless-refused-requires
     enum-known-n
-    feed-requires-2
+    run-buffer-requires-2
     end-requires
     enum-told-2
     returns

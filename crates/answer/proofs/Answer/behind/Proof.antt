@@ -1,7 +1,7 @@
 -- `answer::Answer::behind` meets its contract. Assumes nothing.
 use mathlib.Core.Path.{refl}
 use borrow.Author.Needs.{needs}
-use Rattle.answer.specs.Orders.{heldBehind}
+use Rattle.answer.specs.Orders.{cappedBehind}
 use Rattle.answer.proofs.Steps.{moved-to}
 use Rattle.answer.proofs.Answer.behind.Statement.{statement}
 use Rattle.answer.proofs.Answer.behind.Tie as tie
@@ -19,7 +19,7 @@ returns : tie.Need-returns
 returns c = search needs
 
 returns-2 : tie.Need-returns-2
-returns-2 c = moved-to (heldBehind (c .before .before .before .before .args .before)) refl (c .before .before .self .given .1) (c .place-behind .ensures)
+returns-2 c = moved-to (cappedBehind (c .before .before .before .before .args .before)) refl (c .before .before .self .given .1) (c .place-behind .ensures)
 
 pub behind-spec : {M : Type 1} → statement M
 behind-spec =

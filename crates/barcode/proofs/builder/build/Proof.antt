@@ -10,8 +10,8 @@ use Rattle.barcode.proofs.builder.build.Tie as tie
 returns : tie.Need-returns
 returns c = (stops _ _ _ _ (ne-eqb _ _ (c .if1 .taken)), search needs)
 
-ask-fields-requires : tie.Need-ask-fields-requires
-ask-fields-requires c κs = search needs
+check-fields-requires : tie.Need-check-fields-requires
+check-fields-requires c κs = search needs
 
 enum-told : tie.Need-enum-told
 enum-told c = search needs
@@ -20,10 +20,10 @@ enum-told-2 : tie.Need-enum-told-2
 enum-told-2 c = search needs
 
 finish-requires : tie.Need-finish-requires
-finish-requires c κs = (c .before .before .before .before .if1 .left, fit-of _ _ _ _ (sym (c .before .before .before .ask-fields .ensures) ∙ c .before .enum-told2 .given .1))
+finish-requires c κs = (c .before .before .before .before .if1 .left, fit-of _ _ _ _ (sym (c .before .before .before .check-fields .ensures) ∙ c .before .enum-told2 .given .1))
 
 returns-2 : tie.Need-returns-2
-returns-2 c = (goes _ _ _ (eq-eqb _ _ (c .before .before .before .if1 .left)) (handed _ (c .before .before .ask-fields .ensures) (c .enum-told .given .1)), rw (c .enum-told .given .1))
+returns-2 c = (goes _ _ _ (eq-eqb _ _ (c .before .before .before .if1 .left)) (handed _ (c .before .before .check-fields .ensures) (c .enum-told .given .1)), rw (c .enum-told .given .1))
 
 same-length : tie.Need-same-length
 same-length c = search needs
@@ -31,7 +31,7 @@ same-length c = search needs
 returns-3 : tie.Need-returns-3
 returns-3 c = (
   goes _ _ _ (eq-eqb _ _ (c .before .before .before .before .before .before .before .if1 .left))
-      (onward (c .before .before .before .before .before .before .ask-fields .ensures) (c .before .before .before .before .enum-told2 .given .1) (c .before .before .finish .ensures .0)),
+      (onward (c .before .before .before .before .before .before .check-fields .ensures) (c .before .before .before .before .enum-told2 .given .1) (c .before .before .finish .ensures .0)),
   c .before .before .finish .ensures .1,
 )
 
@@ -40,7 +40,7 @@ build-spec =
     tie.close
     (tie.spec
     returns
-    ask-fields-requires
+    check-fields-requires
     enum-told
     enum-told-2
     finish-requires

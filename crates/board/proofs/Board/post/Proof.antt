@@ -5,7 +5,7 @@ use borrow.Author.Needs.{needs}
 use borrow.Author.Tests.{le-ltb}
 use Rattle.board.proofs.Slots.{put-back}
 use Rattle.board.specs.Boards.{lanesOf, indexOf, slotAnswer}
-use Rattle.board.specs.Lanes.{mostLanes, paymentOf}
+use Rattle.board.specs.Lanes.{mostLanes, laneOfOne}
 use Rattle.board.proofs.Board.post.Statement.{statement}
 use Rattle.board.proofs.Board.post.Tie as tie
 
@@ -37,7 +37,7 @@ element-set-from-lane c = search needs
 returns-2 : tie.Need-returns-2
 returns-2 c =
     let a = c .before .before .before .before .before .before .before .before .args in
-    put-back (a .t1) (paymentOf (a .issuer) (a .centavos)) _ _ (c .before .before .before .before .before .before .before .find .ensures) (c .before .before .before .post .ensures)
+    put-back (a .t1) (laneOfOne (a .issuer) (a .centavos)) _ _ (c .before .before .before .before .before .before .before .find .ensures) (c .before .before .before .post .ensures)
 
 pub post-spec : {M : Type 1} → statement M
 post-spec =

@@ -6,7 +6,7 @@ use native.Mathlib.Omega.{arith}
 use borrow.Author.Needs.{needs}
 use lib.Seq.{slice}
 use Rattle.answer.proofs.Orders.{not-both}
-use Rattle.answer.specs.Orders.{movedBy, heldBehind}
+use Rattle.answer.specs.Orders.{movedBy, cappedBehind}
 use Rattle.layout.specs.declared.Field.{Field}
 use Rattle.fields.proofs.Makes.{at-row, at-end, ends, placed, in-given, fits-part, refuses, step, Making, start}
 use Rattle.record.proofs.Walks.{in-order, in-table, rows-here}
@@ -139,7 +139,7 @@ returns c =
     let told = c .before .enum-told2 .given .1 in
     let refused = refuses here (taking .takes .ensures) amount (putting .put .ensures .0) told (c .behind .ensures) in (
       refused ∙ ap (λ (l : List Field). makingAnswer l (a .given .now) (a .first ∷ a .second ∷ [])) (rows-here _ table rows),
-      λ h. not-both _ (c .behind .ensures ∙ ap (movedBy (heldBehind _)) told) h,
+      λ h. not-both _ (c .behind .ensures ∙ ap (movedBy (cappedBehind _)) told) h,
     )
 
 same-length-2 : tie.Need-same-length-2 Inv-loop μ-loop

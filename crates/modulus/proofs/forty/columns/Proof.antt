@@ -21,17 +21,17 @@ abbrev μ-loop : tie.MeasureT-loop
 loop-holds : tie.Need-loop-holds Inv-loop μ-loop
 loop-holds c = search needs
 
-shared-slice-read-low : tie.Need-shared-slice-read-low Inv-loop μ-loop
-shared-slice-read-low c = search needs
+shared-slice-read-low-half : tie.Need-shared-slice-read-low-half Inv-loop μ-loop
+shared-slice-read-low-half c = search needs
 
-low-requires : tie.Need-low-requires Inv-loop μ-loop
-low-requires c κs = search needs
+low-half-requires : tie.Need-low-half-requires Inv-loop μ-loop
+low-half-requires c κs = search needs
 
-shared-slice-read-low-2 : tie.Need-shared-slice-read-low-2 Inv-loop μ-loop
-shared-slice-read-low-2 c = search needs
+shared-slice-read-low-half-2 : tie.Need-shared-slice-read-low-half-2 Inv-loop μ-loop
+shared-slice-read-low-half-2 c = search needs
 
-low-requires-2 : tie.Need-low-requires-2 Inv-loop μ-loop
-low-requires-2 c κs = search needs
+low-half-requires-2 : tie.Need-low-half-requires-2 Inv-loop μ-loop
+low-half-requires-2 c κs = search needs
 
 shared-slice-read-late : tie.Need-shared-slice-read-late Inv-loop μ-loop
 shared-slice-read-late c = search needs
@@ -79,8 +79,8 @@ loop-again c =
     let p = start .pre in
     let l = loop .loop in
     let more = c .before .before .before .before .before .before .before .before .before .before .before .before .loop-test .taken in
-    let low = c .before .before .before .before .before .before .before .before .before .before .low .ensures .0 in
-    let low2 = c .before .before .before .before .before .before .before .before .low2 .ensures .0 in
+    let low = c .before .before .before .before .before .before .before .before .before .before .low-half .ensures .0 in
+    let low2 = c .before .before .before .before .before .before .before .before .low-half2 .ensures .0 in
     let late = c .before .before .before .before .before .before .late .ensures .0 in (
       search needs,
       search needs,
@@ -112,10 +112,10 @@ columns-spec =
     Inv-loop
     μ-loop
     loop-holds
-    shared-slice-read-low
-    low-requires
-    shared-slice-read-low-2
-    low-requires-2
+    shared-slice-read-low-half
+    low-half-requires
+    shared-slice-read-low-half-2
+    low-half-requires-2
     shared-slice-read-late
     late-requires
     shared-slice-read-flag-of

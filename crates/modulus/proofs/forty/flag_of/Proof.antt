@@ -6,19 +6,19 @@ use Rattle.modulus.proofs.Columns.{three-flags}
 use Rattle.modulus.proofs.forty.flag_of.Statement.{statement}
 use Rattle.modulus.proofs.forty.flag_of.Tie as tie
 
-flag-requires : tie.Need-flag-requires
-flag-requires c κs = search needs
+class-error-bit-requires : tie.Need-class-error-bit-requires
+class-error-bit-requires c κs = search needs
 
-flag-requires-2 : tie.Need-flag-requires-2
-flag-requires-2 c κs = search needs
+class-error-bit-requires-2 : tie.Need-class-error-bit-requires-2
+class-error-bit-requires-2 c κs = search needs
 
-flag-requires-3 : tie.Need-flag-requires-3
-flag-requires-3 c κs = search needs
+class-error-bit-requires-3 : tie.Need-class-error-bit-requires-3
+class-error-bit-requires-3 c κs = search needs
 
 returns : tie.Need-returns
 returns c =
     let a = c .before .before .before .args in
-    three-flags (isOf Digit (a .x)) (isOf Digit (a .y)) (isOf Digit (a .z)) (c .before .before .flag .ensures) (c .before .flag2 .ensures) (c .flag3 .ensures)
+    three-flags (isOf Digit (a .x)) (isOf Digit (a .y)) (isOf Digit (a .z)) (c .before .before .class-error-bit .ensures) (c .before .class-error-bit2 .ensures) (c .class-error-bit3 .ensures)
 
 pub flag-of-spec : {M : Type 1} → statement M
-flag-of-spec = tie.close (tie.spec flag-requires flag-requires-2 flag-requires-3 returns)
+flag-of-spec = tie.close (tie.spec class-error-bit-requires class-error-bit-requires-2 class-error-bit-requires-3 returns)

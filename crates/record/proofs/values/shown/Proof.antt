@@ -2,7 +2,7 @@
 use mathlib.Core.Path.{sym, ap, _∙_}
 use borrow.Author.Needs.{needs}
 use Rattle.decimal.proofs.Finite.{never}
-use Rattle.record.specs.Looks.{isPayment}
+use Rattle.record.specs.FastPath.{isPayment}
 use Rattle.record.proofs.values.shown.Statement.{statement}
 use Rattle.record.proofs.values.shown.Tie as tie
 

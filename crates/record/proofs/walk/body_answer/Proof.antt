@@ -4,14 +4,14 @@ use mathlib.Core.Path.{sym, _∙_, _≡_, refl}
 use native.Mathlib.Omega.{arith}
 use borrow.Author.Needs.{needs}
 use lib.Seq.{slice}
-use Rattle.answer.specs.Orders.{first}
+use Rattle.answer.specs.Orders.{firstRefusal}
 use Rattle.record.proofs.Walks.{later, here, none, in-order, in-table, row-placed, walked}
 use Rattle.record.specs.Records.{fieldAnswer}
 use Rattle.record.proofs.walk.body_answer.Statement.{statement}
 use Rattle.record.proofs.walk.body_answer.Tie as tie
 
 abbrev Inv-loop : tie.InvT-loop
-Inv-loop rec table to i₀ i = (i ≤ to) × (first (fieldAnswer rec) (slice i to table) ≡ first (fieldAnswer rec) (slice i₀ to table))
+Inv-loop rec table to i₀ i = (i ≤ to) × (firstRefusal (fieldAnswer rec) (slice i to table) ≡ firstRefusal (fieldAnswer rec) (slice i₀ to table))
 
 abbrev μ-loop : tie.MeasureT-loop
 μ-loop rec table to i₀ i = to - i

@@ -3,12 +3,12 @@ use Prim.Native.Nat.{_-_}
 use mathlib.Core.Path.{ap, _∙_}
 use native.Mathlib.Omega.{arith}
 use borrow.Author.Needs.{needs}
-use Rattle.answer.specs.Orders.{movedBy, heldBehind}
+use Rattle.answer.specs.Orders.{movedBy, cappedBehind}
 use Rattle.answer.proofs.Orders.{behind-is-held}
 use Rattle.kinds.proofs.KindLaws.{kind-place}
 use Rattle.record.proofs.Shown.{part-length}
 use Rattle.kinds.specs.Kinds.{kindAnswer}
-use Rattle.record.specs.Records.{partOf, fieldAnswer}
+use Rattle.record.specs.Records.{fieldBytes, fieldAnswer}
 use Rattle.record.proofs.walk.field_answer.Statement.{statement}
 use Rattle.record.proofs.walk.field_answer.Tie as tie
 
@@ -30,11 +30,11 @@ returns c =
     let s = c .before .before .before .before .before in
     let f = s .args .f in
     let k = c .before .before .check .ensures ∙ ap (kindAnswer (f .kind)) (c .before .before .before .part-of .ensures) in
-    let bs = partOf f (s .args .rec .now) in
+    let bs = fieldBytes f (s .args .rec .now) in
     let n = part-length f (s .args .rec .now) (s .pre .1) (s .pre .0) in
     let near = kind-place (f .kind) bs (omega (arith, n, s .pre .1 .end)) in
     let held = behind-is-held (f .first - 1) (kindAnswer (f .kind) bs) (omega (arith, near, s .pre .1 .order, s .pre .1 .end)) in
-    c .behind .ensures ∙ ap (movedBy (heldBehind (f .first - 1))) k ∙ held
+    c .behind .ensures ∙ ap (movedBy (cappedBehind (f .first - 1))) k ∙ held
 
 pub field-answer-spec : {M : Type 1} → statement M
 field-answer-spec =

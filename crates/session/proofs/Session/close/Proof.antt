@@ -4,8 +4,8 @@ use Rattle.session.proofs.Steps.{took-refused, took-next}
 use Rattle.session.proofs.Session.close.Statement.{statement}
 use Rattle.session.proofs.Session.close.Tie as tie
 
-judge-requires : tie.Need-judge-requires
-judge-requires c κs = search needs
+check-trailer-requires : tie.Need-check-trailer-requires
+check-trailer-requires c κs = search needs
 
 enum-told : tie.Need-enum-told
 enum-told c = search needs
@@ -17,11 +17,11 @@ new-requires : tie.Need-new-requires
 new-requires c κs = search needs
 
 returns : tie.Need-returns
-returns c = took-refused _ _ (c .before .before .judge .ensures) (c .enum-told .given .1)
+returns c = took-refused _ _ (c .before .before .check-trailer .ensures) (c .enum-told .given .1)
 
 returns-2 : tie.Need-returns-2
-returns-2 c = took-next (c .before .before .before .before .before .before .args .self) (c .before .before .before .before .judge .ensures) (c .before .before .enum-told2 .given .1) (rw (c .new .ensures))
+returns-2 c = took-next (c .before .before .before .before .before .before .args .self) (c .before .before .before .before .check-trailer .ensures) (c .before .before .enum-told2 .given .1) (rw (c .new .ensures))
 
 pub close-spec : {M : Type 1} → statement M
 close-spec =
-    tie.close (tie.spec judge-requires enum-told enum-told-2 new-requires returns returns-2)
+    tie.close (tie.spec check-trailer-requires enum-told enum-told-2 new-requires returns returns-2)

@@ -2,7 +2,7 @@
 use mathlib.Core.Path.{ap, _∙_}
 use borrow.Author.Needs.{needs}
 use Rattle.answer.proofs.Steps.{handed}
-use Rattle.file.specs.declared.Taken.{Taken}
+use Rattle.file.specs.declared.FileResult.{FileResult}
 use Rattle.session.proofs.Steps.{took-refused, took-then, taken-file}
 use Rattle.session.proofs.Session.pay.Statement.{statement}
 use Rattle.session.proofs.Session.pay.Tie as tie
@@ -20,14 +20,14 @@ post-requires : tie.Need-post-requires
 post-requires c κs = search needs
 
 returns : tie.Need-returns
-returns c = took-refused _ _ (handed _ (ap (λ (r : Taken). r .answer) (c .before .before .take .ensures)) (c .enum-told .given .1)) (c .enum-told .given .1)
+returns c = took-refused _ _ (handed _ (ap (λ (r : FileResult). r .answer) (c .before .before .take .ensures)) (c .enum-told .given .1)) (c .enum-told .given .1)
 
 returns-2 : tie.Need-returns-2
 returns-2 c =
     let a = c .before .before .before .before .before .args in
     let e = c .before .before .before .take .ensures in
     let told = c .before .enum-told2 .given .1 in
-    took-then _ _ _ (ap (λ (r : Taken). r .answer) e) told (c .post .ensures ∙ rw (taken-file (a .self .file) (a .received) e told))
+    took-then _ _ _ (ap (λ (r : FileResult). r .answer) e) told (c .post .ensures ∙ rw (taken-file (a .self .file) (a .received) e told))
 
 pub pay-spec : {M : Type 1} → statement M
 pay-spec = tie.close (tie.spec take-requires enum-told enum-told-2 post-requires returns returns-2)

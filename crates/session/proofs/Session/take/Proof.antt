@@ -3,7 +3,7 @@ use mathlib.Core.Path.{sym, ap, _∙_}
 use borrow.Author.Needs.{needs}
 use borrow.Author.Tests.{eq-eqb, ne-eqb, not-true, not-false}
 use Rattle.session.proofs.Steps.{took-stop, took-go}
-use Rattle.session.specs.Sessions.{expects}
+use Rattle.session.specs.Sessions.{sessionExpects}
 use Rattle.session.proofs.Session.take.Statement.{statement}
 use Rattle.session.proofs.Session.take.Tie as tie
 
@@ -23,18 +23,18 @@ returns-2 : tie.Need-returns-2
 returns-2 c =
     let asked = c .before in
     let sized = asked .before .before .before in
-    let expected = asked .is-expected .ensures ∙ ap (expects (sized .before .before .args .self .opened)) (asked .before .named-by .ensures) in
+    let expected = asked .is-expected .ensures ∙ ap (sessionExpects (sized .before .before .args .self .opened)) (asked .before .named-by .ensures) in
     took-go _ _ _ _ _ (eq-eqb _ _ (sized .if1 .left)) (took-stop _ _ _ _ _ (sym expected ∙ not-true _ (c .if2 .taken)))
 
-meet-requires : tie.Need-meet-requires
-meet-requires c κs = search needs
+apply-requires : tie.Need-apply-requires
+apply-requires c κs = search needs
 
 returns-3 : tie.Need-returns-3
 returns-3 c =
     let asked = c .before .before in
     let sized = asked .before .before .before in
-    let expected = asked .is-expected .ensures ∙ ap (expects (sized .before .before .args .self .opened)) (asked .before .named-by .ensures) in
-    took-go _ _ _ _ _ (eq-eqb _ _ (sized .if1 .left)) (took-go _ _ _ _ _ (sym expected ∙ not-false _ (c .before .if2 .left)) (c .meet .ensures))
+    let expected = asked .is-expected .ensures ∙ ap (sessionExpects (sized .before .before .args .self .opened)) (asked .before .named-by .ensures) in
+    took-go _ _ _ _ _ (eq-eqb _ _ (sized .if1 .left)) (took-go _ _ _ _ _ (sym expected ∙ not-false _ (c .before .if2 .left)) (c .apply .ensures))
 
 pub take-spec : {M : Type 1} → statement M
 take-spec =
@@ -45,5 +45,5 @@ take-spec =
     named-by-requires
     is-expected-requires
     returns-2
-    meet-requires
+    apply-requires
     returns-3)

@@ -8,8 +8,8 @@ use Rattle.writer.proofs.Doors.{made-told}
 use Rattle.writer.proofs.Writer.header.Statement.{statement}
 use Rattle.writer.proofs.Writer.header.Tie as tie
 
-door-requires : tie.Need-door-requires
-door-requires c κs = search needs
+check-call-requires : tie.Need-check-call-requires
+check-call-requires c κs = search needs
 
 enum-told : tie.Need-enum-told
 enum-told c = search needs
@@ -17,7 +17,7 @@ enum-told c = search needs
 returns : tie.Need-returns
 returns c =
     let told = c .enum-told .given .1 in
-    let shut = sym (c .before .before .door .ensures) ∙ told in
+    let shut = sym (c .before .before .check-call .ensures) ∙ told in
     (rw (shut, told), rw told)
 
 enum-told-2 : tie.Need-enum-told-2
@@ -45,7 +45,7 @@ returns-2 c =
     let asking = opening .before .before in
     let a = asking .before .before .before .args in
     let told = c .enum-told3 .given .1 in
-    let opened = sym (asking .door .ensures) ∙ opening .enum-told2 .given .1 in
+    let opened = sym (asking .check-call .ensures) ∙ opening .enum-told2 .given .1 in
     let refused = made-told Header (a .fields .now) (0 ∷ 0 ∷ []) (length (a .out .now)) (making .make .ensures .0) told in
     (rw (opened, refused, told), making .make .ensures .1)
 
@@ -59,7 +59,7 @@ returns-3 c =
     let asking = opening .before .before in
     let a = asking .before .before .before .args in
     let told = c .before .enum-told4 .given .1 in
-    let opened = sym (asking .door .ensures) ∙ opening .enum-told2 .given .1 in
+    let opened = sym (asking .check-call .ensures) ∙ opening .enum-told2 .given .1 in
     let made = made-told Header (a .fields .now) (0 ∷ 0 ∷ []) (length (a .out .now)) (making .make .ensures .0) told in
     (rw (opened, made, told, c .new .ensures), making .make .ensures .1)
 
@@ -67,7 +67,7 @@ pub header-spec : {M : Type 1} → statement M
 header-spec =
     tie.close
     (tie.spec
-    door-requires
+    check-call-requires
     enum-told
     returns
     enum-told-2

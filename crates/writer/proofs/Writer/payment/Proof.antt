@@ -4,7 +4,7 @@ use mathlib.Core.Path.{sym, ap, _∙_}
 use borrow.Author.Needs.{needs}
 use lib.ListN.{length}
 use Rattle.answer.proofs.Orders.{accepted-takes}
-use Rattle.file.specs.declared.Taken.{Taken}
+use Rattle.file.specs.declared.FileResult.{FileResult}
 use Rattle.layout.specs.declared.Record.the-variants.{Payment}
 use Rattle.layout.specs.Layouts.{recordLength}
 use Rattle.fields.proofs.Makes.{made-copied}
@@ -12,8 +12,8 @@ use Rattle.writer.proofs.Doors.{door-room, made-told}
 use Rattle.writer.proofs.Writer.payment.Statement.{statement}
 use Rattle.writer.proofs.Writer.payment.Tie as tie
 
-door-requires : tie.Need-door-requires
-door-requires c κs = search needs
+check-call-requires : tie.Need-check-call-requires
+check-call-requires c κs = search needs
 
 enum-told : tie.Need-enum-told
 enum-told c = search needs
@@ -21,7 +21,7 @@ enum-told c = search needs
 returns : tie.Need-returns
 returns c =
     let told = c .enum-told .given .1 in
-    let shut = sym (c .before .before .door .ensures) ∙ told in
+    let shut = sym (c .before .before .check-call .ensures) ∙ told in
     (rw (shut, told), rw told)
 
 enum-told-2 : tie.Need-enum-told-2
@@ -43,7 +43,7 @@ returns-2 c =
     let asking = opening .before .before in
     let a = asking .before .before .before .args in
     let told = c .enum-told3 .given .1 in
-    let opened = sym (asking .door .ensures) ∙ opening .enum-told2 .given .1 in
+    let opened = sym (asking .check-call .ensures) ∙ opening .enum-told2 .given .1 in
     let refused = made-told Payment (a .fields .now) (a .received ∷ a .tariff ∷ []) recordLength (making .make .ensures .0) told in
     (rw (opened, refused, told), rw told)
 
@@ -66,7 +66,7 @@ copy-requires : tie.Need-copy-requires
 copy-requires c κs =
     let opening = c .before .before .before .before .before .before .before .before .before .before .before in
     let a = opening .before .before .before .before .before .args in
-    let room = door-room (a .self) Payment (length (a .fields .now)) (length (a .out .now)) (sym (opening .before .before .door .ensures) ∙ opening .enum-told2 .given .1) in
+    let room = door-room (a .self) Payment (length (a .fields .now)) (length (a .out .now)) (sym (opening .before .before .check-call .ensures) ∙ opening .enum-told2 .given .1) in
     search needs
 
 returns-3 : tie.Need-returns-3
@@ -78,9 +78,9 @@ returns-3 c =
     let asking = opening .before .before in
     let a = asking .before .before .before .args in
     let told = c .enum-told5 .given .1 in
-    let opened = sym (asking .door .ensures) ∙ opening .enum-told2 .given .1 in
+    let opened = sym (asking .check-call .ensures) ∙ opening .enum-told2 .given .1 in
     let made = made-told Payment (a .fields .now) (a .received ∷ a .tariff ∷ []) recordLength (making .make .ensures .0) (accepting .enum-told4 .given .1) in
-    let full = sym (ap (λ (t : Taken). t .answer) (taking .take .ensures)) ∙ told in
+    let full = sym (ap (λ (t : FileResult). t .answer) (taking .take .ensures)) ∙ told in
     (rw (opened, made, full, told), rw told)
 
 same-length : tie.Need-same-length
@@ -96,20 +96,20 @@ returns-4 c =
     let asking = opening .before .before in
     let a = asking .before .before .before .args in
     let told = telling .enum-told6 .given .1 in
-    let opened = sym (asking .door .ensures) ∙ opening .enum-told2 .given .1 in
+    let opened = sym (asking .check-call .ensures) ∙ opening .enum-told2 .given .1 in
     let room = door-room (a .self) Payment (length (a .fields .now)) (length (a .out .now)) opened in
     let accepted = accepting .enum-told4 .given .1 in
     let made = made-told Payment (a .fields .now) (a .received ∷ a .tariff ∷ []) recordLength (making .make .ensures .0) accepted in
     let bytes = making .make .ensures .1 ∙ accepted-takes _ _ _ accepted in
-    let taken = sym (ap (λ (t : Taken). t .answer) (taking .take .ensures)) ∙ told in
-    let file = ap (λ (t : Taken). t .file) (taking .take .ensures) in
+    let taken = sym (ap (λ (t : FileResult). t .answer) (taking .take .ensures)) ∙ told in
+    let file = ap (λ (t : FileResult). t .file) (taking .take .ensures) in
     (rw (opened, made, taken, told, file, taken), made-copied _ _ (search needs) told bytes (c .before .before .before .copy .ensures .1))
 
 pub payment-spec : {M : Type 1} → statement M
 payment-spec =
     tie.close
     (tie.spec
-    door-requires
+    check-call-requires
     enum-told
     returns
     enum-told-2

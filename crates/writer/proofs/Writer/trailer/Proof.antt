@@ -3,7 +3,7 @@ use mathlib.Core.Path.{refl, sym, ap, _∙_}
 use borrow.Author.Needs.{needs}
 use lib.ListN.{length}
 use Rattle.answer.proofs.Orders.{accepted-takes}
-use Rattle.file.specs.declared.Closed.{Closed}
+use Rattle.file.specs.declared.CloseResult.{CloseResult}
 use Rattle.layout.specs.declared.Record.the-variants.{Trailer}
 use Rattle.writer.proofs.Doors.{door-told, count-written, made-as, bytes-as}
 use Rattle.writer.proofs.Writer.trailer.Statement.{statement}
@@ -12,8 +12,8 @@ use Rattle.writer.proofs.Writer.trailer.Tie as tie
 given-length-requires : tie.Need-given-length-requires
 given-length-requires c κs = search needs
 
-door-requires : tie.Need-door-requires
-door-requires c κs = search needs
+check-call-requires : tie.Need-check-call-requires
+check-call-requires c κs = search needs
 
 enum-told : tie.Need-enum-told
 enum-told c = search needs
@@ -23,7 +23,7 @@ returns c =
     let asking = c .before .before in
     let a = asking .before .before .before .args in
     let told = c .enum-told .given .1 in
-    let shut = door-told (a .self) Trailer (length (a .out .now)) (asking .before .given-length .ensures) (asking .door .ensures) told in
+    let shut = door-told (a .self) Trailer (length (a .out .now)) (asking .before .given-length .ensures) (asking .check-call .ensures) told in
     (rw (shut, told), rw told)
 
 enum-told-2 : tie.Need-enum-told-2
@@ -42,8 +42,8 @@ returns-2 c =
     let asking = opening .before .before in
     let a = asking .before .before .before .args in
     let told = c .enum-told3 .given .1 in
-    let opened = door-told (a .self) Trailer (length (a .out .now)) (asking .before .given-length .ensures) (asking .door .ensures) (opening .enum-told2 .given .1) in
-    let full = sym (ap (λ (k : Closed). k .answer) (closing .close .ensures)) ∙ told in
+    let opened = door-told (a .self) Trailer (length (a .out .now)) (asking .before .given-length .ensures) (asking .check-call .ensures) (opening .enum-told2 .given .1) in
+    let full = sym (ap (λ (k : CloseResult). k .answer) (closing .close .ensures)) ∙ told in
     (rw (opened, full, told), rw told)
 
 enum-told-4 : tie.Need-enum-told-4
@@ -79,9 +79,9 @@ returns-3 c =
     let opening = closing .before .before in
     let asking = opening .before .before in
     let a = asking .before .before .before .args in
-    let opened = door-told (a .self) Trailer (length (a .out .now)) (asking .before .given-length .ensures) (asking .door .ensures) (opening .enum-told2 .given .1) in
-    let closes = sym (ap (λ (k : Closed). k .answer) (closing .close .ensures)) ∙ accepting .enum-told4 .given .1 in
-    let figures = ap (λ (k : Closed). k .figures) (closing .close .ensures) ∙ accepted-takes _ _ _ closes in
+    let opened = door-told (a .self) Trailer (length (a .out .now)) (asking .before .given-length .ensures) (asking .check-call .ensures) (opening .enum-told2 .given .1) in
+    let closes = sym (ap (λ (k : CloseResult). k .answer) (closing .close .ensures)) ∙ accepting .enum-told4 .given .1 in
+    let figures = ap (λ (k : CloseResult). k .figures) (closing .close .ensures) ∙ accepted-takes _ _ _ closes in
     let count = count-written (a .self) closes figures _ refl (counting .put-number .ensures .0) (counting .put-number .ensures .1) in
     let made = made-as (a .self) closes figures (length (a .out .now)) count (making .make .ensures .0) in
     let told = c .enum-told5 .given .1 in
@@ -99,9 +99,9 @@ returns-4 c =
     let opening = closing .before .before in
     let asking = opening .before .before in
     let a = asking .before .before .before .args in
-    let opened = door-told (a .self) Trailer (length (a .out .now)) (asking .before .given-length .ensures) (asking .door .ensures) (opening .enum-told2 .given .1) in
-    let closes = sym (ap (λ (k : Closed). k .answer) (closing .close .ensures)) ∙ accepting .enum-told4 .given .1 in
-    let figures = ap (λ (k : Closed). k .figures) (closing .close .ensures) ∙ accepted-takes _ _ _ closes in
+    let opened = door-told (a .self) Trailer (length (a .out .now)) (asking .before .given-length .ensures) (asking .check-call .ensures) (opening .enum-told2 .given .1) in
+    let closes = sym (ap (λ (k : CloseResult). k .answer) (closing .close .ensures)) ∙ accepting .enum-told4 .given .1 in
+    let figures = ap (λ (k : CloseResult). k .figures) (closing .close .ensures) ∙ accepted-takes _ _ _ closes in
     let count = count-written (a .self) closes figures _ refl (counting .put-number .ensures .0) (counting .put-number .ensures .1) in
     let made = made-as (a .self) closes figures (length (a .out .now)) count (making .make .ensures .0) in
     let told = c .enum-told6 .given .1 in
@@ -112,7 +112,7 @@ trailer-spec =
     tie.close
     (tie.spec
     given-length-requires
-    door-requires
+    check-call-requires
     enum-told
     returns
     enum-told-2

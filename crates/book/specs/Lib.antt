@@ -1,6 +1,0 @@
-pub mod Books
-pub mod Promises
-pub mod WholeFiles
-pub mod WrittenFiles
-pub mod Runs
-pub mod Samples

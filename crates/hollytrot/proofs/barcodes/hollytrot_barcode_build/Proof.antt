@@ -1,0 +1,21 @@
+-- `hollytrot::barcodes::hollytrot_barcode_build` meets its contract. Assumes nothing.
+use borrow.Author.Needs.{needs}
+use Rattle.hollytrot.proofs.Steps.{handed}
+use Rattle.hollytrot.proofs.barcodes.hollytrot_barcode_build.Statement.{statement}
+use Rattle.hollytrot.proofs.barcodes.hollytrot_barcode_build.Tie as tie
+
+build-requires : tie.Need-build-requires
+build-requires c κs = search needs
+
+c-answer-requires : tie.Need-c-answer-requires
+c-answer-requires c κs = search needs
+
+same-length : tie.Need-same-length
+same-length c = search needs
+
+returns : tie.Need-returns
+returns c = let e = c .before .before .before .build .ensures in handed _ _ (c .c-answer .ensures) (e .0) (e .1)
+
+pub hollytrot-barcode-build-spec : {M : Type 1} → statement M
+hollytrot-barcode-build-spec =
+    tie.close (tie.spec build-requires c-answer-requires same-length returns)

@@ -1,0 +1,73 @@
+// A writer of one file, which the caller holds.
+ghost use mathlib.Core.Path.{_≡_};
+ghost use lib.ListN.{length};
+ghost use Rattle.answer.specs.Orders.{ifAccepted};
+ghost use Rattle.writer.specs.Writers as writers;
+ghost use Rattle.hollytrot.specs.Forms.{writerOf, cWriterOf, cWriteResultOf};
+use crate::CWriteResult;
+use crate::CWriter;
+use crate::forms;
+use answer::Answer;
+use writer::Writer;
+
+#[no_mangle]
+pub extern "C" fn hollytrot_writer_new() -> CWriter
+    ensures { λ r. ⌜ r ≡ cWriterOf writers.freshWriter ⌝ }
+{
+    forms::c_writer(Writer::new())
+}
+
+#[no_mangle]
+pub extern "C" fn hollytrot_writer_header(
+    writer: CWriter,
+    fields: &[u8],
+    out: &mut [u8],
+) -> CWriteResult
+    ensures answer { λ r. ⌜ r ≡ cWriteResultOf writer (writers.headerWritten (writerOf writer) (now (fields .entry)) (length (now (out .entry)))) ⌝ }
+    ensures bytes { λ _. ⌜ now (out .exit) ≡ ifAccepted (writers.headerAnswer (writerOf writer) (now (fields .entry)) (length (now (out .entry)))) (writers.headerBytes (now (fields .entry))) (now (out .entry)) ⌝ }
+{
+    let w = forms::writer_of(writer);
+    c_write_result(writer, w.header(fields, out))
+}
+
+#[no_mangle]
+pub extern "C" fn hollytrot_writer_payment(
+    writer: CWriter,
+    fields: &[u8],
+    received: u64,
+    tariff: u64,
+    out: &mut [u8],
+) -> CWriteResult
+    ensures answer { λ r. ⌜ r ≡ cWriteResultOf writer (writers.paymentWritten (writerOf writer) (now (fields .entry)) received tariff (length (now (out .entry)))) ⌝ }
+    ensures bytes { λ _. ⌜ now (out .exit) ≡ ifAccepted (writers.paymentAnswer (writerOf writer) (now (fields .entry)) received tariff (length (now (out .entry)))) (writers.paymentBytes (now (fields .entry)) received tariff) (now (out .entry)) ⌝ }
+{
+    let w = forms::writer_of(writer);
+    c_write_result(writer, w.payment(fields, received, tariff, out))
+}
+
+#[no_mangle]
+pub extern "C" fn hollytrot_writer_trailer(writer: CWriter, out: &mut [u8]) -> CWriteResult
+    ensures answer { λ r. ⌜ r ≡ cWriteResultOf writer (writers.trailerWritten (writerOf writer) (length (now (out .entry)))) ⌝ }
+    ensures bytes { λ _. ⌜ now (out .exit) ≡ ifAccepted (writers.trailerAnswer (writerOf writer) (length (now (out .entry)))) (writers.trailerBytes (writerOf writer)) (now (out .entry)) ⌝ }
+{
+    let w = forms::writer_of(writer);
+    c_write_result(writer, w.trailer(out))
+}
+
+// A refusal hands back the very writer that was given.
+fn c_write_result(given: CWriter, w: writer::WriteResult) -> CWriteResult
+    ensures { λ r. ⌜ r ≡ cWriteResultOf given w ⌝ }
+{
+    let a = w.answer;
+    let after = w.writer;
+    match a {
+        Answer::Refused(_, _) => CWriteResult {
+            answer: forms::c_answer(a),
+            writer: given,
+        },
+        Answer::Accepted => CWriteResult {
+            answer: forms::c_answer(a),
+            writer: forms::c_writer(after),
+        },
+    }
+}

@@ -1,0 +1,128 @@
+-- The board shown is the payment records of accepted files: by issuer, in order, lane for lane, in sum. Assumes nothing.
+use Prim.Native.Nat.{ℕ}
+use mathlib.Core.Bool.{Bool, true, false, cond, false≢true}
+use mathlib.Core.List.{List, [], _∷_}
+use mathlib.Core.Path.{_≡_, refl, sym, ap, ap₂, _∙_}
+use native.Mathlib.Omega.{arith}
+use borrow.Author.Tests.{eq-eqb}
+use lib.ListN.{length}
+use Rattle.answer.specs.Orders.{Each}
+use Rattle.barcode.specs.declared.Issuer.{Issuer}
+use Rattle.board.specs.declared.Tally.{Tally}
+use Rattle.board.specs.declared.Lane.{Lane}
+use Rattle.board.specs.Lanes.{sameIssuer, isLaneOf, lanesFrom, sumBy, each, only, issuersOf, isAmong, Distinct}
+use Rattle.board.proofs.Tallies.{low, alike}
+use Rattle.board.proofs.Lanes.{split, same-is, payments-add, centavos-add, sum-read, sums-agree, own-sums-agree, in-order-of-appearance, no-issuer-twice}
+use Rattle.board.proofs.Posting.{length-lanes}
+use Rattle.ledger.specs.Ledgers.{laneOfRecord, lanesOfRecords, receivedIn, ofIssuer}
+use Rattle.ledger.specs.Promises.{reached, shownLanes, acceptedRecords, LanesAreThePayments, LanesInOrder, EachLaneIsExact, SumsAreTheRecords, TotalsAreTheRecords, NoIssuerHasTwoLanes, WithinLimits}
+use Rattle.ledger.proofs.Agreement.{session-agrees}
+
+pub lanes-are-the-payments : LanesAreThePayments
+lanes-are-the-payments steps = session-agrees steps .shown
+
+pub lanes-in-order : LanesInOrder
+lanes-in-order steps = ap issuersOf (lanes-are-the-payments steps) ∙ in-order-of-appearance (lanesOfRecords (acceptedRecords steps))
+
+pub no-issuer-has-two-lanes : NoIssuerHasTwoLanes
+no-issuer-has-two-lanes steps = rw (lanes-are-the-payments steps) (no-issuer-twice (lanesOfRecords (acceptedRecords steps)))
+
+-- The sums.
+
+pub count-paid : (recs : List (List ℕ)) → sumBy (each (λ t. t .payments)) (lanesOfRecords recs) ≡ length recs
+count-paid [] = refl
+count-paid (rec ∷ recs) = omega (arith, count-paid recs)
+
+pub sum-paid : (recs : List (List ℕ)) → sumBy (each (λ t. t .centavos)) (lanesOfRecords recs) ≡ receivedIn recs
+sum-paid [] = refl
+sum-paid (rec ∷ recs) = omega (arith, sum-paid recs)
+
+pub sums-are-the-records : SumsAreTheRecords
+sums-are-the-records steps =
+    let recs = acceptedRecords steps in
+    rw (lanes-are-the-payments steps)
+    (sums-agree (λ t. t .payments) payments-add (lanesOfRecords recs) ∙ count-paid recs, sums-agree (λ t. t .centavos) centavos-add (lanesOfRecords recs) ∙ sum-paid recs)
+
+pub totals-are-the-records : TotalsAreTheRecords
+totals-are-the-records steps =
+    let sums = sums-are-the-records steps in
+    let sum = session-agrees steps .soundShown .total in
+    alike
+    (ap (λ (t : Tally). t .payments) sum ∙ sum-read (λ t. t .payments) payments-add (shownLanes steps) ∙ sums .0)
+    (ap (λ (t : Tally). t .centavos) sum ∙ sum-read (λ t. t .centavos) centavos-add (shownLanes steps) ∙ sums .1)
+
+pub within-limits : WithinLimits
+within-limits steps =
+    let sound = session-agrees steps .soundShown in
+    let totals = low (reached steps .shown .total) (sound .low) in
+    (omega (arith, length-lanes (reached steps .shown) sound, sound .few), totals .payments, totals .centavos)
+
+-- Each lane.
+
+same-self : (i : Issuer) → sameIssuer i i ≡ true
+same-self i = rw (eq-eqb (i .segment) (i .segment) refl, eq-eqb (i .number) (i .number) refl)
+
+differ : (i j : Issuer) → sameIssuer i j ≡ false → sameIssuer j i ≡ false
+differ i j e = go (sameIssuer j i) refl
+  where
+    go : (t : Bool) → sameIssuer j i ≡ t → sameIssuer j i ≡ false
+    go true q = let s = same-is j i q in absurd (false≢true (sym e ∙ ap₂ sameIssuer (sym s) s ∙ q))
+    go false q = q
+
+neither : (t u : Bool) → cond t true u ≡ false → (t ≡ false) × (u ≡ false)
+neither true u e = absurd (false≢true (sym e))
+neither false u e = (refl, e)
+
+-- where no issuer has two lanes, an issuer's sum is what its lane shows
+module _ (w : Tally → ℕ) where
+  not-there : (i : Issuer) (ls : List Lane) → isAmong i (issuersOf ls) ≡ false → sumBy (only i w) ls ≡ 0
+  not-there i [] e = refl
+  not-there i (l ∷ ls) e =
+      let n = neither (sameIssuer (l .issuer) i) (isAmong i (issuersOf ls)) e in
+      rw (n .0) (omega (arith, not-there i ls (n .1)))
+
+  behind-lane : (l : Lane) (ls ms : List Lane) → isAmong (l .issuer) (issuersOf ms) ≡ false
+      → Each (λ (m : Lane). sumBy (only (m .issuer) w) ls ≡ w (m .tally)) ms
+      → Each (λ (m : Lane). sumBy (only (m .issuer) w) (l ∷ ls) ≡ w (m .tally)) ms
+  behind-lane l ls [] e h = tt
+  behind-lane l ls (m ∷ ms) e h =
+      let n = neither (sameIssuer (m .issuer) (l .issuer)) (isAmong (l .issuer) (issuersOf ms)) e in
+      (rw (differ (m .issuer) (l .issuer) (n .0)) (omega (arith, h .0)), behind-lane l ls ms (n .1) (h .1))
+
+  own-lanes : (ls : List Lane) → Distinct (issuersOf ls) → Each (λ (l : Lane). sumBy (only (l .issuer) w) ls ≡ w (l .tally)) ls
+  own-lanes [] h = tt
+  own-lanes (l ∷ ls) h = (
+    rw (same-self (l .issuer)) (omega (arith, not-there (l .issuer) ls (h .0))),
+    behind-lane l ls ls (h .0) (own-lanes ls (h .1)),
+  )
+
+own-count : (i : Issuer) (recs : List (List ℕ)) → sumBy (only i (λ t. t .payments)) (lanesOfRecords recs) ≡ length (ofIssuer i recs)
+own-count i [] = refl
+own-count i (rec ∷ recs) =
+    split (λ (own : List (List ℕ)). sumBy (only i (λ t. t .payments)) (lanesOfRecords (rec ∷ recs)) ≡ length own) (isLaneOf i (laneOfRecord rec))
+    (λ t. rw t (omega (arith, own-count i recs)))
+    (λ t. rw t (omega (arith, own-count i recs)))
+
+own-received : (i : Issuer) (recs : List (List ℕ)) → sumBy (only i (λ t. t .centavos)) (lanesOfRecords recs) ≡ receivedIn (ofIssuer i recs)
+own-received i [] = refl
+own-received i (rec ∷ recs) =
+    split (λ (own : List (List ℕ)). sumBy (only i (λ t. t .centavos)) (lanesOfRecords (rec ∷ recs)) ≡ receivedIn own) (isLaneOf i (laneOfRecord rec))
+    (λ t. rw t (omega (arith, own-received i recs)))
+    (λ t. rw t (omega (arith, own-received i recs)))
+
+each-both : {P Q R : Lane → Type 0} → ((l : Lane) → P l → Q l → R l) → (ls : List Lane) → Each P ls → Each Q ls → Each R ls
+each-both f [] p q = tt
+each-both f (l ∷ ls) p q = (f l (p .0) (q .0), each-both f ls (p .1) (q .1))
+
+pub each-lane-is-exact : EachLaneIsExact
+each-lane-is-exact steps =
+    let recs = acceptedRecords steps in
+    let lanes = lanesFrom (lanesOfRecords recs) in
+    let once = no-issuer-twice (lanesOfRecords recs) in
+    rw (lanes-are-the-payments steps)
+    (each-both
+    (λ l p q. (
+      sym p ∙ own-sums-agree (λ t. t .payments) payments-add (l .issuer) (lanesOfRecords recs) ∙ own-count (l .issuer) recs,
+      sym q ∙ own-sums-agree (λ t. t .centavos) centavos-add (l .issuer) (lanesOfRecords recs) ∙ own-received (l .issuer) recs,
+    ))
+    lanes (own-lanes (λ t. t .payments) lanes once) (own-lanes (λ t. t .centavos) lanes once))

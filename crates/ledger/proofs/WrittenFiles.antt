@@ -1,0 +1,185 @@
+-- A file that the writer closed is whole and true, so a fresh session accepts it. Assumes nothing.
+use Prim.Native.Nat.{ℕ, _+_, _≤_}
+use mathlib.Core.List.{List, [], _∷_, map}
+use mathlib.Core.Path.{_≡_, refl, sym, ap, subst, _∙_}
+use lib.ListN.{length, length-map}
+use Rattle.answer.specs.declared.Answer.the-variants.{Accepted}
+use Rattle.answer.specs.Orders.{_then_, Each}
+use Rattle.answer.proofs.Orders.{then-accepts, accepted-takes}
+use Rattle.layout.specs.declared.Record.{Record}
+use Rattle.layout.specs.declared.Record.the-variants.{Header, Payment, Trailer}
+use Rattle.layout.specs.Layouts.{recordLength, namedBy, layoutOf, givenLength, joinedOf}
+use Rattle.layout.proofs.Layouts.{mark-names}
+use Rattle.record.specs.Values as values
+use Rattle.fields.specs.Making.{madeOf, makeAnswer}
+use Rattle.file.specs.declared.File.{File}
+use Rattle.file.specs.Files.{mostPayments, mostCentavos, freshFile, fileAnswer, fileAnswers, fileWith, fileWithAll, figuresOf, closingAnswer}
+use Rattle.file.proofs.Files.{fresh-file-takes, fresh-file-holds}
+use Rattle.writer.specs.declared.Stage.the-variants.{Open}
+use Rattle.writer.specs.declared.Writer.{Writer}
+use Rattle.writer.specs.Writers.{freshWriter, callAnswer, headerAnswer, headerBytes, paymentAnswer, paymentWritten, trailerAnswer, countBytes}
+use Rattle.writer.proofs.Written.{first-byte, written-is-accepted, fields-write-the-header, fields-write-the-payment}
+use Rattle.writer.proofs.Trailers.{fields-write-the-trailer}
+use Rattle.writer.proofs.Amounts.{written-amounts-are-read, trailer-shows-the-figures}
+use Rattle.board.specs.declared.Board.{Board}
+use Rattle.board.specs.Boards.{postAnswers}
+use Rattle.session.specs.Sessions.{closedAt}
+use Rattle.ledger.specs.Promises.{answersOf}
+use Rattle.ledger.specs.Ledgers.{receivedIn, lanesOfRecords}
+use Rattle.ledger.specs.WholeFiles.{IsRight, Whole, fileOf, receivedEach, TrueFigures, AllAccepted}
+use Rattle.ledger.specs.WrittenFiles.{Given, recordOf, writtenRecords, writerAfterPayments, PaymentsWritten, openedBy, Closed, trailerAfter, givenBy, ClosedFileIsWhole, ClosedFileIsAccepted, FieldsWriteTheFile}
+use Rattle.ledger.proofs.WholeFiles.{received-each, file-accepted, fresh-session-accepts, fresh-session-shows}
+
+-- a writer whose file is open
+abbrev opened : File → Writer
+opened f = record { stage = Open; file = f }
+
+right : (r : Record) (given amounts : List ℕ) → makeAnswer r given amounts recordLength ≡ Accepted → IsRight r (madeOf (layoutOf r) given amounts)
+right r given amounts e = (written-is-accepted r given amounts recordLength e .0, ap namedBy (first-byte r given amounts) ∙ mark-names r .0)
+
+-- payments that were written to an open file
+record Walked (f : File) (gs : List Given) : Type 0 where
+  each : Each (IsRight Payment) (writtenRecords gs)
+  fits : fileAnswers f (receivedEach (writtenRecords gs)) ≡ Accepted
+  leaves : writerAfterPayments (opened f) gs ≡ opened (fileWithAll f (receivedEach (writtenRecords gs)))
+
+walk : (f : File) (gs : List Given) → PaymentsWritten (opened f) gs → Walked f gs
+walk f [] p = record { each = tt; fits = refl; leaves = refl }
+walk f (g ∷ gs) p =
+    let amounts = g .received ∷ g .tariff ∷ [] in
+    let make = makeAnswer Payment (g .fields) amounts recordLength in
+    let asks = then-accepts (callAnswer (opened f) Payment (length (g .fields)) recordLength) (make then fileAnswer f (g .received)) .0 (p .0) .1 in
+    let both = then-accepts make (fileAnswer f (g .received)) .0 asks in
+    let x = values.paymentShown (recordOf g) .received in
+    let xs = receivedEach (writtenRecords gs) in
+    let read : x ≡ g .received = written-amounts-are-read (g .fields) (g .received) (g .tariff) recordLength (both .0) .0 in
+    let next : paymentWritten (opened f) (g .fields) (g .received) (g .tariff) recordLength .writer ≡ opened (fileWith f (g .received)) =
+    accepted-takes (paymentAnswer (opened f) (g .fields) (g .received) (g .tariff) recordLength) (opened (fileWith f (g .received))) (opened f) (p .0) in
+    let rest = walk (fileWith f (g .received)) gs (subst (λ (w : Writer). PaymentsWritten w gs) next (p .1)) in
+    record {
+      each = (right Payment (g .fields) amounts (both .0), rest .each);
+      fits =
+          then-accepts (fileAnswer f x) (fileAnswers (fileWith f x) xs) .1
+          (ap (fileAnswer f) read ∙ both .1, ap (λ (y : ℕ). fileAnswers (fileWith f y) xs) read ∙ rest .fits);
+      leaves =
+          ap (λ (w : Writer). writerAfterPayments w gs) next ∙ rest .leaves ∙ ap (λ (y : ℕ). opened (fileWithAll (fileWith f y) xs)) (sym read);
+    }
+
+counted : (recs : List (List ℕ)) → length (receivedEach recs) ≡ length recs
+counted recs = simp length-map
+
+-- a fresh file that took these payments
+holds-all : (recs : List (List ℕ)) → fileWithAll freshFile (receivedEach recs) ≡ record { taken = length recs; total = receivedIn recs }
+holds-all recs =
+    fresh-file-holds (receivedEach recs) ∙ ap (λ (n : ℕ). record { taken = length (receivedEach recs); total = n }) (received-each recs)
+    ∙ ap (λ (n : ℕ). record { taken = n; total = receivedIn recs }) (counted recs)
+
+module _ (header : List ℕ) (gs : List Given) (c : Closed header gs) where
+  opens : openedBy header ≡ opened freshFile
+  opens = accepted-takes (headerAnswer freshWriter header recordLength) (opened freshFile) freshWriter (c .opens)
+
+  walked : Walked freshFile gs
+  walked = walk freshFile gs (subst (λ (w : Writer). PaymentsWritten w gs) opens (c .pays))
+
+  abbrev last : Writer
+  last = writerAfterPayments (openedBy header) gs
+
+  file-is : last .file ≡ record { taken = length (writtenRecords gs); total = receivedIn (writtenRecords gs) }
+  file-is =
+      ap (λ (w : Writer). writerAfterPayments w gs .file) opens ∙ ap (λ (w : Writer). w .file) (walked .leaves) ∙ holds-all (writtenRecords gs)
+
+  trailer-made : makeAnswer Trailer (countBytes last) (figuresOf (last .file) .total ∷ 0 ∷ []) recordLength ≡ Accepted
+  trailer-made =
+      let make = makeAnswer Trailer (countBytes last) (figuresOf (last .file) .total ∷ 0 ∷ []) recordLength in
+      let asks = then-accepts (callAnswer last Trailer (givenLength Trailer) recordLength) (closingAnswer (last .file) then make) .0 (c .closes) .1 in
+      then-accepts (closingAnswer (last .file)) make .0 asks .1
+
+  header-made : makeAnswer Header header (0 ∷ 0 ∷ []) recordLength ≡ Accepted
+  header-made = then-accepts (callAnswer freshWriter Header (length header) recordLength) (makeAnswer Header header (0 ∷ 0 ∷ []) recordLength) .0 (c .opens) .1
+
+  whole : Whole (headerBytes header) (writtenRecords gs) (trailerAfter header gs)
+  whole =
+      record {
+        header = right Header header (0 ∷ 0 ∷ []) header-made;
+        payments = walked .each;
+        trailer = right Trailer (countBytes last) (figuresOf (last .file) .total ∷ 0 ∷ []) trailer-made;
+      }
+
+  figures : TrueFigures (writtenRecords gs) (trailerAfter header gs)
+  figures =
+      let shows = trailer-shows-the-figures last recordLength (c .closes) in
+      (shows .0 ∙ ap (λ (f : File). f .taken + 2) file-is, shows .1 ∙ ap (λ (f : File). f .total) file-is)
+
+  limits : (length (writtenRecords gs) ≤ mostPayments) × (receivedIn (writtenRecords gs) ≤ mostCentavos)
+  limits =
+      let both = fresh-file-takes (receivedEach (writtenRecords gs)) .0 (walked .fits) in
+      (subst (λ (n : ℕ). n ≤ mostPayments) (counted (writtenRecords gs)) (both .0), subst (λ (n : ℕ). n ≤ mostCentavos) (received-each (writtenRecords gs)) (both .1))
+
+pub closed-file-is-whole : ClosedFileIsWhole
+closed-file-is-whole header gs c = (whole header gs c, figures header gs c)
+
+pub closed-file-is-accepted : ClosedFileIsAccepted
+closed-file-is-accepted header gs c few =
+    let recs = writtenRecords gs in
+    let all = fresh-session-accepts (headerBytes header) recs (trailerAfter header gs) (whole header gs c) .1 (limits header gs c .0, limits header gs c .1, few, figures header gs c) in
+    (all, fresh-session-shows (headerBytes header) recs (trailerAfter header gs) (whole header gs c) all .0)
+
+-- The other way: the fields of right payments that an open file has room for write them again.
+record Rewritten (f : File) (recs : List (List ℕ)) : Type 0 where
+  pays : PaymentsWritten (opened f) (map givenBy recs)
+  same : writtenRecords (map givenBy recs) ≡ recs
+
+rewrite-all : (f : File) (recs : List (List ℕ)) → Each (IsRight Payment) recs → fileAnswers f (receivedEach recs) ≡ Accepted → Rewritten f recs
+rewrite-all f [] each room = record { pays = tt; same = refl }
+rewrite-all f (rec ∷ recs) each room =
+    let x = values.paymentShown rec .received in
+    let rooms = then-accepts (fileAnswer f x) (fileAnswers (fileWith f x) (receivedEach recs)) .0 room in
+    let write = fields-write-the-payment (opened f) rec (each .0 .0) (each .0 .1) refl (rooms .0) in
+    let g = givenBy rec in
+    let next : paymentWritten (opened f) (g .fields) (g .received) (g .tariff) recordLength .writer ≡ opened (fileWith f x) =
+    accepted-takes (paymentAnswer (opened f) (g .fields) (g .received) (g .tariff) recordLength) (opened (fileWith f x)) (opened f) (write .0) in
+    let rest = rewrite-all (fileWith f x) recs (each .1) (rooms .1) in
+    record {
+      pays = (write .0, subst (λ (w : Writer). PaymentsWritten w (map givenBy recs)) (sym next) (rest .pays));
+      same = ap (λ (r : List ℕ). r ∷ writtenRecords (map givenBy recs)) (write .1) ∙ ap (λ (l : List (List ℕ)). rec ∷ l) (rest .same);
+    }
+
+module _ (b : Board) (a : List ℕ) (recs : List (List ℕ)) (z : List ℕ) (w : Whole a recs z) (e : AllAccepted (answersOf (closedAt b) (fileOf a recs z))) where
+  abbrev header : List ℕ
+  header = joinedOf Header a
+
+  abbrev gs : List Given
+  gs = map givenBy recs
+
+  accepted : (fileAnswers freshFile (receivedEach recs) ≡ Accepted) × (postAnswers b (lanesOfRecords recs) ≡ Accepted) × TrueFigures recs z
+  accepted = file-accepted b a recs z w .0 e
+
+  again : Rewritten freshFile recs
+  again = rewrite-all freshFile recs (w .payments) (accepted .0)
+
+  head : (headerAnswer freshWriter header recordLength ≡ Accepted) × (headerBytes header ≡ a)
+  head = fields-write-the-header a (w .header .0) (w .header .1)
+
+  starts : openedBy header ≡ opened freshFile
+  starts = accepted-takes (headerAnswer freshWriter header recordLength) (opened freshFile) freshWriter (head .0)
+
+  pays-all : PaymentsWritten (openedBy header) gs
+  pays-all = subst (λ (x : Writer). PaymentsWritten x gs) (sym starts) (again .pays)
+
+  end : writerAfterPayments (openedBy header) gs ≡ opened (record { taken = length recs; total = receivedIn recs })
+  end =
+      ap (λ (x : Writer). writerAfterPayments x gs) starts ∙ walk freshFile gs (again .pays) .leaves
+      ∙ ap (λ (l : List (List ℕ)). opened (fileWithAll freshFile (receivedEach l))) (again .same) ∙ ap opened (holds-all recs)
+
+  tail : (trailerAnswer (writerAfterPayments (openedBy header) gs) recordLength ≡ Accepted) × (trailerAfter header gs ≡ z)
+  tail =
+      let last = opened (record { taken = length recs; total = receivedIn recs }) in
+      let write = fields-write-the-trailer last z (w .trailer .0) (w .trailer .1) refl (accepted .2 .0) (accepted .2 .1) in
+      rw end write
+
+pub fields-write-the-file : FieldsWriteTheFile
+fields-write-the-file b a recs z w e =
+    let again = again b a recs z w e in
+    let tail = tail b a recs z w e in
+    let head = head b a recs z w e in
+    (record { opens = head .0; pays = pays-all b a recs z w e; closes = tail .0 }, rw (head .1, again .same, tail .1))

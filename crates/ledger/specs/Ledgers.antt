@@ -1,0 +1,138 @@
+-- The book: what becomes of the records' bytes, with no session and no board (document 01, "Sessions and the board"). Assumes nothing.
+use Prim.Native.Nat.{ℕ, _+_}
+use mathlib.Core.Bool.{Bool, true, false, cond}
+use mathlib.Core.List.{List, [], _∷_, _++_, map}
+use mathlib.Core.Option.{Option, none, some}
+use lib.Dec.{eqb, ltb, leb}
+use lib.ListN.{length, getD}
+use Rattle.answer.specs.Refusals.{receivedPlace}
+use Rattle.answer.specs.declared.Reason.the-variants.{WrongLength, NotExpected, CountDiffers, TotalDiffers, FileFull, FileTotalPassed}
+use Rattle.answer.specs.declared.Answer.{Answer}
+use Rattle.answer.specs.declared.Answer.the-variants.{Accepted}
+use Rattle.answer.specs.Orders.{require, _then_, ifAccepted}
+use Rattle.barcode.specs.declared.Issuer.{Issuer}
+use Rattle.layout.specs.declared.MaybeRecord.{MaybeRecord}
+use Rattle.layout.specs.declared.MaybeRecord.the-variants.{Is, Other}
+use Rattle.layout.specs.declared.Record.the-variants.{Header, Payment, Trailer}
+use Rattle.layout.specs.Layouts.{recordLength, namedBy}
+use Rattle.record.specs.Records.{recordAnswer}
+use Rattle.record.specs.Values.{paymentShown, trailerShown}
+use Rattle.file.specs.Files.{mostPayments, mostCentavos, countPlace, totalPlace}
+use Rattle.board.specs.declared.Lane.{Lane}
+use Rattle.board.specs.Lanes.{sameIssuer}
+use Rattle.board.specs.Boards.{answerAfter}
+use Rattle.session.specs.Sessions.{laneOfPayment}
+
+-- a file as it came: its header's bytes and its payment records' bytes, the latest last
+pub record Filed : Type 0 where
+  pub header : List ℕ
+  pub payments : List (List ℕ)
+
+-- the accepted files, the latest last, and the open file if there is one
+pub record Ledger : Type 0 where
+  pub accepted : List Filed
+  pub opened : Option Filed
+
+abbrev pub freshLedger : Ledger
+freshLedger = record { accepted = []; opened = none }
+
+-- Read off payment records.
+
+-- the payment records of files, in the order in which they came
+abbrev pub paymentRecords : List Filed → List (List ℕ)
+paymentRecords [] = []
+paymentRecords (f ∷ fs) = f .payments ++ paymentRecords fs
+
+abbrev pub openRecords : Option Filed → List (List ℕ)
+openRecords none = []
+openRecords (some f) = f .payments
+
+-- what is paid: each record is a lane of one
+abbrev pub laneOfRecord : List ℕ → Lane
+laneOfRecord rec = laneOfPayment (paymentShown rec)
+
+abbrev pub lanesOfRecords : List (List ℕ) → List Lane
+lanesOfRecords recs = map laneOfRecord recs
+
+-- the centavos that they received
+abbrev pub receivedIn : List (List ℕ) → ℕ
+receivedIn [] = 0
+receivedIn (rec ∷ recs) = paymentShown rec .received + receivedIn recs
+
+-- those that name this issuer
+abbrev pub ofIssuer : Issuer → List (List ℕ) → List (List ℕ)
+ofIssuer i [] = []
+ofIssuer i (rec ∷ recs) = cond (sameIssuer (paymentShown rec .barcode .issuer) i) (rec ∷ ofIssuer i recs) (ofIssuer i recs)
+
+-- The answer to a record.
+
+-- with no file open A is expected; in an open file G or Z
+abbrev pub awaits : Option Filed → MaybeRecord → Bool
+awaits none (Is Header) = true
+awaits none (Is Payment) = false
+awaits none (Is Trailer) = false
+awaits none Other = false
+awaits (some f) (Is Header) = false
+awaits (some f) (Is Payment) = true
+awaits (some f) (Is Trailer) = true
+awaits (some f) Other = false
+
+-- a G: 15, 16 from the open file's payments; 17, 18 from those of all accepted files and of the open one
+abbrev pub paymentStateAnswer : List Filed → Filed → List ℕ → Answer
+paymentStateAnswer files f rec =
+    require (ltb (length (f .payments)) mostPayments) FileFull 1
+    then require (leb (receivedIn (f .payments) + paymentShown rec .received) mostCentavos) FileTotalPassed receivedPlace
+    then answerAfter (lanesOfRecords (paymentRecords files ++ f .payments)) (laneOfRecord rec)
+
+-- a Z: 13, the number of the file's records, A and Z included; 14, what its payments received
+abbrev pub trailerStateAnswer : Filed → List ℕ → Answer
+trailerStateAnswer f rec =
+    require (eqb (trailerShown rec .count) (length (f .payments) + 2)) CountDiffers countPlace
+    then require (eqb (trailerShown rec .total) (receivedIn (f .payments))) TotalDiffers totalPlace
+
+-- with no file open only A comes so far, and it is asked no more
+abbrev pub stateAnswer : List Filed → Option Filed → MaybeRecord → List ℕ → Answer
+stateAnswer files none named rec = Accepted
+stateAnswer files (some f) (Is Header) rec = Accepted
+stateAnswer files (some f) (Is Payment) rec = paymentStateAnswer files f rec
+stateAnswer files (some f) (Is Trailer) rec = trailerStateAnswer f rec
+stateAnswer files (some f) Other rec = Accepted
+
+-- record: 1, 9, its own, then the book's
+abbrev pub ledgerAnswer : Ledger → List ℕ → Answer
+ledgerAnswer k rec =
+    require (eqb (length rec) recordLength) WrongLength 0
+    then require (awaits (k .opened) (namedBy (getD rec 0 0))) NotExpected 1
+    then recordAnswer rec
+    then stateAnswer (k .accepted) (k .opened) (namedBy (getD rec 0 0)) rec
+
+-- The book that follows.
+
+-- an accepted A opens a file, a G joins it, a Z has it accepted
+abbrev pub withRecord : List Filed → Option Filed → MaybeRecord → List ℕ → Ledger
+withRecord files none named rec = record { accepted = files; opened = some (record { header = rec; payments = [] }) }
+withRecord files (some f) (Is Header) rec = record { accepted = files; opened = some f }
+withRecord files (some f) (Is Payment) rec =
+    record { accepted = files; opened = some (record { header = f .header; payments = f .payments ++ (rec ∷ []) }) }
+withRecord files (some f) (Is Trailer) rec = record { accepted = files ++ (f ∷ []); opened = none }
+withRecord files (some f) Other rec = record { accepted = files; opened = some f }
+
+-- a record is taken, of any bytes, or the open file is abandoned
+pub data Step : Type 0 where
+  taking : List ℕ → Step
+  abandoning : Step
+
+-- a refused record changes nothing; abandoning drops the open file
+abbrev pub noted : Ledger → Step → Ledger
+noted k (taking rec) = ifAccepted (ledgerAnswer k rec) (withRecord (k .accepted) (k .opened) (namedBy (getD rec 0 0)) rec) k
+noted k abandoning = record { accepted = k .accepted; opened = none }
+
+abbrev pub ledgerAfter : Ledger → List Step → Ledger
+ledgerAfter k [] = k
+ledgerAfter k (step ∷ steps) = ledgerAfter (noted k step) steps
+
+-- the answers to the records taken, one after the other
+abbrev pub ledgerAnswers : Ledger → List Step → List Answer
+ledgerAnswers k [] = []
+ledgerAnswers k (taking rec ∷ steps) = ledgerAnswer k rec ∷ ledgerAnswers (noted k (taking rec)) steps
+ledgerAnswers k (abandoning ∷ steps) = ledgerAnswers (noted k abandoning) steps

@@ -1,0 +1,6 @@
+pub mod Ledgers
+pub mod Promises
+pub mod WholeFiles
+pub mod WrittenFiles
+pub mod Runs
+pub mod Samples

@@ -1,0 +1,169 @@
+-- The session beside the book (document 01, "Sessions and the board"; demand 2). Assumes nothing.
+use Prim.Native.Nat.{ℕ, _+_, _≤_}
+use mathlib.Core.Bool.{Bool, true, false}
+use mathlib.Core.List.{List, [], _∷_, _++_}
+use mathlib.Core.Logic.{_↔_}
+use mathlib.Core.Option.{Option, none, some}
+use mathlib.Core.Path.{_≡_}
+use lib.ListN.{length, getD}
+use Rattle.answer.specs.declared.Answer.{Answer}
+use Rattle.answer.specs.declared.Answer.the-variants.{Accepted}
+use Rattle.answer.specs.Refusals.{answerNumber, answerPlace}
+use Rattle.answer.specs.Orders.{Each}
+use Rattle.layout.specs.declared.MaybeRecord.the-variants.{Is}
+use Rattle.layout.specs.declared.Record.the-variants.{Trailer}
+use Rattle.layout.specs.Layouts.{namedBy}
+use Rattle.record.specs.Records.{recordAnswer}
+use Rattle.record.specs.Values.{trailerShown}
+use Rattle.board.specs.declared.Lane.{Lane}
+use Rattle.board.specs.Lanes.{mostLanes, limit, lanesFrom, sumBy, each, issuersOf, appearing, Distinct}
+use Rattle.board.specs.Boards.{lanesOf, SoundBoard}
+use Rattle.session.specs.declared.Session.{Session}
+use Rattle.session.specs.Sessions.{freshSession, takeAnswer, takeOf, abandonOf, finishOf}
+use Rattle.ledger.specs.Ledgers.{Filed, Ledger, freshLedger, paymentRecords, openRecords, lanesOfRecords, receivedIn, ofIssuer, ledgerAnswer, Step, taking, abandoning, ledgerAfter, ledgerAnswers}
+
+-- The same steps through a session.
+
+abbrev pub stepped : Session → Step → Session
+stepped s (taking rec) = takeOf s rec .session
+stepped s abandoning = abandonOf s
+
+abbrev pub sessionAfter : Session → List Step → Session
+sessionAfter s [] = s
+sessionAfter s (step ∷ steps) = sessionAfter (stepped s step) steps
+
+abbrev pub answersOf : Session → List Step → List Answer
+answersOf s [] = []
+answersOf s (taking rec ∷ steps) = takeOf s rec .answer ∷ answersOf (takeOf s rec .session) steps
+answersOf s (abandoning ∷ steps) = answersOf (abandonOf s) steps
+
+-- From a fresh session and a fresh book: the board shown, and the payment records of the accepted files.
+
+abbrev pub reached : List Step → Session
+reached steps = sessionAfter freshSession steps
+
+abbrev pub ledgerOf : List Step → Ledger
+ledgerOf steps = ledgerAfter freshLedger steps
+
+abbrev pub shownLanes : List Step → List Lane
+shownLanes steps = lanesOf (reached steps .shown)
+
+abbrev pub acceptedRecords : List Step → List (List ℕ)
+acceptedRecords steps = paymentRecords (ledgerOf steps .accepted)
+
+-- The invariant: the board shown has the payments of the accepted files, the working board those of the open file too.
+
+abbrev pub isOpen : Option Filed → Bool
+isOpen none = false
+isOpen (some f) = true
+
+abbrev pub allRecords : Ledger → List (List ℕ)
+allRecords k = paymentRecords (k .accepted) ++ openRecords (k .opened)
+
+pub record Agrees (s : Session) (k : Ledger) : Type 0 where
+  pub opened : s .opened ≡ isOpen (k .opened)
+  pub shown : lanesOf (s .shown) ≡ lanesFrom (lanesOfRecords (paymentRecords (k .accepted)))
+  pub work : lanesOf (s .work) ≡ lanesFrom (lanesOfRecords (allRecords k))
+  pub taken : s .file .taken ≡ length (openRecords (k .opened))
+  pub total : s .file .total ≡ receivedIn (openRecords (k .opened))
+  pub soundShown : SoundBoard (s .shown)
+  pub soundWork : SoundBoard (s .work)
+
+-- Promises: of any list of steps from a fresh session.
+
+abbrev pub SessionAgrees : Type 0
+SessionAgrees = (steps : List Step) → Agrees (reached steps) (ledgerOf steps)
+
+-- the answers are the book's, step by step, and so is the answer to whatever record comes next
+abbrev pub AnswersAreTheLedgers : Type 0
+AnswersAreTheLedgers = (steps : List Step) → answersOf freshSession steps ≡ ledgerAnswers freshLedger steps
+
+abbrev pub NextAnswerIsTheLedgers : Type 0
+NextAnswerIsTheLedgers = (steps : List Step) (rec : List ℕ) → takeAnswer (reached steps) rec ≡ ledgerAnswer (ledgerOf steps) rec
+
+-- the lanes shown are the payments of the accepted files gathered by issuer, in the order of first appearance
+abbrev pub LanesAreThePayments : Type 0
+LanesAreThePayments = (steps : List Step) → shownLanes steps ≡ lanesFrom (lanesOfRecords (acceptedRecords steps))
+
+abbrev pub LanesInOrder : Type 0
+LanesInOrder = (steps : List Step) → issuersOf (shownLanes steps) ≡ appearing [] (lanesOfRecords (acceptedRecords steps))
+
+-- each lane shows exactly the payments of its issuer: their number and the centavos received, at full size
+abbrev pub EachLaneIsExact : Type 0
+EachLaneIsExact =
+    (steps : List Step)
+    → Each
+    (λ (l : Lane).
+    (l .tally .payments ≡ length (ofIssuer (l .issuer) (acceptedRecords steps)))
+    × (l .tally .centavos ≡ receivedIn (ofIssuer (l .issuer) (acceptedRecords steps))))
+    (shownLanes steps)
+
+-- the sums over the lanes, and the board's totals, are the sums over the payment records of all accepted files
+abbrev pub SumsAreTheRecords : Type 0
+SumsAreTheRecords =
+    (steps : List Step)
+    → (sumBy (each (λ t. t .payments)) (shownLanes steps) ≡ length (acceptedRecords steps))
+    × (sumBy (each (λ t. t .centavos)) (shownLanes steps) ≡ receivedIn (acceptedRecords steps))
+
+abbrev pub TotalsAreTheRecords : Type 0
+TotalsAreTheRecords =
+    (steps : List Step)
+    → reached steps .shown .total ≡ record { payments = length (acceptedRecords steps); centavos = receivedIn (acceptedRecords steps) }
+
+abbrev pub NoIssuerHasTwoLanes : Type 0
+NoIssuerHasTwoLanes = (steps : List Step) → Distinct (issuersOf (shownLanes steps))
+
+abbrev pub WithinLimits : Type 0
+WithinLimits =
+    (steps : List Step)
+    → (length (shownLanes steps) ≤ mostLanes) × (reached steps .shown .total .payments ≤ limit) × (reached steps .shown .total .centavos ≤ limit)
+
+-- a Z whose fields are right, in an open file, is accepted exactly when its count and total are the true ones
+abbrev pub TrueTrailersOnly : Type 0
+TrueTrailersOnly =
+    (steps : List Step) (f : Filed) (rec : List ℕ)
+    → ledgerOf steps .opened ≡ some f → recordAnswer rec ≡ Accepted → namedBy (getD rec 0 0) ≡ Is Trailer
+    → (takeAnswer (reached steps) rec ≡ Accepted)
+    ↔ ((trailerShown rec .count ≡ length (f .payments) + 2) × (trailerShown rec .total ≡ receivedIn (f .payments)))
+
+-- Promises: of any session, one put together by hand included.
+
+-- a refused record changes nothing
+abbrev pub RefusalKeepsSession : Type 0
+RefusalKeepsSession = (s : Session) (rec : List ℕ) → (takeOf s rec .answer ≡ Accepted → ⊥) → takeOf s rec .session ≡ s
+
+-- the board shown stays as it was until a Z is accepted; then the payments of the open file appear together
+abbrev pub OnlyTrailersShow : Type 0
+OnlyTrailersShow = (s : Session) (rec : List ℕ) → (namedBy (getD rec 0 0) ≡ Is Trailer → ⊥) → takeOf s rec .session .shown ≡ s .shown
+
+abbrev pub TrailersShowAll : Type 0
+TrailersShowAll =
+    (s : Session) (rec : List ℕ) → namedBy (getD rec 0 0) ≡ Is Trailer → takeOf s rec .answer ≡ Accepted → takeOf s rec .session .shown ≡ s .work
+
+abbrev pub NoTrailer : Step → Type 0
+NoTrailer (taking rec) = namedBy (getD rec 0 0) ≡ Is Trailer → ⊥
+NoTrailer abandoning = Unit {0}
+
+abbrev pub NothingShowsBefore : Type 0
+NothingShowsBefore = (s : Session) (steps : List Step) → Each NoTrailer steps → sessionAfter s steps .shown ≡ s .shown
+
+-- an abandoned file leaves the board as it was; with no file open nothing changes
+abbrev pub AbandonKeepsBoard : Type 0
+AbandonKeepsBoard = (s : Session) → abandonOf s .shown ≡ s .shown
+
+abbrev pub AbandonDropsFile : Type 0
+AbandonDropsFile = (s : Session) → abandonOf s .opened ≡ false
+
+abbrev pub AbandonNothing : Type 0
+AbandonNothing = (s : Session) → s .opened ≡ false → abandonOf s ≡ s
+
+-- finishing changes nothing, and answers 19 at place 0 while a file is open, else 0
+abbrev pub FinishKeepsSession : Type 0
+FinishKeepsSession = (s : Session) → finishOf s .session ≡ s
+
+abbrev pub FinishAnswers : Type 0
+FinishAnswers =
+    (s : Session)
+    → ((answerNumber (finishOf s .answer) ≡ 19) ↔ (s .opened ≡ true))
+    × ((answerNumber (finishOf s .answer) ≡ 0) ↔ (s .opened ≡ false))
+    × (answerPlace (finishOf s .answer) ≡ 0)

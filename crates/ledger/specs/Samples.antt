@@ -1,0 +1,182 @@
+-- The worked file of document 01, a day past 32 bits, and the turns of a session, each from a fresh one. Assumes nothing.
+use Prim.Native.Nat.{ℕ, zero, suc, _+_}
+use mathlib.Core.List.{List, [], _∷_, _++_, map}
+use mathlib.Core.Path.{_≡_}
+use lib.ListN.{replicate}
+use Rattle.answer.specs.declared.Answer.{Answer}
+use Rattle.answer.specs.Refusals.{answerNumber, answerPlace}
+use Rattle.decimal.specs.Numbers.{digitsOf}
+use Rattle.barcode.specs.declared.Issuer.{Issuer}
+use Rattle.barcode.specs.Building.{builtOf}
+use Rattle.kinds.specs.Kinds.{version, serviceOf}
+use Rattle.board.specs.declared.Tally.{Tally}
+use Rattle.board.specs.declared.Lane.{Lane}
+use Rattle.board.specs.Lanes.{none}
+use Rattle.session.specs.Sessions.{freshSession, finishOf}
+use Rattle.ledger.specs.Ledgers.{Step, taking, abandoning}
+use Rattle.ledger.specs.Promises.{answersOf, reached, shownLanes}
+
+-- The records: 150 bytes each, the texts blank.
+
+abbrev pub blanks : ℕ → List ℕ
+blanks n = replicate n 32
+
+abbrev pub header : List ℕ
+header =
+    65 ∷ 50 ∷ blanks 40 ++ (digitsOf 3 1 ++ (blanks 20 ++ (digitsOf 8 20230102 ++ (digitsOf 6 1 ++ (version ++ (serviceOf 79 ++ blanks 52))))))
+
+-- the barcode of P4, its line without the four box checks, and its issuer
+abbrev pub code : List ℕ
+code = digitsOf 44 81770000000_01093659970_41131079703_00143370831
+
+abbrev pub sampleIssuer : Issuer
+sampleIssuer = record { segment = 1; number = 3659 }
+
+abbrev pub paymentBy : List ℕ → ℕ → List ℕ
+paymentBy barcode received =
+    71 ∷ blanks 20
+    ++ (digitsOf 8 20230102 ++ (digitsOf 8 20230103 ++ (barcode ++ (digitsOf 12 received ++ (digitsOf 7 0 ++ (digitsOf 8 1
+    ++ (blanks 8 ++ (49 ∷ blanks 23 ++ (49 ∷ blanks 9)))))))))
+
+abbrev pub payment : ℕ → List ℕ
+payment received = paymentBy code received
+
+-- a payment to any issuer, with a barcode of kind 7, value and free field zero
+abbrev pub paymentTo : Issuer → ℕ → List ℕ
+paymentTo i received = paymentBy (builtOf i 7 0 (digitsOf 25 0)) received
+
+abbrev pub trailer : ℕ → ℕ → List ℕ
+trailer count total = 90 ∷ digitsOf 6 count ++ (digitsOf 17 total ++ blanks 126)
+
+-- What comes of steps, with the paper's numbers.
+
+pub record Answered : Type 0 where
+  pub number : ℕ
+  pub place : ℕ
+
+abbrev pub answeredOf : Answer → Answered
+answeredOf a = record { number = answerNumber a; place = answerPlace a }
+
+abbrev pub accepted : Answered
+accepted = record { number = 0; place = 0 }
+
+-- the answers to the records, the answer to finishing after them, the lanes shown and their sum
+pub record Outcome : Type 0 where
+  pub answers : List Answered
+  pub finish : Answered
+  pub lanes : List Lane
+  pub total : Tally
+
+abbrev pub outcomeOf : List Step → Outcome
+outcomeOf steps =
+    record {
+      answers = map answeredOf (answersOf freshSession steps);
+      finish = answeredOf (finishOf (reached steps) .answer);
+      lanes = shownLanes steps;
+      total = reached steps .shown .total;
+    }
+
+-- nothing is shown, or one lane of P4's issuer
+abbrev pub nothing : List Answered → Answered → Outcome
+nothing answers finish = record { answers = answers; finish = finish; lanes = []; total = none }
+
+abbrev pub oneLane : List Answered → Tally → Outcome
+oneLane answers t = record { answers = answers; finish = accepted; lanes = record { issuer = sampleIssuer; tally = t } ∷ []; total = t }
+
+abbrev pub tally : ℕ → ℕ → Tally
+tally payments centavos = record { payments = payments; centavos = centavos }
+
+pub record Sample : Type 0 where
+  pub steps : List Step
+  pub outcome : Outcome
+
+-- "The board on paper": one G with the barcode of P4 and 109 centavos received
+abbrev pub worked : Sample
+worked =
+    record {
+      steps = taking header ∷ taking (payment 109) ∷ taking (trailer 3 109) ∷ [];
+      outcome = oneLane (accepted ∷ accepted ∷ accepted ∷ []) (tally 1 109);
+    }
+
+-- a day of two files whose one lane passes 4,294,967,296 centavos
+abbrev pub past : Sample
+past =
+    record {
+      steps =
+          taking header ∷ taking (payment 4_294_967_295) ∷ taking (trailer 3 4_294_967_295)
+          ∷ taking header ∷ taking (payment 2) ∷ taking (payment 999_999_999_999) ∷ taking (trailer 4 1_000_000_000_001) ∷ [];
+      outcome =
+          oneLane (accepted ∷ accepted ∷ accepted ∷ accepted ∷ accepted ∷ accepted ∷ accepted ∷ []) (tally 3 1_004_294_967_296);
+    }
+
+-- the file stays open when its Z is refused: 13, 14, then the right one
+abbrev pub again : Sample
+again =
+    record {
+      steps = taking header ∷ taking (payment 109) ∷ taking (trailer 2 109) ∷ taking (trailer 3 1) ∷ taking (trailer 3 109) ∷ [];
+      outcome =
+          oneLane (accepted ∷ accepted ∷ record { number = 13; place = 2 } ∷ record { number = 14; place = 8 } ∷ accepted ∷ [])
+          (tally 1 109);
+    }
+
+-- an abandoned file leaves no payment behind, and A is expected again
+abbrev pub left : Sample
+left =
+    record {
+      steps = taking header ∷ taking (payment 109) ∷ abandoning ∷ taking (payment 109) ∷ abandoning ∷ taking header ∷ [];
+      outcome =
+          nothing (accepted ∷ accepted ∷ record { number = 9; place = 1 } ∷ accepted ∷ []) (record { number = 19; place = 0 });
+    }
+
+-- G and Z without a file, A in a file, no bytes at all, and no records
+abbrev pub astray : Sample
+astray =
+    record {
+      steps = taking (payment 109) ∷ taking (trailer 2 0) ∷ taking [] ∷ taking header ∷ taking header ∷ abandoning ∷ [];
+      outcome =
+          nothing
+          (record { number = 9; place = 1 } ∷ record { number = 9; place = 1 } ∷ record { number = 1; place = 0 } ∷ accepted
+          ∷ record { number = 9; place = 1 } ∷ [])
+          accepted;
+    }
+
+abbrev pub empty : Sample
+empty = record { steps = []; outcome = nothing [] accepted }
+
+-- code 3659 in segments 1 and 2 is two issuers; lanes stand in the order of first appearance, an abandoned file's have none
+abbrev pub two : Issuer
+two = record { segment = 2; number = 3659 }
+
+abbrev pub ordered : Sample
+ordered =
+    record {
+      steps =
+          taking header ∷ taking (payment 5) ∷ abandoning
+          ∷ taking header ∷ taking (paymentTo two 10) ∷ taking (payment 20) ∷ taking (paymentTo two 30) ∷ taking (trailer 5 60) ∷ [];
+      outcome =
+          record {
+            answers = accepted ∷ accepted ∷ accepted ∷ accepted ∷ accepted ∷ accepted ∷ accepted ∷ [];
+            finish = accepted;
+            lanes = record { issuer = two; tally = tally 2 40 } ∷ record { issuer = sampleIssuer; tally = tally 1 20 } ∷ [];
+            total = tally 3 60;
+          };
+    }
+
+-- 64 issuers, then a 65th, refused 17 at 53, then the first again
+abbrev pub manyIssuers : ℕ → ℕ → List Step
+manyIssuers zero n = []
+manyIssuers (suc left) n = taking (paymentTo (record { segment = 1; number = n }) 1) ∷ manyIssuers left (n + 1)
+
+abbrev pub crowded : Sample
+crowded =
+    record {
+      steps = taking header ∷ (manyIssuers 65 1 ++ manyIssuers 1 1);
+      outcome = nothing (replicate 65 accepted ++ (record { number = 17; place = 53 } ∷ accepted ∷ [])) (record { number = 19; place = 0 });
+    }
+
+abbrev pub samples : List Sample
+samples = worked ∷ past ∷ again ∷ left ∷ astray ∷ empty ∷ ordered ∷ crowded ∷ []
+
+-- Promise: each sample comes out as it is said to.
+abbrev pub Hold : List Sample → Type 0
+Hold ss = map (λ (s : Sample). outcomeOf (s .steps)) ss ≡ map (λ (s : Sample). s .outcome) ss

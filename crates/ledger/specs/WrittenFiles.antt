@@ -1,0 +1,80 @@
+-- A file that the writer closed, as a fresh session takes it. Assumes nothing.
+use Prim.Native.Nat.{ℕ, _≤_}
+use mathlib.Core.List.{List, [], _∷_, map}
+use mathlib.Core.Path.{_≡_}
+use lib.ListN.{length}
+use Rattle.answer.specs.declared.Answer.the-variants.{Accepted}
+use Rattle.layout.specs.declared.Record.the-variants.{Header, Payment}
+use Rattle.layout.specs.Layouts.{recordLength, joinedOf}
+use Rattle.record.specs.Values as values
+use Rattle.board.specs.declared.Board.{Board}
+use Rattle.board.specs.Lanes.{mostLanes, lanesFrom}
+use Rattle.session.specs.Sessions.{freshSession, closedAt}
+use Rattle.writer.specs.declared.Writer.{Writer}
+use Rattle.writer.specs.Writers.{freshWriter, headerAnswer, headerWritten, headerBytes, paymentAnswer, paymentWritten, paymentBytes, trailerAnswer, trailerBytes}
+use Rattle.ledger.specs.Ledgers.{Step, lanesOfRecords}
+use Rattle.ledger.specs.Promises.{answersOf, shownLanes}
+use Rattle.ledger.specs.WholeFiles.{Whole, fileOf, TrueFigures, AllAccepted}
+
+-- a payment as the writer is given it, and the record that it writes
+pub record Given : Type 0 where
+  pub fields : List ℕ
+  pub received : ℕ
+  pub tariff : ℕ
+
+abbrev pub recordOf : Given → List ℕ
+recordOf g = paymentBytes (g .fields) (g .received) (g .tariff)
+
+abbrev pub writtenRecords : List Given → List (List ℕ)
+writtenRecords gs = map recordOf gs
+
+-- payments written one after the other: the writer that follows, and that each is accepted
+abbrev pub writerAfterPayments : Writer → List Given → Writer
+writerAfterPayments w [] = w
+writerAfterPayments w (g ∷ gs) = writerAfterPayments (paymentWritten w (g .fields) (g .received) (g .tariff) recordLength .writer) gs
+
+abbrev pub PaymentsWritten : Writer → List Given → Type 0
+PaymentsWritten w [] = Unit {0}
+PaymentsWritten w (g ∷ gs) =
+    (paymentAnswer w (g .fields) (g .received) (g .tariff) recordLength ≡ Accepted)
+    × PaymentsWritten (paymentWritten w (g .fields) (g .received) (g .tariff) recordLength .writer) gs
+
+abbrev pub openedBy : List ℕ → Writer
+openedBy header = headerWritten freshWriter header recordLength .writer
+
+-- a fresh writer accepted a header, payments and its trailer
+pub record Closed (header : List ℕ) (gs : List Given) : Type 0 where
+  pub opens : headerAnswer freshWriter header recordLength ≡ Accepted
+  pub pays : PaymentsWritten (openedBy header) gs
+  pub closes : trailerAnswer (writerAfterPayments (openedBy header) gs) recordLength ≡ Accepted
+
+abbrev pub trailerAfter : List ℕ → List Given → List ℕ
+trailerAfter header gs = trailerBytes (writerAfterPayments (openedBy header) gs)
+
+abbrev pub writtenFile : List ℕ → List Given → List Step
+writtenFile header gs = fileOf (headerBytes header) (writtenRecords gs) (trailerAfter header gs)
+
+-- what the writer is given of a payment's record: its fields, joined, and its two amounts
+abbrev pub givenBy : List ℕ → Given
+givenBy rec =
+    record { fields = joinedOf Payment rec; received = values.paymentShown rec .received; tariff = values.paymentShown rec .tariff }
+
+-- Promises.
+
+-- it is one A, its Gs and one Z, each right in itself, with the true count and total
+abbrev pub ClosedFileIsWhole : Type 0
+ClosedFileIsWhole =
+    (header : List ℕ) (gs : List Given) → Closed header gs
+    → Whole (headerBytes header) (writtenRecords gs) (trailerAfter header gs) × TrueFigures (writtenRecords gs) (trailerAfter header gs)
+
+-- a fresh session accepts it, unless it names over 64 issuers, and then shows its payments
+abbrev pub ClosedFileIsAccepted : Type 0
+ClosedFileIsAccepted =
+    (header : List ℕ) (gs : List Given) → Closed header gs → length (lanesFrom (lanesOfRecords (writtenRecords gs))) ≤ mostLanes
+    → AllAccepted (answersOf freshSession (writtenFile header gs)) × (shownLanes (writtenFile header gs) ≡ lanesFrom (lanesOfRecords (writtenRecords gs)))
+
+-- the fields of a file that a session accepted, given to a fresh writer, are that file again, its trailer too
+abbrev pub FieldsWriteTheFile : Type 0
+FieldsWriteTheFile =
+    (b : Board) (a : List ℕ) (recs : List (List ℕ)) (z : List ℕ) → Whole a recs z → AllAccepted (answersOf (closedAt b) (fileOf a recs z))
+    → Closed (joinedOf Header a) (map givenBy recs) × (writtenFile (joinedOf Header a) (map givenBy recs) ≡ fileOf a recs z)

@@ -1,0 +1,217 @@
+-- Laws of what the quick look asks, row by row and part by part. Assumes nothing.
+use Prim.Native.Nat.{ℕ, _+_, _-_, _≤_, _<_}
+use mathlib.Core.Bool.{Bool, true, false, cond, _&&_, and-true, _||_, and-eq-true-iff}
+use mathlib.Core.List.{List, [], _∷_, _++_}
+use mathlib.Core.Logic.{_↔_}
+use mathlib.Core.Path.{_≡_, refl, sym, ap, _∙_}
+use native.Mathlib.Numerals.{add-one}
+use native.Mathlib.Omega.{arith}
+use borrow.Author.Tests.{eqb-true, eq-eqb, leb-true, le-leb}
+use lib.Bits.{bitOr}
+use lib.Dec.{eqb, leb}
+use lib.ListN.{length, getD, take, drop, length-drop, drop-of-length-le}
+use lib.Seq.{take-all, drop-cons, length-take-le, drop-drop, take-take, take-add}
+use Rattle.answer.specs.declared.Reason.the-variants.{NoDigit, NoText, FixedDiffers, NoDate, UnknownCode}
+use Rattle.answer.specs.declared.Answer.the-variants.{Accepted}
+use Rattle.answer.specs.Orders.{require, _then_}
+use Rattle.answer.proofs.Orders.{asked-accepts, then-accepts}
+use Rattle.decimal.specs.declared.Class.the-variants.{Digit, Blank, Text}
+use Rattle.decimal.specs.Bytes.{isOf, all, within, eachIs}
+use Rattle.decimal.proofs.Bytes.{flag-on, row-fails, row-passes, last-row, two-flags, all-joins, all-of-part, each-accepts}
+use Rattle.decimal.specs.Places.{places}
+use Rattle.decimal.proofs.Finite.{never}
+use Rattle.calendar.specs.declared.Date.{Date}
+use Rattle.calendar.specs.declared.MaybeDate.{MaybeDate}
+use Rattle.calendar.specs.declared.MaybeDate.the-variants as days
+use Rattle.calendar.specs.Dates.{dateOf, isFound}
+use Rattle.barcode.specs.Codes.{barcodeAnswer}
+use Rattle.layout.specs.declared.Kind.the-variants as kind
+use Rattle.layout.specs.Layouts.{recordLength, rowAt, accountRow, receivedRow, numberRow, branchRow, captureRow, authenticationRow, formRow, paymentBlankRow, namedBy}
+use Rattle.layout.specs.declared.MaybeRecord.{MaybeRecord}
+use Rattle.layout.specs.declared.MaybeRecord.the-variants.{Is, Other}
+use Rattle.layout.specs.declared.Record.the-variants.{Header, Payment, Trailer}
+use Rattle.kinds.specs.Kinds.{isCapture, isForm, same, kindAnswer}
+use Rattle.kinds.proofs.KindLaws.{date-accepted}
+use Rattle.record.specs.FastPath.{spanOf, rowsHold, isPlain, isCoded}
+use Rattle.record.specs.Records.{fieldBytes}
+
+-- The flags of six bytes are one flag.
+
+pub six-flags : (a b c d e f : Bool) {u v w x y z : ℕ} → u ≡ cond a 0 1 → v ≡ cond b 0 1 → w ≡ cond c 0 1 → x ≡ cond d 0 1 → y ≡ cond e 0 1 → z ≡ cond f 0 1
+    → bitOr (bitOr u v) (bitOr (bitOr w x) (bitOr y z)) ≡ cond ((a && b) && ((c && d) && (e && f))) 0 1
+six-flags a b c d e f eu ev ew ex ey ez =
+    rw (eu, ev, ew, ex, ey, ez, two-flags a b, two-flags c d, two-flags e f, two-flags (c && d) (e && f), two-flags (a && b) ((c && d) && (e && f)))
+
+-- Six rows at column i, and behind the last one.
+
+weave : (t r u s : Bool) → ((t && r) && (u && s)) ≡ ((t && u) && (r && s))
+weave false r u s = refl
+weave true false false s = refl
+weave true false true s = refl
+weave true true u s = refl
+
+abbrev pub from : ℕ → List ℕ → List ℕ → List ℕ → List ℕ → List ℕ → List ℕ → Bool
+from i a b c d e f = rowsHold (drop i a) (drop i b) (drop i c) (drop i d) (drop i e) (drop i f)
+
+module _ (a b c d e f : List ℕ) (six : (length a ≡ 16) × (length b ≡ 16) × (length c ≡ 16) × (length d ≡ 16) × (length e ≡ 16) × (length f ≡ 16)) (i n : ℕ) where
+  next : (ok : ℕ → Bool) (l : List ℕ) → length l ≡ 16 → i < 16 → all ok (drop i l) ≡ (ok (getD l i 0) && all ok (drop (i + 1) l))
+  next ok l g h = rw (add-one, drop-cons l i 0 (omega arith))
+
+  pub rows-step : {x : ℕ} {r : Bool} → i < 16
+      → x ≡ cond ((isOf Text (getD a i 0) && isOf Text (getD b i 0)) && ((isOf Text (getD c i 0) && isOf Text (getD d i 0)) && (isOf Digit (getD e i 0) && isOf Digit (getD f i 0)))) 0 1
+      → (eqb n 0 && from i a b c d e f) ≡ r → (eqb (bitOr n x) 0 && from (i + 1) a b c d e f) ≡ r
+  rows-step h g q =
+      let ta = isOf Text (getD a i 0) in
+      let tb = isOf Text (getD b i 0) in
+      let tc = isOf Text (getD c i 0) in
+      let td = isOf Text (getD d i 0) in
+      let te = isOf Digit (getD e i 0) in
+      let tf = isOf Digit (getD f i 0) in
+      let ra = all (isOf Text) (drop (i + 1) a) in
+      let rb = all (isOf Text) (drop (i + 1) b) in
+      let rc = all (isOf Text) (drop (i + 1) c) in
+      let rd = all (isOf Text) (drop (i + 1) d) in
+      let re = all (isOf Digit) (drop (i + 1) e) in
+      let rf = all (isOf Digit) (drop (i + 1) f) in
+      let front : from i a b c d e f ≡ ((ta && tb) && ((tc && td) && (te && tf))) && from (i + 1) a b c d e f =
+      rw (next (isOf Text) a (six .0) h, next (isOf Text) b (six .1) h, next (isOf Text) c (six .2) h, next (isOf Text) d (six .3) h, next (isOf Digit) e (six .4) h, next (isOf Digit) f (six .5) h, weave ta ra tb rb, weave tc rc td rd, weave te re tf rf, weave (tc && td) (rc && rd) (te && tf) (re && rf))
+      (weave (ta && tb) (ra && rb) ((tc && td) && (te && tf)) ((rc && rd) && (re && rf))) in
+      rw (g, flag-on ((ta && tb) && ((tc && td) && (te && tf))) n (from (i + 1) a b c d e f), ← front) q
+
+  none : (l : List ℕ) → length l ≡ 16 → 16 ≤ i → drop i l ≡ []
+  none l g h = let past : length l ≤ i = omega arith in drop-of-length-le l past
+
+  pub rows-end : {r : Bool} → 16 ≤ i → (eqb n 0 && from i a b c d e f) ≡ r → eqb n 0 ≡ r
+  rows-end h q = rw (none a (six .0) h, none b (six .1) h, none c (six .2) h, none d (six .3) h, none e (six .4) h, none f (six .5) h, and-true) at q
+
+-- a part of 16 to 32 bytes is its first sixteen and its last
+pub last-sixteen : (bs : List ℕ) → 16 ≤ length bs
+    → (take (length bs - (length bs - 16)) (drop (length bs - 16) bs) ≡ drop (length bs - 16) bs) × (length (drop (length bs - 16) bs) ≡ 16)
+last-sixteen bs h =
+    let n : length (drop (length bs - 16) bs) ≡ 16 = length-drop (length bs - 16) bs ∙ omega arith in
+    (take-all (length bs - (length bs - 16)) (drop (length bs - 16) bs) (omega arith), n)
+
+pub two-rows : (ok : ℕ → Bool) (bs : List ℕ) → 16 ≤ length bs → length bs ≤ 32 → (all ok (take 16 bs) && all ok (drop (length bs - 16) bs)) ≡ all ok bs
+two-rows ok bs h k = go (all ok (take 16 bs)) refl
+  where
+    go : (t : Bool) → all ok (take 16 bs) ≡ t → (t && all ok (drop (length bs - 16) bs)) ≡ all ok bs
+    go false e = row-fails ok bs 0 16 (sym e) refl
+    go true e = last-row ok bs 16 16 h (omega arith) e (ap (all ok) (sym (last-sixteen bs h .0)))
+
+pub places-length : (rec : List ℕ) → length rec ≡ recordLength → (first last : ℕ) → last ≤ 150 → length (places first last rec) ≡ last - (first - 1)
+places-length rec n first last h = length-take-le (last - (first - 1)) (drop (first - 1) rec) (omega (arith, length-drop (first - 1) rec))
+
+-- what it asks of a record, in its order
+module _ (rec : List ℕ) where
+  abbrev texts : Bool
+  texts = all (isOf Text) (fieldBytes (rowAt accountRow) rec) && (all (isOf Text) (spanOf (rowAt branchRow) (rowAt authenticationRow) rec) && all (isOf Digit) (spanOf (rowAt receivedRow) (rowAt numberRow) rec))
+
+  pub parts-fail : {t : Bool} → t ≡ texts → t ≡ false → false ≡ isPlain rec
+  unfolding isPlain
+  parts-fail e f = rw (sym e ∙ f)
+
+  pub blanks-are : {t v : Bool} → t ≡ texts → t ≡ true → v ≡ all (isOf Blank) (fieldBytes (rowAt paymentBlankRow) rec) → v ≡ isPlain rec
+  unfolding isPlain
+  blanks-are e f k = rw (sym e ∙ f, k)
+
+  pub capture-fails : {t : Bool} → t ≡ isCapture (getD (fieldBytes (rowAt captureRow) rec) 0 0) → t ≡ false → false ≡ isCoded rec
+  unfolding isCoded
+  capture-fails e f = rw (sym e ∙ f)
+
+  pub form-is : {t u : Bool} → t ≡ isCapture (getD (fieldBytes (rowAt captureRow) rec) 0 0) → t ≡ true → u ≡ isForm (getD (fieldBytes (rowAt formRow) rec) 0 0) → u ≡ isCoded rec
+  unfolding isCoded
+  form-is e f g = rw (sym e ∙ f, g)
+
+-- a part of a part
+pub inner : (ok : ℕ → Bool) (rec : List ℕ) (k n j m : ℕ) → j + m ≤ n → all ok (take n (drop k rec)) ≡ true → all ok (take m (drop (k + j) rec)) ≡ true
+inner ok rec k n j m h t =
+    let xs = drop k rec in
+    let s : j + (n - j) ≡ n = omega arith in
+    let split : take n xs ≡ take j xs ++ take (n - j) (drop j xs) = ap (λ (c : ℕ). take c xs) (sym s) ∙ take-add j (n - j) xs in
+    let both =
+    and-eq-true-iff (all ok (take j xs)) (all ok (take (n - j) (drop j xs))) .0 (sym (all-joins ok (take j xs) (take (n - j) (drop j xs))) ∙ ap (all ok) (sym split) ∙ t) in
+    let right : all ok (take (n - j) (drop (k + j) rec)) ≡ true = rw (drop-drop j k rec) at (both .1) in
+    ap (all ok) (sym (take-take m (n - j) (drop (k + j) rec) (omega arith))) ∙ all-of-part ok 0 m (take (n - j) (drop (k + j) rec)) right
+
+pub named-payment : (b : ℕ) → namedBy b ≡ Is Payment → b ≡ 71
+unfolding namedBy
+named-payment b e = go (eqb b 65) (eqb b 71) (eqb b 90) refl e
+  where
+    go : (t u v : Bool) → eqb b 71 ≡ u → _≡_ {A = MaybeRecord} (cond t (Is Header) (cond u (Is Payment) (cond v (Is Trailer) Other))) (Is Payment) → b ≡ 71
+    go true u v f q = let z : _≡_ {A = ℕ} 0 1 = cc in absurd (omega arith)
+    go false true v f q = eqb-true b 71 f
+    go false false true f q = let z : _≡_ {A = ℕ} 0 1 = cc in absurd (omega arith)
+    go false false false f q = let z : _≡_ {A = ℕ} 0 1 = cc in absurd (omega arith)
+
+-- Kinds, and what is right of their bytes.
+
+pub text : (bs : List ℕ) → (kindAnswer kind.Text bs ≡ Accepted) ↔ (all (isOf Text) bs ≡ true)
+unfolding kindAnswer
+text bs = each-accepts (isOf Text) NoText 1 bs
+
+pub money : (bs : List ℕ) → (kindAnswer kind.Money bs ≡ Accepted) ↔ (all (isOf Digit) bs ≡ true)
+unfolding kindAnswer
+money bs = each-accepts (isOf Digit) NoDigit 1 bs
+
+pub digits : (bs : List ℕ) → (kindAnswer kind.Digits bs ≡ Accepted) ↔ (all (isOf Digit) bs ≡ true)
+unfolding kindAnswer
+digits bs = each-accepts (isOf Digit) NoDigit 1 bs
+
+pub blank : (bs : List ℕ) → (kindAnswer kind.Blank bs ≡ Accepted) ↔ (all (isOf Blank) bs ≡ true)
+unfolding kindAnswer
+blank bs = asked-accepts (all (isOf Blank) bs) FixedDiffers 1
+
+pub capture : (bs : List ℕ) → (kindAnswer kind.Capture bs ≡ Accepted) ↔ (isCapture (getD bs 0 0) ≡ true)
+unfolding kindAnswer
+capture bs = asked-accepts (isCapture (getD bs 0 0)) UnknownCode 1
+
+pub form : (bs : List ℕ) → (kindAnswer kind.Form bs ≡ Accepted) ↔ (isForm (getD bs 0 0) ≡ true)
+unfolding kindAnswer
+form bs = asked-accepts (isForm (getD bs 0 0)) UnknownCode 1
+
+pub code : (bs : List ℕ) → (kindAnswer kind.Barcode bs ≡ Accepted) ↔ (barcodeAnswer bs ≡ Accepted)
+unfolding kindAnswer
+code bs = (λ e. e, λ e. e)
+
+pub date : (bs : List ℕ) → (kindAnswer kind.Date bs ≡ Accepted) ↔ (isFound (dateOf bs) ≡ true)
+unfolding kindAnswer
+date bs = (
+  λ e. asked-accepts (isFound (dateOf bs)) NoDate 1 .0 (then-accepts (eachIs (isOf Digit) NoDigit 1 bs) (require (isFound (dateOf bs)) NoDate 1) .0 e .1),
+  go (dateOf bs) refl,
+)
+  where
+    go : (d : MaybeDate) → dateOf bs ≡ d → isFound (dateOf bs) ≡ true → kindAnswer kind.Date bs ≡ Accepted
+    go (days.On d) f t = sym (date-accepted bs d f)
+    go days.NoDate f t = never (sym (ap isFound f) ∙ t)
+
+-- a capture is text
+pub captured : (b : ℕ) → isCapture b ≡ true → isOf Text b ≡ true
+unfolding isCapture isOf
+captured b t = go (leb 49 b) (leb b 54) (leb 97 b) (leb b 102) refl refl refl refl t
+  where
+    text-byte : 32 ≤ b → b ≤ 126 → (within 32 126 b || within 160 255 b) ≡ true
+    text-byte h k = rw (le-leb 32 b h, le-leb b 126 k)
+
+    go : (p q r s : Bool) → leb 49 b ≡ p → leb b 54 ≡ q → leb 97 b ≡ r → leb b 102 ≡ s → ((p && q) || (r && s)) ≡ true → (within 32 126 b || within 160 255 b) ≡ true
+    go true true r s ep eq er es t = text-byte (omega (arith, leb-true 49 b ep)) (omega (arith, leb-true b 54 eq))
+    go true false true true ep eq er es t = text-byte (omega (arith, leb-true 97 b er)) (omega (arith, leb-true b 102 es))
+    go true false true false ep eq er es t = never t
+    go true false false s ep eq er es t = never t
+    go false q true true ep eq er es t = text-byte (omega (arith, leb-true 97 b er)) (omega (arith, leb-true b 102 es))
+    go false q true false ep eq er es t = never t
+    go false q false s ep eq er es t = never t
+
+pub mark : (rec : List ℕ) → length rec ≡ recordLength → getD rec 0 0 ≡ 71 → kindAnswer (kind.Mark 71) (take 1 (drop 0 rec)) ≡ Accepted
+unfolding kindAnswer
+mark [] n e = absurd (omega arith)
+mark (b ∷ rec) n e = asked-accepts (same (b ∷ []) (71 ∷ [])) FixedDiffers 1 .1 (and-eq-true-iff (eqb b 71) true .1 (eq-eqb b 71 e, refl))
+
+-- neighbouring parts
+pub joined : (ok : ℕ → Bool) (rec : List ℕ) (k i j : ℕ) → all ok (take i (drop k rec)) ≡ true → all ok (take j (drop (k + i) rec)) ≡ true
+    → all ok (take (i + j) (drop k rec)) ≡ true
+joined ok rec k i j t u = row-passes ok (drop k rec) i j refl (rw (drop-drop i k rec) u) t
+
+pub one-byte : (bs : List ℕ) → length bs ≡ 1 → isOf Text (getD bs 0 0) ≡ true → all (isOf Text) bs ≡ true
+one-byte [] n t = absurd (omega arith)
+one-byte (b ∷ []) n t = and-eq-true-iff (isOf Text b) true .1 (t, refl)
+one-byte (b ∷ c ∷ bs) n t = absurd (omega arith)

@@ -1,0 +1,61 @@
+-- `record::fast::is_coded` meets its contract. Assumes nothing.
+use borrow.Author.Needs.{needs}
+use Prim.Native.Nat.{ℕ}
+use mathlib.Core.List.{List}
+use mathlib.Core.Path.{ap, _∙_}
+use lib.ListN.{getD}
+use Rattle.kinds.specs.Kinds.{isCapture, isForm}
+use borrow.Author.Tests.{not-true, not-false}
+use Rattle.layout.specs.Layouts.{rowAt, table, layoutOf}
+use Rattle.record.proofs.FastPath.{capture-fails, form-is}
+use Rattle.record.proofs.fast.is_coded.Statement.{statement}
+use Rattle.record.proofs.fast.is_coded.Tie as tie
+
+part-of-requires : tie.Need-part-of-requires
+part-of-requires c κs = search needs
+
+byte-at-requires : tie.Need-byte-at-requires
+byte-at-requires c κs = search needs
+
+is-capture-requires : tie.Need-is-capture-requires
+is-capture-requires c κs = search needs
+
+returns : tie.Need-returns
+unfolding rowAt table layoutOf
+returns c =
+    let part = c .before .before .before in
+    let byte = c .before .before .byte-at .ensures ∙ ap (λ (l : List ℕ). getD l 0 0) (part .part-of .ensures) in
+    capture-fails (part .before .before .args .rec .now) (c .before .is-capture .ensures ∙ ap isCapture byte) (not-true _ (c .if1 .taken))
+
+part-of-requires-2 : tie.Need-part-of-requires-2
+part-of-requires-2 c κs = search needs
+
+byte-at-requires-2 : tie.Need-byte-at-requires-2
+byte-at-requires-2 c κs = search needs
+
+is-form-requires : tie.Need-is-form-requires
+is-form-requires c κs = search needs
+
+returns-2 : tie.Need-returns-2
+unfolding rowAt table layoutOf
+returns-2 c =
+    let capture = c .before .before .before in
+    let part = capture .before .before .before in
+    let byte = capture .before .before .byte-at .ensures ∙ ap (λ (l : List ℕ). getD l 0 0) (part .part-of .ensures) in
+    let captured = capture .before .is-capture .ensures ∙ ap isCapture byte in
+    let other = c .before .byte-at2 .ensures ∙ ap (λ (l : List ℕ). getD l 0 0) (c .before .before .part-of2 .ensures) in
+    let formed = c .is-form .ensures ∙ ap isForm other in
+    form-is (part .before .before .args .rec .now) captured (not-false _ (capture .if1 .left)) formed
+
+pub is-coded-spec : {M : Type 1} → statement M
+is-coded-spec =
+    tie.close
+    (tie.spec
+    part-of-requires
+    byte-at-requires
+    is-capture-requires
+    returns
+    part-of-requires-2
+    byte-at-requires-2
+    is-form-requires
+    returns-2)

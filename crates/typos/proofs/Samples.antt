@@ -1,0 +1,24 @@
+-- The samples, by computation. Assumes nothing.
+use mathlib.Core.Path.{refl}
+use Rattle.decimal.specs.Bytes.{isOf}
+use Rattle.decimal.specs.Numbers.{valueOf, digitsOf}
+use Rattle.modulus.specs.Checks.{addedBy, termOf, digitOfRemainder}
+use Rattle.barcode.specs.Codes.{firstThreeAnswer, generalRight}
+use Rattle.line.specs.Lines.{boxRight}
+use Rattle.typos.specs.Samples.{DirectionsMayDiffer, SegmentTypoPasses, KindTypoPasses, BordersHold}
+
+pub directions-may-differ : DirectionsMayDiffer
+unfolding firstThreeAnswer generalRight boxRight digitOfRemainder termOf addedBy digitsOf valueOf isOf
+directions-may-differ = (refl, refl, refl, refl, refl, refl)
+
+pub segment-may-slip : SegmentTypoPasses
+unfolding firstThreeAnswer generalRight boxRight digitOfRemainder termOf addedBy digitsOf valueOf isOf
+segment-may-slip = (refl, refl)
+
+pub kind-may-slip : KindTypoPasses
+unfolding firstThreeAnswer generalRight boxRight digitOfRemainder termOf addedBy digitsOf valueOf isOf
+kind-may-slip = (refl, refl)
+
+pub borders-hold : BordersHold
+unfolding firstThreeAnswer generalRight boxRight digitOfRemainder termOf addedBy digitsOf valueOf isOf
+borders-hold = ((refl, refl), ((refl, refl), ((refl, refl), tt)))

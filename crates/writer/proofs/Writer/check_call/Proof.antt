@@ -1,0 +1,35 @@
+-- `writer::Writer::check_call` meets its contract. Assumes nothing.
+use mathlib.Core.Path.{sym, _∙_}
+use borrow.Author.Needs.{needs}
+use borrow.Author.Tests.{eq-eqb, ne-eqb, not-true, not-false}
+use Rattle.writer.proofs.Writer.check_call.Statement.{statement}
+use Rattle.writer.proofs.Writer.check_call.Tie as tie
+
+returns : tie.Need-returns
+returns c = rw (ne-eqb _ _ (c .if1 .taken))
+
+given-length-requires : tie.Need-given-length-requires
+given-length-requires c κs = search needs
+
+returns-2 : tie.Need-returns-2
+returns-2 c = rw (eq-eqb _ _ (c .before .before .if1 .left), ne-eqb _ _ (λ e. c .if2 .taken (e ∙ sym (c .before .given-length .ensures))))
+
+is-expected-requires : tie.Need-is-expected-requires
+is-expected-requires c κs = search needs
+
+returns-3 : tie.Need-returns-3
+returns-3 c =
+    let room = eq-eqb _ _ (c .before .before .before .before .if1 .left) in
+    let given = eq-eqb _ _ (c .before .before .if2 .left ∙ c .before .before .before .given-length .ensures) in
+    rw (room, given, sym (c .before .is-expected .ensures) ∙ not-true _ (c .if3 .taken))
+
+returns-4 : tie.Need-returns-4
+returns-4 c =
+    let room = eq-eqb _ _ (c .before .before .before .before .if1 .left) in
+    let given = eq-eqb _ _ (c .before .before .if2 .left ∙ c .before .before .before .given-length .ensures) in
+    rw (room, given, sym (c .before .is-expected .ensures) ∙ not-false _ (c .if3 .left))
+
+pub check-call-spec : {M : Type 1} → statement M
+check-call-spec =
+    tie.close
+    (tie.spec returns given-length-requires returns-2 is-expected-requires returns-3 returns-4)
