@@ -1,5 +1,5 @@
 /* operations NAME ROUNDS <DAY: one operation of the engine over all records of a file, so many times.
- * src/bin/operations.rs does the same with the second program, and prints the same sum. */
+ * src/bin/operations.rs does the same with the reference program, and prints the same sum. */
 #include <hollytrot.h>
 #include <stdio.h>
 #include <stdlib.h>

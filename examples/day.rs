@@ -1,6 +1,6 @@
 //! A return file, taken by a session: prints the board, as quadro does.
 //!
-//!     cargo run --manifest-path rust/Cargo.toml --example day < FILE
+//!     cargo run -p hollytrot --example day < FILE
 //!
 //! It fails where the input is refused, and says why.
 

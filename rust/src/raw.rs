@@ -1,4 +1,4 @@
-//! The declarations of include/hollytrot.h. Sizes and offsets are asserted here, and held/abi.c holds the same ones to
+//! The declarations of include/hollytrot.h. Sizes and offsets are asserted here, and tests/conformance/abi.c holds the same ones to
 //! the library.
 
 use std::mem::{offset_of, size_of};

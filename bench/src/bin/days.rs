@@ -4,9 +4,9 @@
 use std::error::Error;
 use std::io::{self, BufWriter, Write};
 
-use second::days;
-use second::random::Random;
-use second::Writer;
+use reference::days;
+use reference::random::Random;
+use reference::Writer;
 
 /// The board's and the files' sums have room for any number of such amounts that a day here has.
 const AMOUNT_DIGITS: u32 = 10;

@@ -1,11 +1,11 @@
-//! `operations NAME ROUNDS <DAY`: one operation of the second program over all records of a file, so many times.
+//! `operations NAME ROUNDS <DAY`: one operation of the reference program over all records of a file, so many times.
 //! operations.c does the same with the engine, and prints the same sum.
 
 use std::error::Error;
 use std::hint::black_box;
 use std::io::{self, Read};
 
-use second::{barcode, digits, line, records, Record, Refusal, Session, Writer};
+use reference::{barcode, digits, line, records, Record, Refusal, Session, Writer};
 
 /// What the operations are given, made before the rounds.
 struct Inputs {

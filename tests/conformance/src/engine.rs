@@ -1,0 +1,162 @@
+//! The process that calls the engine: frames of requests go to it, and its replies are held to those expected.
+
+use std::io::{self, BufReader, Read, Write};
+use std::path::{Path, PathBuf};
+use std::process::{Child, ChildStdout, Command, Stdio};
+use std::sync::mpsc::{sync_channel, Receiver, SyncSender};
+use std::sync::Arc;
+use std::thread::{spawn, JoinHandle};
+
+/// Frames on their way at a time.
+const AHEAD: usize = 4;
+
+/// Many requests, with the replies that the reference program would give.
+#[derive(Default)]
+pub struct Batch {
+    pub requests: Vec<u8>,
+    pub expected: Vec<u8>,
+    /// Where each request and its reply start.
+    pub marks: Vec<(usize, usize)>,
+}
+
+impl Batch {
+    /// The bytes of request `i` and of its reply, in `replies` of the whole batch.
+    fn part<'a>(&'a self, i: usize, replies: &'a [u8]) -> (&'a [u8], &'a [u8]) {
+        let (from, at) = self.marks[i];
+        let (to, end) = match self.marks.get(i + 1) {
+            Some(&next) => next,
+            None => (self.requests.len(), replies.len()),
+        };
+        (&self.requests[from..to], &replies[at..end])
+    }
+}
+
+/// The repository's root.
+pub fn root() -> PathBuf {
+    Path::new(env!("CARGO_MANIFEST_DIR")).join("../..")
+}
+
+/// A program for x86-64, run on this machine.
+pub fn program(path: &str) -> Command {
+    let file = root().join(path);
+    assert!(
+        file.exists(),
+        "there is no {path}: ./test says what makes it"
+    );
+    let mut command = Command::new(root().join("tools/x86"));
+    command.arg(file);
+    command
+}
+
+pub struct Engine {
+    child: Child,
+    batches: Option<SyncSender<Arc<Batch>>>,
+    writer: JoinHandle<()>,
+    reader: JoinHandle<Result<(), String>>,
+}
+
+impl Engine {
+    pub fn start() -> Engine {
+        let mut child = program("build/c/serve")
+            .stdin(Stdio::piped())
+            .stdout(Stdio::piped())
+            .spawn()
+            .expect("the engine's process starts");
+        let (mut stdin, stdout) = (child.stdin.take().unwrap(), child.stdout.take().unwrap());
+        let (batches, sent) = sync_channel::<Arc<Batch>>(AHEAD);
+        let (passed_on, awaited) = sync_channel::<Arc<Batch>>(AHEAD);
+        let writer = spawn(move || {
+            for batch in sent {
+                // Where the reader has given up, it says why.
+                if passed_on.send(batch.clone()).is_err() || write(&mut stdin, &batch).is_err() {
+                    return;
+                }
+            }
+        });
+        let reader = spawn(move || read(stdout, awaited));
+        Engine {
+            child,
+            batches: Some(batches),
+            writer,
+            reader,
+        }
+    }
+
+    /// Sends a batch; a difference shows itself at the end.
+    pub fn send(&mut self, batch: Batch) {
+        if let Some(batches) = &self.batches {
+            if batches.send(Arc::new(batch)).is_err() {
+                self.batches = None;
+            }
+        }
+    }
+
+    /// Waits for all replies: the first difference, if there is one.
+    pub fn finish(mut self) -> Result<(), String> {
+        self.batches = None;
+        let found = self.reader.join().expect("the reader ends");
+        self.writer.join().expect("the writer ends");
+        let status = self.child.wait().expect("the engine's process ends");
+        found?;
+        if status.success() {
+            Ok(())
+        } else {
+            Err(format!("the engine's process ended with {status}"))
+        }
+    }
+}
+
+fn write(stdin: &mut impl Write, batch: &Batch) -> io::Result<()> {
+    let length = u32::try_from(batch.requests.len()).expect("a short frame");
+    stdin.write_all(&length.to_le_bytes())?;
+    stdin.write_all(&batch.requests)?;
+    stdin.flush()
+}
+
+fn read(stdout: ChildStdout, awaited: Receiver<Arc<Batch>>) -> Result<(), String> {
+    let mut stdout = BufReader::with_capacity(1 << 16, stdout);
+    for batch in awaited {
+        let replies = frame(&mut stdout).map_err(|error| format!("no reply: {error}"))?;
+        if replies != batch.expected {
+            return Err(difference(&batch, &replies));
+        }
+    }
+    Ok(())
+}
+
+fn frame(stdout: &mut impl Read) -> io::Result<Vec<u8>> {
+    let mut length = [0; 4];
+    stdout.read_exact(&mut length)?;
+    let mut replies = vec![0; u32::from_le_bytes(length) as usize];
+    stdout.read_exact(&mut replies)?;
+    Ok(replies)
+}
+
+/// The first request whose reply differs, with both.
+fn difference(batch: &Batch, replies: &[u8]) -> String {
+    if replies.len() != batch.expected.len() {
+        return format!(
+            "{} bytes of replies, and not {}",
+            replies.len(),
+            batch.expected.len()
+        );
+    }
+    let differs = |&i: &usize| batch.part(i, replies).1 != batch.part(i, &batch.expected).1;
+    let i = (0..batch.marks.len()).find(differs).unwrap_or(0);
+    let (request, found) = batch.part(i, replies);
+    let (_, wanted) = batch.part(i, &batch.expected);
+    let place = found.iter().zip(wanted).position(|(a, b)| a != b);
+    format!(
+        "the engine differs in byte {place:?} of the reply to '{}' {}\nengine: {}\nreference: {}",
+        request[0] as char,
+        shown(&request[1..]),
+        shown(found),
+        shown(wanted)
+    )
+}
+
+fn shown(bytes: &[u8]) -> String {
+    let most = 400;
+    let end = if bytes.len() > most { " .." } else { "" };
+    format!("{}{end}", bytes[..bytes.len().min(most)].escape_ascii())
+}
