@@ -16,7 +16,7 @@
  *   - A `bool` holds 0 or 1, as C's own do: do not fill a session from bytes of unknown origin.
  * Nothing else: each value of each number, session and writer has its defined outcome.
  *
- * Link libengine.a, for x86-64 Linux; it needs no other library.
+ * Link libhollytrot.a, for x86-64 Linux; it needs no other library.
  */
 #ifndef HOLLYTROT_H
 #define HOLLYTROT_H
