@@ -1,5 +1,5 @@
-/* The declarations of hollytrot.h against the library: sizes and offsets, and known values through every field
- * of every struct that crosses, in both directions. */
+/* Compares the declarations of hollytrot.h with the library: sizes and offsets, and a known value through every field
+ * of every struct, as an argument and as a result. */
 #include <hollytrot.h>
 #include <stdio.h>
 #include <string.h>
@@ -20,8 +20,8 @@ SIZE(hollytrot_fields, 56);
 AT(hollytrot_fields, value, 8);
 AT(hollytrot_fields, issuer, 16);
 AT(hollytrot_fields, due, 32);
-SIZE(hollytrot_read, 72);
-AT(hollytrot_read, fields, 16);
+SIZE(hollytrot_decoded, 72);
+AT(hollytrot_decoded, fields, 16);
 SIZE(hollytrot_header, 40);
 AT(hollytrot_header, date, 8);
 AT(hollytrot_header, sequence, 32);
@@ -42,8 +42,8 @@ SIZE(hollytrot_file, 16);
 AT(hollytrot_file, total, 8);
 SIZE(hollytrot_writer, 24);
 AT(hollytrot_writer, file, 8);
-SIZE(hollytrot_wrote, 40);
-AT(hollytrot_wrote, writer, 16);
+SIZE(hollytrot_write_result, 40);
+AT(hollytrot_write_result, writer, 16);
 SIZE(hollytrot_tally, 16);
 AT(hollytrot_tally, centavos, 8);
 SIZE(hollytrot_lane, 32);
@@ -55,14 +55,14 @@ SIZE(hollytrot_session, 4168);
 AT(hollytrot_session, work, 2072);
 AT(hollytrot_session, opened, 4144);
 AT(hollytrot_session, file, 4152);
-SIZE(hollytrot_took, 4184);
-AT(hollytrot_took, session, 16);
-SIZE(hollytrot_ran, 4200);
-AT(hollytrot_ran, session, 16);
-AT(hollytrot_ran, records, 4184);
-AT(hollytrot_ran, files, 4192);
-SIZE(hollytrot_page_printed, 24);
-AT(hollytrot_page_printed, length, 16);
+SIZE(hollytrot_take_result, 4184);
+AT(hollytrot_take_result, session, 16);
+SIZE(hollytrot_run_result, 4200);
+AT(hollytrot_run_result, session, 16);
+AT(hollytrot_run_result, records, 4184);
+AT(hollytrot_run_result, files, 4192);
+SIZE(hollytrot_page_result, 24);
+AT(hollytrot_page_result, length, 16);
 
 static int checks, failures;
 
@@ -73,7 +73,7 @@ static void same(int line, const char *what, uint64_t found, uint64_t wanted)
     checks++;
     if (found != wanted) {
         failures++;
-        fprintf(stderr, "abi.c:%d: %s is %lu and not %lu\n", line, what, (unsigned long)found, (unsigned long)wanted);
+        fprintf(stderr, "abi.c:%d: %s is %lu, not %lu\n", line, what, (unsigned long)found, (unsigned long)wanted);
     }
 }
 
@@ -88,33 +88,33 @@ static void same_bytes(int line, const void *found, const void *wanted, size_t l
 
 static const uint8_t *text(const char *s) { return (const uint8_t *)s; }
 
-static void answered(hollytrot_answer a, uint64_t number, size_t place)
+static void same_answer(hollytrot_answer found, uint64_t number, size_t place)
 {
-    SAME(a.number, number);
-    SAME(a.place, place);
+    SAME(found.number, number);
+    SAME(found.place, place);
 }
 
-/* Segment 6, kind 8, so that issuer and free field have their other widths. */
+/* A barcode of segment 6, where issuer and free field have other widths than elsewhere. */
 static uint8_t code[44];
 
 static void barcodes(void)
 {
     hollytrot_issuer issuer = {6, 12345678};
-    answered(hollytrot_barcode_build(issuer, 8, 98765432109, text("202402291234567890123"), 21, code, 44), 0, 0);
+    same_answer(hollytrot_barcode_build(issuer, 8, 98765432109, text("202402291234567890123"), 21, code, 44), 0, 0);
     same_bytes(__LINE__, code, "868", 3);
     same_bytes(__LINE__, code + 4, "98765432109" "12345678" "202402291234567890123", 40);
     issuer.segment = 1;
-    answered(hollytrot_barcode_build(issuer, 8, 1, text("2024022912345678901230000"), 25, code, 44), 21, 16);
+    same_answer(hollytrot_barcode_build(issuer, 8, 1, text("2024022912345678901230000"), 25, code, 44), 21, 16);
 
-    hollytrot_read read = hollytrot_barcode_decode(code, 44);
-    answered(read.answer, 0, 0);
-    SAME(read.fields.kind, 8);
-    SAME(read.fields.value, 98765432109);
-    SAME(read.fields.issuer.segment, 6);
-    SAME(read.fields.issuer.number, 12345678);
-    SAME(read.fields.due.year, 2024);
-    SAME(read.fields.due.month, 2);
-    SAME(read.fields.due.day, 29);
+    hollytrot_decoded decoded = hollytrot_barcode_decode(code, 44);
+    same_answer(decoded.answer, 0, 0);
+    SAME(decoded.fields.kind, 8);
+    SAME(decoded.fields.value, 98765432109);
+    SAME(decoded.fields.issuer.segment, 6);
+    SAME(decoded.fields.issuer.number, 12345678);
+    SAME(decoded.fields.due.year, 2024);
+    SAME(decoded.fields.due.month, 2);
+    SAME(decoded.fields.due.day, 29);
 
     hollytrot_part part = hollytrot_barcode_free_field(code, 44);
     SAME(part.from, 23);
@@ -137,7 +137,7 @@ static void dates(void)
 
 static uint8_t a[150], g[150], z[150];
 
-/* The three records, written through a writer with values in each of its fields. */
+/* The three records, written by a writer with a value in each of its fields. */
 static void writers(void)
 {
     hollytrot_writer writer = hollytrot_writer_new();
@@ -145,9 +145,9 @@ static void writers(void)
     SAME(writer.file.taken, 0);
     SAME(writer.file.total, 0);
     const char *header = "AGREEMENT           COMPANY             237BANK                20231231004321O";
-    hollytrot_wrote wrote = hollytrot_writer_header(writer, text(header), 78, a, 150);
-    answered(wrote.answer, 0, 0);
-    SAME(wrote.writer.stage, 1);
+    hollytrot_write_result result = hollytrot_writer_header(writer, text(header), 78, a, 150);
+    same_answer(result.answer, 0, 0);
+    SAME(result.writer.stage, 1);
 
     uint8_t fields[121];
     memset(fields, ' ', 121);
@@ -157,29 +157,29 @@ static void writers(void)
     fields[96] = 'a';
     fields[120] = '2';
     writer = (hollytrot_writer){1, {7, 1000}};
-    wrote = hollytrot_writer_payment(writer, fields, 121, 123456, 789, g, 150);
-    answered(wrote.answer, 0, 0);
-    SAME(wrote.writer.stage, 1);
-    SAME(wrote.writer.file.taken, 8);
-    SAME(wrote.writer.file.total, 124456);
+    result = hollytrot_writer_payment(writer, fields, 121, 123456, 789, g, 150);
+    same_answer(result.answer, 0, 0);
+    SAME(result.writer.stage, 1);
+    SAME(result.writer.file.taken, 8);
+    SAME(result.writer.file.total, 124456);
 
-    wrote = hollytrot_writer_trailer(wrote.writer, z, 150);
-    answered(wrote.answer, 0, 0);
-    SAME(wrote.writer.stage, 2);
+    result = hollytrot_writer_trailer(result.writer, z, 150);
+    same_answer(result.answer, 0, 0);
+    SAME(result.writer.stage, 2);
     same_bytes(__LINE__, z, "Z00001000000000000124456 ", 25);
-    /* a closed writer of any number comes back as it was */
+    /* a closed writer with another stage number is returned unchanged */
     writer = (hollytrot_writer){77, {8, 9}};
-    wrote = hollytrot_writer_trailer(writer, z, 150);
-    answered(wrote.answer, 9, 1);
-    SAME(wrote.writer.stage, 77);
-    SAME(wrote.writer.file.taken, 8);
-    SAME(wrote.writer.file.total, 9);
+    result = hollytrot_writer_trailer(writer, z, 150);
+    same_answer(result.answer, 9, 1);
+    SAME(result.writer.stage, 77);
+    SAME(result.writer.file.taken, 8);
+    SAME(result.writer.file.total, 9);
 }
 
 static void records(void)
 {
     hollytrot_record record = hollytrot_record_decode(a, 150);
-    answered(record.answer, 0, 0);
+    same_answer(record.answer, 0, 0);
     SAME(record.letter, 'A');
     SAME(record.header.bank, 237);
     SAME(record.header.date.year, 2023);
@@ -211,7 +211,7 @@ static void records(void)
     SAME(record.trailer.count, 10);
     SAME(record.trailer.total, 124456);
     record = hollytrot_record_decode(z, 149);
-    answered(record.answer, 1, 0);
+    same_answer(record.answer, 1, 0);
     SAME(record.letter, 0);
 
     hollytrot_part part = hollytrot_record_field(g, 150, HOLLYTROT_G_RECEIVED);
@@ -219,8 +219,8 @@ static void records(void)
     SAME(part.length, 12);
 }
 
-/* A board with another number in each of its fields. */
-static hollytrot_board filled(uint64_t from)
+/* A board with a different number in each of its fields. */
+static hollytrot_board numbered_board(uint64_t from)
 {
     hollytrot_board board;
     for (size_t i = 0; i < HOLLYTROT_LANES; i++) {
@@ -246,15 +246,15 @@ static void same_session(int line, const hollytrot_session *found, const hollytr
 
 static void sessions(void)
 {
-    hollytrot_session session = {filled(100000), filled(200000), true, {8, 1000}};
-    hollytrot_took took = hollytrot_session_finish(session);
-    answered(took.answer, 19, 0);
-    same_session(__LINE__, &took.session, &session);
+    hollytrot_session session = {numbered_board(100000), numbered_board(200000), true, {8, 1000}};
+    hollytrot_take_result result = hollytrot_session_finish(session);
+    same_answer(result.answer, 19, 0);
+    same_session(__LINE__, &result.session, &session);
 
     hollytrot_board board = hollytrot_session_board(session);
     same_bytes(__LINE__, &board, &session.shown, sizeof board);
 
-    /* a payment of an issuer that is lane 2 of the working board */
+    /* a payment of the issuer in the second lane of the working board */
     session.work.lanes[1].issuer = (hollytrot_issuer){6, 12345678};
     hollytrot_session after = session;
     after.work.lanes[1].tally.payments += 1;
@@ -262,31 +262,31 @@ static void sessions(void)
     after.work.total.payments += 1;
     after.work.total.centavos += 123456;
     after.file = (hollytrot_file){9, 124456};
-    took = hollytrot_session_take(session, g, 150);
-    answered(took.answer, 0, 0);
-    same_session(__LINE__, &took.session, &after);
+    result = hollytrot_session_take(session, g, 150);
+    same_answer(result.answer, 0, 0);
+    same_session(__LINE__, &result.session, &after);
 
-    /* two payments and a trailer for another file */
+    /* two payments, and a trailer whose count is wrong */
     uint8_t three[450];
     memcpy(three, g, 150);
     memcpy(three + 150, g, 150);
     memcpy(three + 300, z, 150);
-    hollytrot_ran ran = hollytrot_session_run(session, three, 450);
-    answered(ran.answer, 13, 2);
-    SAME(ran.records, 2);
-    SAME(ran.files, 0);
-    SAME(ran.session.file.taken, 10);
-    SAME(ran.session.file.total, 247912);
-    SAME(ran.session.work.lanes[1].tally.payments, session.work.lanes[1].tally.payments + 2);
-    /* its own trailer closes it, and the working board is shown */
+    hollytrot_run_result run = hollytrot_session_run(session, three, 450);
+    same_answer(run.answer, 13, 2);
+    SAME(run.records, 2);
+    SAME(run.files, 0);
+    SAME(run.session.file.taken, 10);
+    SAME(run.session.file.total, 247912);
+    SAME(run.session.work.lanes[1].tally.payments, session.work.lanes[1].tally.payments + 2);
+    /* the right trailer closes the file, and the board shown is then the working board */
     session.file = (hollytrot_file){7, 1000};
     memcpy(three + 150, z, 150);
-    ran = hollytrot_session_run(session, three, 300);
-    answered(ran.answer, 0, 0);
-    SAME(ran.records, 2);
-    SAME(ran.files, 1);
-    SAME(ran.session.opened, false);
-    SAME(ran.session.shown.lanes[1].tally.centavos, session.work.lanes[1].tally.centavos + 123456);
+    run = hollytrot_session_run(session, three, 300);
+    same_answer(run.answer, 0, 0);
+    SAME(run.records, 2);
+    SAME(run.files, 1);
+    SAME(run.session.opened, false);
+    SAME(run.session.shown.lanes[1].tally.centavos, session.work.lanes[1].tally.centavos + 123456);
 
     after = hollytrot_session_abandon(session);
     session.work = session.shown;
@@ -308,13 +308,14 @@ static void pages(void)
     size_t length = 0;
     while (wanted[length] != 0)
         length++;
-    hollytrot_page_printed printed = hollytrot_page((hollytrot_answer){14, 8}, 11, 12, filled(50), page, HOLLYTROT_PAGE);
-    answered(printed.answer, 0, 0);
-    SAME(printed.length, length);
+    hollytrot_board board = numbered_board(50);
+    hollytrot_page_result result = hollytrot_page((hollytrot_answer){14, 8}, 11, 12, board, page, HOLLYTROT_PAGE);
+    same_answer(result.answer, 0, 0);
+    SAME(result.length, length);
     same_bytes(__LINE__, page, wanted, length);
-    printed = hollytrot_page((hollytrot_answer){22, 8}, 11, 12, filled(50), page, HOLLYTROT_PAGE);
-    answered(printed.answer, 21, 0);
-    SAME(printed.length, 0);
+    result = hollytrot_page((hollytrot_answer){22, 8}, 11, 12, board, page, HOLLYTROT_PAGE);
+    same_answer(result.answer, 21, 0);
+    SAME(result.length, 0);
 }
 
 int main(void)
@@ -325,6 +326,6 @@ int main(void)
     records();
     sessions();
     pages();
-    printf("abi: %d values crossed, %d wrong\n", checks, failures);
+    printf("abi: %d values compared, %d wrong\n", checks, failures);
     return failures != 0;
 }

@@ -1,7 +1,7 @@
-/* Calls the engine for a program that cannot link it: requests come on standard input, and the whole outcome of
- * each goes to standard output. Both come in frames: a length of four bytes, then so many bytes. Numbers are
- * little-endian, of eight bytes, and lengths of one byte where nothing else is said. A lent buffer is filled
- * with FILL, and its bytes follow the answer. tests/conformance/src/wire.rs has the other side. */
+/* Calls the engine for a program that cannot link with it: reads requests from standard input and writes the whole
+ * outcome of each to standard output. Both come in frames: a length of four bytes, then that many bytes. Numbers are
+ * little-endian and have eight bytes; a length has one byte unless a comment says otherwise. A call's output buffer is
+ * filled with FILL before the call, and its bytes follow the answer. src/wire.rs has the other side. */
 #include <hollytrot.h>
 #include <stdio.h>
 #include <stdlib.h>
@@ -9,16 +9,16 @@
 
 #define FILL 0xA5
 #define GUARD 64
-#define ROOM 9000
+#define MOST_OUT 9000
 
-/* A frame that is read, and the one that answers it. */
+/* The frame of requests, and the frame of replies. */
 static uint8_t *request, *reply;
-static size_t at, requested, replied, request_room, reply_room;
+static size_t at, request_length, reply_length, request_capacity, reply_capacity;
 
-/* What the calls work on. */
+/* The state that calls use and replace, and the output buffer between its guard bytes. */
 static hollytrot_session session;
 static hollytrot_writer writer;
-static uint8_t lent[GUARD + ROOM + GUARD];
+static uint8_t guarded[GUARD + MOST_OUT + GUARD];
 
 static _Noreturn void fail(const char *why)
 {
@@ -26,20 +26,21 @@ static _Noreturn void fail(const char *why)
     exit(2);
 }
 
-static uint8_t *grown(uint8_t *bytes, size_t *room, size_t wanted)
+/* The bytes, moved if need be, with a capacity of at least `length`. */
+static uint8_t *grown(uint8_t *bytes, size_t *capacity, size_t length)
 {
-    if (wanted <= *room)
+    if (length <= *capacity)
         return bytes;
-    bytes = realloc(bytes, 2 * wanted);
+    bytes = realloc(bytes, 2 * length);
     if (bytes == NULL)
         fail("no memory");
-    *room = 2 * wanted;
+    *capacity = 2 * length;
     return bytes;
 }
 
 static const uint8_t *bytes_in(size_t length)
 {
-    if (requested - at < length)
+    if (request_length - at < length)
         fail("a request is cut off");
     const uint8_t *bytes = request + at;
     at += length;
@@ -55,44 +56,45 @@ static uint64_t number_in(void)
     return n;
 }
 
-static void out(const void *bytes, size_t length)
+static void bytes_out(const void *bytes, size_t length)
 {
-    reply = grown(reply, &reply_room, replied + length);
-    memcpy(reply + replied, bytes, length);
-    replied += length;
+    reply = grown(reply, &reply_capacity, reply_length + length);
+    memcpy(reply + reply_length, bytes, length);
+    reply_length += length;
 }
 
-static void number_out(uint64_t n) { out(&n, 8); }
+static void number_out(uint64_t n) { bytes_out(&n, 8); }
 
-static void answer_out(hollytrot_answer a) { out(&a, sizeof a); }
+static void answer_out(hollytrot_answer a) { bytes_out(&a, sizeof a); }
 
-static void part_out(hollytrot_part p) { out(&p, sizeof p); }
+static void part_out(hollytrot_part p) { bytes_out(&p, sizeof p); }
 
-/* A session has padding behind its bool, so its members go one by one. */
+/* A session has padding after its bool, so its members are written one by one. */
 static void session_out(const hollytrot_session *s)
 {
-    out(&s->shown, sizeof s->shown);
-    out(&s->work, sizeof s->work);
+    bytes_out(&s->shown, sizeof s->shown);
+    bytes_out(&s->work, sizeof s->work);
     number_out(s->opened);
     number_out(s->file.taken);
     number_out(s->file.total);
 }
 
-static uint8_t *lend(size_t length)
+/* An output buffer for a call. */
+static uint8_t *new_buffer(size_t length)
 {
-    if (length > ROOM)
+    if (length > MOST_OUT)
         fail("too large a buffer");
-    memset(lent, FILL, GUARD + length + GUARD);
-    return lent + GUARD;
+    memset(guarded, FILL, GUARD + length + GUARD);
+    return guarded + GUARD;
 }
 
-/* What was lent goes back; nothing beside it may have been written. */
-static void lent_out(size_t length)
+/* Writes the output buffer; the call must not have written to the guard bytes. */
+static void buffer_out(size_t length)
 {
     for (size_t i = 0; i < GUARD; i++)
-        if (lent[i] != FILL || lent[GUARD + length + i] != FILL)
-            fail("bytes beside a lent buffer were written");
-    out(lent + GUARD, length);
+        if (guarded[i] != FILL || guarded[GUARD + length + i] != FILL)
+            fail("a call wrote outside its output buffer");
+    bytes_out(guarded + GUARD, length);
 }
 
 static void barcode(void)
@@ -100,11 +102,11 @@ static void barcode(void)
     size_t length = byte_in();
     const uint8_t *bytes = bytes_in(length);
     answer_out(hollytrot_barcode_check(bytes, length));
-    hollytrot_read read = hollytrot_barcode_decode(bytes, length);
-    out(&read, sizeof read);
+    hollytrot_decoded decoded = hollytrot_barcode_decode(bytes, length);
+    bytes_out(&decoded, sizeof decoded);
     part_out(hollytrot_barcode_free_field(bytes, length));
-    answer_out(hollytrot_line_from_barcode(bytes, length, lend(48), 48));
-    lent_out(48);
+    answer_out(hollytrot_line_from_barcode(bytes, length, new_buffer(48), 48));
+    buffer_out(48);
 }
 
 static void line(void)
@@ -112,10 +114,10 @@ static void line(void)
     size_t length = byte_in();
     const uint8_t *bytes = bytes_in(length);
     answer_out(hollytrot_line_check(bytes, length));
-    hollytrot_read read = hollytrot_line_decode(bytes, length);
-    out(&read, sizeof read);
-    answer_out(hollytrot_line_to_barcode(bytes, length, lend(44), 44));
-    lent_out(44);
+    hollytrot_decoded decoded = hollytrot_line_decode(bytes, length);
+    bytes_out(&decoded, sizeof decoded);
+    answer_out(hollytrot_line_to_barcode(bytes, length, new_buffer(44), 44));
+    buffer_out(44);
 }
 
 static void record(void)
@@ -124,13 +126,13 @@ static void record(void)
     const uint8_t *bytes = bytes_in(length);
     answer_out(hollytrot_record_check(bytes, length));
     hollytrot_record record = hollytrot_record_decode(bytes, length);
-    out(&record, sizeof record);
-    size_t room = length > 0 && bytes[0] == 'A' ? 78 : 121;
-    answer_out(hollytrot_record_join(bytes, length, lend(room), room));
-    lent_out(room);
+    bytes_out(&record, sizeof record);
+    size_t out_length = length > 0 && bytes[0] == 'A' ? 78 : 121;
+    answer_out(hollytrot_record_join(bytes, length, new_buffer(out_length), out_length));
+    buffer_out(out_length);
 }
 
-/* Every row of the table, and two past it. */
+/* The field of every row of the table, and of two rows past it. */
 static void fields(void)
 {
     size_t length = byte_in();
@@ -140,41 +142,41 @@ static void fields(void)
     part_out(hollytrot_record_field(bytes, length, SIZE_MAX));
 }
 
-/* A conversion or the joined fields, into a buffer of any length. */
-static void converted(void)
+/* A conversion, or the field bytes of a record, into a buffer of any length. */
+static void conversion(void)
 {
     uint8_t which = byte_in();
-    size_t room = byte_in(), length = byte_in();
+    size_t out_length = byte_in(), length = byte_in();
     const uint8_t *bytes = bytes_in(length);
-    uint8_t *buffer = lend(room);
+    uint8_t *out = new_buffer(out_length);
     switch (which) {
-    case 0: answer_out(hollytrot_line_to_barcode(bytes, length, buffer, room)); break;
-    case 1: answer_out(hollytrot_line_from_barcode(bytes, length, buffer, room)); break;
-    default: answer_out(hollytrot_record_join(bytes, length, buffer, room)); break;
+    case 0: answer_out(hollytrot_line_to_barcode(bytes, length, out, out_length)); break;
+    case 1: answer_out(hollytrot_line_from_barcode(bytes, length, out, out_length)); break;
+    default: answer_out(hollytrot_record_join(bytes, length, out, out_length)); break;
     }
-    lent_out(room);
+    buffer_out(out_length);
 }
 
-static void built(void)
+static void build(void)
 {
     hollytrot_issuer issuer;
     issuer.segment = number_in();
     issuer.number = number_in();
     uint64_t kind = number_in(), value = number_in();
-    size_t room = byte_in(), length = byte_in();
+    size_t out_length = byte_in(), length = byte_in();
     const uint8_t *bytes = bytes_in(length);
-    answer_out(hollytrot_barcode_build(issuer, kind, value, bytes, length, lend(room), room));
-    lent_out(room);
+    answer_out(hollytrot_barcode_build(issuer, kind, value, bytes, length, new_buffer(out_length), out_length));
+    buffer_out(out_length);
 }
 
 static void date_read(void)
 {
     size_t length = byte_in();
     hollytrot_date date = hollytrot_date_read(bytes_in(length), length);
-    out(&date, sizeof date);
+    bytes_out(&date, sizeof date);
 }
 
-static void date_checked(void)
+static void date_check(void)
 {
     hollytrot_date date;
     date.year = number_in();
@@ -200,35 +202,35 @@ static void session_in(void)
     session.file.total = number_in();
 }
 
-static void took(hollytrot_took t)
+static void take_result_out(hollytrot_take_result result)
 {
-    answer_out(t.answer);
-    session = t.session;
+    answer_out(result.answer);
+    session = result.session;
     session_out(&session);
 }
 
-static void taken(void)
+static void take(void)
 {
     size_t length = byte_in();
-    took(hollytrot_session_take(session, bytes_in(length), length));
+    take_result_out(hollytrot_session_take(session, bytes_in(length), length));
 }
 
-/* Its length is a number of eight bytes. */
-static void ran(void)
+/* The length has eight bytes. */
+static void run(void)
 {
     size_t length = number_in();
-    hollytrot_ran r = hollytrot_session_run(session, bytes_in(length), length);
-    answer_out(r.answer);
-    number_out(r.records);
-    number_out(r.files);
-    session = r.session;
+    hollytrot_run_result result = hollytrot_session_run(session, bytes_in(length), length);
+    answer_out(result.answer);
+    number_out(result.records);
+    number_out(result.files);
+    session = result.session;
     session_out(&session);
 }
 
 static void board(void)
 {
     hollytrot_board b = hollytrot_session_board(session);
-    out(&b, sizeof b);
+    bytes_out(&b, sizeof b);
 }
 
 static void writer_in(void)
@@ -238,43 +240,48 @@ static void writer_in(void)
     writer.file.total = number_in();
 }
 
-static void wrote(hollytrot_wrote w, size_t room)
+static void write_result_out(hollytrot_write_result result, size_t out_length)
 {
-    writer = w.writer;
-    out(&w, sizeof w);
-    lent_out(room);
+    writer = result.writer;
+    bytes_out(&result, sizeof result);
+    buffer_out(out_length);
 }
 
 static void header(void)
 {
-    size_t room = byte_in(), length = byte_in();
-    wrote(hollytrot_writer_header(writer, bytes_in(length), length, lend(room), room), room);
+    size_t out_length = byte_in(), length = byte_in();
+    const uint8_t *fields = bytes_in(length);
+    uint8_t *out = new_buffer(out_length);
+    write_result_out(hollytrot_writer_header(writer, fields, length, out, out_length), out_length);
 }
 
 static void payment(void)
 {
     uint64_t received = number_in(), tariff = number_in();
-    size_t room = byte_in(), length = byte_in();
-    wrote(hollytrot_writer_payment(writer, bytes_in(length), length, received, tariff, lend(room), room), room);
+    size_t out_length = byte_in(), length = byte_in();
+    const uint8_t *fields = bytes_in(length);
+    uint8_t *out = new_buffer(out_length);
+    write_result_out(hollytrot_writer_payment(writer, fields, length, received, tariff, out, out_length), out_length);
 }
 
 static void trailer(void)
 {
-    size_t room = byte_in();
-    wrote(hollytrot_writer_trailer(writer, lend(room), room), room);
+    size_t out_length = byte_in();
+    write_result_out(hollytrot_writer_trailer(writer, new_buffer(out_length), out_length), out_length);
 }
 
-/* The page of the session's board; the buffer's length is a number of eight bytes. */
+/* The page of the session's board shown. The length of the buffer has eight bytes. */
 static void page(void)
 {
     hollytrot_answer answer;
     answer.number = number_in();
     answer.place = number_in();
     uint64_t records = number_in(), files = number_in();
-    size_t room = number_in();
-    hollytrot_page_printed printed = hollytrot_page(answer, records, files, session.shown, lend(room), room);
-    out(&printed, sizeof printed);
-    lent_out(room);
+    size_t out_length = number_in();
+    uint8_t *out = new_buffer(out_length);
+    hollytrot_page_result result = hollytrot_page(answer, records, files, session.shown, out, out_length);
+    bytes_out(&result, sizeof result);
+    buffer_out(out_length);
 }
 
 static void serve(uint8_t which)
@@ -284,20 +291,20 @@ static void serve(uint8_t which)
     case 'l': line(); break;
     case 'r': record(); break;
     case 'f': fields(); break;
-    case 'c': converted(); break;
-    case 'u': built(); break;
+    case 'c': conversion(); break;
+    case 'u': build(); break;
     case 'd': date_read(); break;
-    case 'D': date_checked(); break;
+    case 'D': date_check(); break;
     case 'm': check_digits(); break;
     case 'n': session = hollytrot_session_new(); session_out(&session); break;
     case 's': session_in(); break;
-    case 't': taken(); break;
-    case 'R': ran(); break;
+    case 't': take(); break;
+    case 'R': run(); break;
     case 'x': session = hollytrot_session_abandon(session); session_out(&session); break;
-    case 'e': took(hollytrot_session_finish(session)); break;
+    case 'e': take_result_out(hollytrot_session_finish(session)); break;
     case 'B': board(); break;
     case 'w': writer_in(); break;
-    case 'N': writer = hollytrot_writer_new(); out(&writer, sizeof writer); break;
+    case 'N': writer = hollytrot_writer_new(); bytes_out(&writer, sizeof writer); break;
     case 'h': header(); break;
     case 'g': payment(); break;
     case 'z': trailer(); break;
@@ -310,15 +317,16 @@ int main(void)
 {
     uint32_t length;
     while (fread(&length, 1, 4, stdin) == 4) {
-        requested = length;
-        request = grown(request, &request_room, requested);
-        if (fread(request, 1, requested, stdin) != requested)
+        request_length = length;
+        request = grown(request, &request_capacity, request_length);
+        if (fread(request, 1, request_length, stdin) != request_length)
             fail("a frame is cut off");
-        replied = 0;
-        for (at = 0; at < requested;)
+        reply_length = 0;
+        for (at = 0; at < request_length;)
             serve(byte_in());
-        length = (uint32_t)replied;
-        if (fwrite(&length, 1, 4, stdout) != 4 || fwrite(reply, 1, replied, stdout) != replied || fflush(stdout) != 0)
+        length = (uint32_t)reply_length;
+        if (fwrite(&length, 1, 4, stdout) != 4 || fwrite(reply, 1, reply_length, stdout) != reply_length ||
+            fflush(stdout) != 0)
             fail("standard output");
     }
     return 0;
