@@ -1,4 +1,4 @@
-//! Known values through every type of the crate; document 01's samples.
+//! Known values through every type of the crate, with some of docs/SPEC.md, "Samples".
 
 use hollytrot::record::{self, Row};
 use hollytrot::{
@@ -15,7 +15,7 @@ fn refused(reason: Reason, place: usize) -> Refusal {
     Refusal { reason, place }
 }
 
-/// Segment 6, kind 8, so that issuer and free field have their other widths.
+/// A barcode of segment 6, where issuer and free field have other widths than elsewhere.
 fn code() -> [u8; 44] {
     let issuer = Issuer {
         segment: 6,
@@ -39,7 +39,7 @@ fn refusals_say_number_place_and_reason() {
     let refusal = line::check(&P4[..47]).unwrap_err();
     assert_eq!(
         refusal.to_string(),
-        "refused 1: the length is not the one called for"
+        "refused 1: the length is not the required one"
     );
     let mut p6 = P4.to_vec();
     p6[47] = b'9';
@@ -52,13 +52,13 @@ fn refusals_say_number_place_and_reason() {
 
 #[test]
 fn lines_and_barcodes() {
-    let said = line::decode(P4).expect("accepted");
+    let fields = line::decode(P4).expect("accepted");
     let issuer = Issuer {
         segment: 1,
         number: 3659,
     };
     assert_eq!(
-        said,
+        fields,
         Fields {
             kind: 7,
             value: 109,
@@ -68,13 +68,13 @@ fn lines_and_barcodes() {
     );
     let code44 = line::to_barcode(P4).expect("accepted");
     assert_eq!(line::from_barcode(&code44).expect("accepted"), P4);
-    assert_eq!(barcode::decode(&code44), Ok(said));
+    assert_eq!(barcode::decode(&code44), Ok(fields));
     assert_eq!(barcode::free_field(&code44), &code44[19..]);
     assert_eq!(barcode::free_field(&code44[..43]), b"");
 
-    let said = barcode::decode(&code()).expect("accepted");
-    assert_eq!((said.kind, said.value), (8, 98_765_432_109));
-    assert_eq!(said.due, Date::new(2024, 2, 29));
+    let fields = barcode::decode(&code()).expect("accepted");
+    assert_eq!((fields.kind, fields.value), (8, 98_765_432_109));
+    assert_eq!(fields.due, Date::new(2024, 2, 29));
     assert_eq!(barcode::free_field(&code()), b"202402291234567890123");
     assert_eq!(
         barcode::build(issuer, 7, 0, b""),
@@ -142,8 +142,11 @@ fn a_file_written_and_taken() {
     session.take(&g).expect("expected now");
     assert_eq!(session.finish(), Err(refused(Reason::FileOpen, 0)));
     assert_eq!(session.board().lanes(), []);
-    let run = session.run(&z);
-    assert_eq!((run.answer, run.records, run.files), (Ok(()), 1, 1));
+    let result = session.run(&z);
+    assert_eq!(
+        (result.answer, result.records, result.files),
+        (Ok(()), 1, 1)
+    );
     let issuer = Issuer {
         segment: 6,
         number: 12_345_678,
