@@ -332,8 +332,8 @@ typedef struct hollytrot_page_result {
     size_t length;
 } hollytrot_page_result;
 
-/* Writes the page into `out`, HOLLYTROT_PAGE bytes: an answer, the records and files accepted, then the board. The bytes
- * after the page do not change. An answer's number past 21 is refused 21 at place 0. */
+/* Writes the page into `out`, HOLLYTROT_PAGE bytes: an answer, the records and files accepted, then the board. Bytes
+ * after the page do not change. The answer may have any number and any place: the page has whatever they are. */
 hollytrot_page_result hollytrot_page(hollytrot_answer answer, uint64_t records, uint64_t files, hollytrot_board board,
                                      uint8_t *out, size_t out_length);
 

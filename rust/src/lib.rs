@@ -1,9 +1,9 @@
 //! Collection barcodes, typed lines, A/G/Z return files and the board of a premium collector.
 //!
 //! A safe crate over the proved engine (include/hollytrot.h), by the rules of docs/SPEC.md. Every function accepts
-//! every input and returns its value or one [`Refusal`], which has a number and a place; a refused call changes nothing.
-//! Only [`Session::run`], which takes many records, keeps those before the refused one. What the C interface requires of
-//! its caller, no null pointers and no overlapping buffers, this crate guarantees.
+//! every input and returns its value or one [`Refusal`], which has a number and a place; a refused call changes
+//! nothing. Only [`Session::run`], which takes many records, keeps those before the refused one. What the C interface
+//! requires of its caller, no null pointers and no overlapping buffers, this crate guarantees.
 //!
 //! ```
 //! use hollytrot::line;

@@ -301,20 +301,25 @@ static void sessions(void)
 static void pages(void)
 {
     static uint8_t page[HOLLYTROT_PAGE];
-    const char *wanted = "answer=14\nplace=8\nrecord=11\nfiles=12\nlanes=3\npayments=54\ncentavos=55\n"
-                         "lane=1\nissuer=50-0051\npayments=52\ncentavos=53\n"
-                         "lane=2\nissuer=60-0061\npayments=62\ncentavos=63\n"
-                         "lane=3\nissuer=70-0071\npayments=72\ncentavos=73\n";
-    size_t length = 0;
-    while (wanted[length] != 0)
-        length++;
+    const char wanted[] = "answer=14\nplace=8\nrecord=11\nfiles=12\nlanes=3\npayments=54\ncentavos=55\n"
+                          "lane=1\nissuer=50-0051\npayments=52\ncentavos=53\n"
+                          "lane=2\nissuer=60-0061\npayments=62\ncentavos=63\n"
+                          "lane=3\nissuer=70-0071\npayments=72\ncentavos=73\n";
+    size_t length = sizeof wanted - 1;
     hollytrot_board board = numbered_board(50);
     hollytrot_page_result result = hollytrot_page((hollytrot_answer){14, 8}, 11, 12, board, page, HOLLYTROT_PAGE);
     same_answer(result.answer, 0, 0);
     SAME(result.length, length);
     same_bytes(__LINE__, page, wanted, length);
-    result = hollytrot_page((hollytrot_answer){22, 8}, 11, 12, board, page, HOLLYTROT_PAGE);
-    same_answer(result.answer, 21, 0);
+    /* an answer of any number and any place */
+    const char largest[] = "answer=18446744073709551615\nplace=18446744073709551614\nrecord=11\n";
+    hollytrot_answer answer = {UINT64_MAX, SIZE_MAX - 1};
+    result = hollytrot_page(answer, 11, 12, board, page, HOLLYTROT_PAGE);
+    same_answer(result.answer, 0, 0);
+    SAME(result.length, length + 18 + 19);
+    same_bytes(__LINE__, page, largest, sizeof largest - 1);
+    result = hollytrot_page(answer, 11, 12, board, page, HOLLYTROT_PAGE - 1);
+    same_answer(result.answer, 1, 0);
     SAME(result.length, 0);
 }
 

@@ -1,22 +1,24 @@
-//! Each call goes to the engine as a request, and to the reference program for the reply that is expected.
+//! Each call goes to the engine as a request, and to the reference program, whose outcome is the expected reply.
 
-use reference::{
-    barcode, line, page, records, Date, Modulus, Reason, Refusal, Session, Stage, Writer,
-};
+mod states;
+
+use std::collections::BTreeMap;
+
+use reference::{barcode, line, records, Date, Modulus, Refusal, Session, Writer};
 
 use crate::engine::{Batch, Engine};
 use crate::wire;
 
-/// Bytes of requests and replies that make a frame.
-const FRAME: usize = 1 << 18;
+/// A batch is sent when it has this many bytes of requests and replies.
+const BATCH: usize = 1 << 18;
 
-/// What a lent buffer holds before a call.
+/// Every byte of a call's output buffer before the call.
 const FILL: u8 = 0xA5;
 
-/// The page's buffer.
+/// The length of the page's buffer.
 pub const PAGE: usize = 8837;
 
-/// Rows that are asked for: the table's, and two past it.
+/// The rows of a record that are compared: those of the table, and two past it.
 const ROWS: [usize; 30] = {
     let mut rows = [usize::MAX; 30];
     let mut i = 0;
@@ -27,51 +29,52 @@ const ROWS: [usize; 30] = {
     rows
 };
 
-/// Requests whose reply starts with an answer.
+/// The letters of requests whose reply starts with an answer.
 const ANSWERED: &[u8] = b"blrcutRehgzp";
 
-/// How many inputs were passed, and how often each number was answered.
-#[derive(Clone, Copy, Default)]
-pub struct Passed {
+/// How many inputs were compared, and how often each number was answered.
+#[derive(Clone, Default)]
+pub struct Counts {
     pub inputs: u64,
-    pub answers: [u64; 22],
+    pub answers: BTreeMap<u64, u64>,
 }
 
-impl Passed {
+impl Counts {
+    /// Counts the answers that a batch expects.
     fn count(&mut self, batch: &Batch) {
-        for &(request, reply) in &batch.marks {
+        for &(request, reply) in &batch.starts {
             if ANSWERED.contains(&batch.requests[request]) {
-                // A number is below 22: its first byte is all of it.
-                self.answers[usize::from(batch.expected[reply])] += 1;
+                let number = wire::number_at(&batch.expected, reply);
+                *self.answers.entry(number).or_insert(0) += 1;
             }
         }
     }
 
-    pub fn add(&mut self, more: &Passed) {
+    pub fn add(&mut self, more: &Counts) {
         self.inputs += more.inputs;
-        for (all, more) in self.answers.iter_mut().zip(more.answers) {
-            *all += more;
+        for (&number, &count) in &more.answers {
+            *self.answers.entry(number).or_insert(0) += count;
         }
     }
 }
 
-/// A conversion of bytes into a lent buffer.
+/// A conversion of bytes into an output buffer.
 #[derive(Clone, Copy)]
 pub enum Conversion {
     LineToBarcode,
     LineFromBarcode,
-    Joined,
+    Join,
 }
 
-/// The engine and the reference program, side by side.
+/// The engine and the reference program, called with the same inputs.
 pub struct Calls {
     engine: Engine,
     batch: Batch,
     session: Session,
     writer: Writer,
-    /// The engine's number of the writer's stage.
+    /// The number of the writer's stage in the engine, where every number past 1 means closed.
     stage: u64,
-    passed: Passed,
+    counts: Counts,
 }
 
 impl Default for Calls {
@@ -88,32 +91,32 @@ impl Calls {
             session: Session::new(),
             writer: Writer::new(),
             stage: 0,
-            passed: Passed::default(),
+            counts: Counts::default(),
         }
     }
 
-    /// What was passed, or the first difference.
-    pub fn finish(mut self) -> Result<Passed, String> {
+    /// Waits for all replies: how many inputs were equal, or the first difference.
+    pub fn finish(mut self) -> Result<Counts, String> {
         self.send();
         self.engine.finish()?;
-        Ok(self.passed)
+        Ok(self.counts)
     }
 
     fn send(&mut self) {
         let batch = std::mem::take(&mut self.batch);
-        self.passed.count(&batch);
+        self.counts.count(&batch);
         self.engine.send(batch);
     }
 
-    /// A request of this letter: its bytes go to the first, the reply that is expected to the second.
+    /// Starts a request with its letter. The caller adds the rest of the request, and the expected reply.
     fn call(&mut self, letter: u8) -> (&mut Vec<u8>, &mut Vec<u8>) {
-        if self.batch.requests.len() + self.batch.expected.len() > FRAME {
+        if self.batch.requests.len() + self.batch.expected.len() > BATCH {
             self.send();
         }
-        self.passed.inputs += 1;
+        self.counts.inputs += 1;
         let batch = &mut self.batch;
         batch
-            .marks
+            .starts
             .push((batch.requests.len(), batch.expected.len()));
         batch.requests.push(letter);
         (&mut batch.requests, &mut batch.expected)
@@ -122,37 +125,34 @@ impl Calls {
     pub fn barcode(&mut self, code: &[u8]) {
         let (request, reply) = self.call(b'b');
         put(request, code);
-        let said = barcode::decode(code);
-        wire::answered(reply, &said);
-        wire::decoded(reply, &said);
+        let decoded = barcode::decode(code);
+        wire::answer(reply, &decoded);
+        wire::decoded(reply, &decoded);
         wire::part(reply, code, barcode::free_field(code));
-        lent(reply, 48, |out| line::line_from_barcode(code, out));
+        answer_and_buffer(reply, 48, |out| line::line_from_barcode(code, out));
     }
 
     pub fn line(&mut self, typed: &[u8]) {
         let (request, reply) = self.call(b'l');
         put(request, typed);
-        let said = line::decode(typed);
-        wire::answered(reply, &said);
-        wire::decoded(reply, &said);
-        lent(reply, 44, |out| line::barcode_from_line(typed, out));
+        let decoded = line::decode(typed);
+        wire::answer(reply, &decoded);
+        wire::decoded(reply, &decoded);
+        answer_and_buffer(reply, 44, |out| line::barcode_from_line(typed, out));
     }
 
     pub fn record(&mut self, record: &[u8]) {
         let (request, reply) = self.call(b'r');
         put(request, record);
-        let said = records::decode(record);
-        wire::answered(reply, &said);
-        wire::record(reply, &said);
-        let room = if record.first() == Some(&b'A') {
-            78
-        } else {
-            121
-        };
-        lent(reply, room, |out| records::joined(record, out));
+        let decoded = records::decode(record);
+        wire::answer(reply, &decoded);
+        wire::record(reply, &decoded);
+        let is_header = record.first() == Some(&b'A');
+        let out_length = if is_header { 78 } else { 121 };
+        answer_and_buffer(reply, out_length, |out| records::join(record, out));
     }
 
-    /// Every field of a record.
+    /// The field of every row of [`ROWS`].
     pub fn fields(&mut self, record: &[u8]) {
         let (request, reply) = self.call(b'f');
         put(request, record);
@@ -161,23 +161,23 @@ impl Calls {
         }
     }
 
-    pub fn converted(&mut self, which: Conversion, bytes: &[u8], room: u8) {
+    pub fn convert(&mut self, conversion: Conversion, bytes: &[u8], out_length: u8) {
         let (request, reply) = self.call(b'c');
-        request.extend_from_slice(&[which as u8, room]);
+        request.extend_from_slice(&[conversion as u8, out_length]);
         put(request, bytes);
-        lent(reply, room.into(), |out| match which {
+        answer_and_buffer(reply, out_length.into(), |out| match conversion {
             Conversion::LineToBarcode => line::barcode_from_line(bytes, out),
             Conversion::LineFromBarcode => line::line_from_barcode(bytes, out),
-            Conversion::Joined => records::joined(bytes, out),
+            Conversion::Join => records::join(bytes, out),
         });
     }
 
-    pub fn build(&mut self, [segment, issuer, kind, value]: [u64; 4], free: &[u8], room: u8) {
+    pub fn build(&mut self, [segment, issuer, kind, value]: [u64; 4], free: &[u8], out_length: u8) {
         let (request, reply) = self.call(b'u');
         wire::numbers(request, &[segment, issuer, kind, value]);
-        request.push(room);
+        request.push(out_length);
         put(request, free);
-        lent(reply, room.into(), |out| {
+        answer_and_buffer(reply, out_length.into(), |out| {
             barcode::build(segment, kind, value, issuer, free, out)
         });
     }
@@ -188,7 +188,7 @@ impl Calls {
         wire::date(reply, Date::read(bytes).ok());
     }
 
-    /// Whether there is such a date; the reference program knows years of 16 bits, months and days of 8.
+    /// Whether three numbers are a date. In the reference program a year has 16 bits, a month and a day 8.
     pub fn is_date(&mut self, year: u64, month: u64, day: u64) {
         let (request, reply) = self.call(b'D');
         wire::numbers(request, &[year, month, day]);
@@ -202,183 +202,31 @@ impl Calls {
         wire::number(reply, u64::from(date.is_some()));
     }
 
-    /// The two check digits of digits.
-    pub fn checks(&mut self, digits: &[u8]) {
+    /// The check digits of digits under both moduli.
+    pub fn check_digits(&mut self, digits: &[u8]) {
         let (request, reply) = self.call(b'm');
         put(request, digits);
         for modulus in [Modulus::Ten, Modulus::Eleven] {
             wire::number(reply, modulus.check_digit(digits).expect("digits"));
         }
     }
-
-    pub fn session(&self) -> &Session {
-        &self.session
-    }
-
-    pub fn new_session(&mut self) {
-        self.session = Session::new();
-        let session = self.session.clone();
-        let (_, reply) = self.call(b'n');
-        wire::session(reply, &session);
-    }
-
-    /// A session put together by hand.
-    pub fn set_session(&mut self, session: &Session) {
-        self.session = session.clone();
-        let (request, _) = self.call(b's');
-        wire::session(request, session);
-    }
-
-    pub fn take(&mut self, record: &[u8]) -> Result<(), Refusal> {
-        let before = self.session.clone();
-        let outcome = self.session.take(record);
-        assert!(outcome.is_ok() || before == self.session);
-        let after = self.session.clone();
-        let (request, reply) = self.call(b't');
-        put(request, record);
-        wire::answered(reply, &outcome);
-        wire::session(reply, &after);
-        outcome
-    }
-
-    /// Records one after the other; each counts as an input.
-    pub fn run(&mut self, bytes: &[u8]) -> Result<(), Refusal> {
-        let run = self.session.take_many(bytes);
-        let after = self.session.clone();
-        self.passed.inputs += run.records;
-        let (request, reply) = self.call(b'R');
-        wire::number(request, bytes.len() as u64);
-        request.extend_from_slice(bytes);
-        wire::answered(reply, &run.answer);
-        wire::numbers(reply, &[run.records, run.files]);
-        wire::session(reply, &after);
-        run.answer
-    }
-
-    pub fn abandon(&mut self) {
-        self.session.abandon();
-        let after = self.session.clone();
-        let (_, reply) = self.call(b'x');
-        wire::session(reply, &after);
-    }
-
-    pub fn finish_session(&mut self) {
-        let outcome = self.session.finish();
-        let after = self.session.clone();
-        let (_, reply) = self.call(b'e');
-        wire::answered(reply, &outcome);
-        wire::session(reply, &after);
-    }
-
-    pub fn board(&mut self) {
-        let board = *self.session.board();
-        let (_, reply) = self.call(b'B');
-        wire::board(reply, &board);
-    }
-
-    /// The page of the board shown.
-    pub fn page(&mut self, number: u64, place: u64, records: u64, files: u64, room: usize) {
-        let board = *self.session.board();
-        let (request, reply) = self.call(b'p');
-        wire::numbers(request, &[number, place, records, files, room as u64]);
-        let mut buffer = vec![FILL; room];
-        let printed = printed(number, place as usize, room).map(|outcome| {
-            let text = page::page(outcome, records, files, &board);
-            buffer[..text.len()].copy_from_slice(&text);
-            text.len()
-        });
-        wire::answered(reply, &printed);
-        wire::number(reply, printed.unwrap_or(0) as u64);
-        reply.extend_from_slice(&buffer);
-    }
-
-    pub fn new_writer(&mut self) {
-        self.writer = Writer::new();
-        self.stage = 0;
-        let (_, reply) = self.call(b'N');
-        wire::numbers(reply, &[0; 3]);
-    }
-
-    /// A writer put together by hand; stages past 1 are closed.
-    pub fn set_writer(&mut self, stage: u64, taken: u64, total: u64) {
-        self.stage = stage;
-        self.writer = Writer {
-            stage: match stage {
-                0 => Stage::Fresh,
-                1 => Stage::Open,
-                _ => Stage::Closed,
-            },
-            taken,
-            total,
-        };
-        let (request, _) = self.call(b'w');
-        wire::numbers(request, &[stage, taken, total]);
-    }
-
-    pub fn header(&mut self, fields: &[u8], room: u8) {
-        let mut out = vec![FILL; room.into()];
-        let outcome = self.writer.header(fields, &mut out);
-        let request = self.written(b'h', outcome, &out);
-        request.push(room);
-        put(request, fields);
-    }
-
-    pub fn payment(&mut self, fields: &[u8], received: u64, tariff: u64, room: u8) {
-        let mut out = vec![FILL; room.into()];
-        let outcome = self.writer.payment(fields, received, tariff, &mut out);
-        let request = self.written(b'g', outcome, &out);
-        wire::numbers(request, &[received, tariff]);
-        request.push(room);
-        put(request, fields);
-    }
-
-    pub fn trailer(&mut self, room: u8) {
-        let mut out = vec![FILL; room.into()];
-        let outcome = self.writer.trailer(&mut out);
-        self.written(b'z', outcome, &out).push(room);
-    }
-
-    /// The answer, the writer that follows and the lent bytes are expected.
-    fn written(&mut self, letter: u8, outcome: Result<(), Refusal>, out: &[u8]) -> &mut Vec<u8> {
-        if outcome.is_ok() {
-            self.stage = self.writer.stage as u64;
-        }
-        let writer = [self.stage, self.writer.taken, self.writer.total];
-        let (request, reply) = self.call(letter);
-        wire::answered(reply, &outcome);
-        wire::numbers(reply, &writer);
-        reply.extend_from_slice(out);
-        request
-    }
 }
 
-/// A length of one byte, then the bytes.
+/// Adds a length of one byte, then the bytes.
 fn put(request: &mut Vec<u8>, bytes: &[u8]) {
     request.push(bytes.len().try_into().expect("at most 255 bytes"));
     request.extend_from_slice(bytes);
 }
 
-/// The answer of a call that is lent a buffer, and the buffer behind it.
-fn lent(reply: &mut Vec<u8>, room: usize, call: impl FnOnce(&mut [u8]) -> Result<(), Refusal>) {
+/// Adds the answer of a call that has an output buffer, then the buffer after the call.
+fn answer_and_buffer(
+    reply: &mut Vec<u8>,
+    out_length: usize,
+    call: impl FnOnce(&mut [u8]) -> Result<(), Refusal>,
+) {
     let mut buffer = [FILL; 256];
-    let outcome = call(&mut buffer[..room]);
-    wire::answered(reply, &outcome);
-    reply.extend_from_slice(&buffer[..room]);
-}
-
-/// The answer that is printed: 21 for a number that no answer has, then 1 for the buffer.
-fn printed(number: u64, place: usize, room: usize) -> Result<Result<(), Refusal>, Refusal> {
-    let reason = match number {
-        0 => None,
-        n => {
-            let known = Reason::ALL
-                .iter()
-                .find(|reason| u64::from(reason.number()) == n);
-            Some(*known.ok_or(Reason::WideNumber.at(0))?)
-        }
-    };
-    if room != PAGE {
-        return Err(Reason::Length.at(0));
-    }
-    Ok(reason.map_or(Ok(()), |reason| Err(reason.at(place))))
+    let out = &mut buffer[..out_length];
+    let outcome = call(out);
+    wire::answer(reply, &outcome);
+    reply.extend_from_slice(out);
 }

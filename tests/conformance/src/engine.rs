@@ -1,4 +1,4 @@
-//! The process that calls the engine: frames of requests go to it, and its replies are held to those expected.
+//! The process that calls the engine: frames of requests go to it, and its replies are compared with the expected ones.
 
 use std::io::{self, BufReader, Read, Write};
 use std::path::{Path, PathBuf};
@@ -7,23 +7,23 @@ use std::sync::mpsc::{sync_channel, Receiver, SyncSender};
 use std::sync::Arc;
 use std::thread::{spawn, JoinHandle};
 
-/// Frames on their way at a time.
+/// How many batches may wait for their replies.
 const AHEAD: usize = 4;
 
-/// Many requests, with the replies that the reference program would give.
+/// Many requests, with the replies that are expected: those of the reference program.
 #[derive(Default)]
 pub struct Batch {
     pub requests: Vec<u8>,
     pub expected: Vec<u8>,
     /// Where each request and its reply start.
-    pub marks: Vec<(usize, usize)>,
+    pub starts: Vec<(usize, usize)>,
 }
 
 impl Batch {
     /// The bytes of request `i` and of its reply, in `replies` of the whole batch.
     fn part<'a>(&'a self, i: usize, replies: &'a [u8]) -> (&'a [u8], &'a [u8]) {
-        let (from, at) = self.marks[i];
-        let (to, end) = match self.marks.get(i + 1) {
+        let (from, at) = self.starts[i];
+        let (to, end) = match self.starts.get(i + 1) {
             Some(&next) => next,
             None => (self.requests.len(), replies.len()),
         };
@@ -31,17 +31,17 @@ impl Batch {
     }
 }
 
-/// The repository's root.
+/// The root of the repository.
 pub fn root() -> PathBuf {
     Path::new(env!("CARGO_MANIFEST_DIR")).join("../..")
 }
 
-/// A program for x86-64, run on this machine.
+/// The command that runs a program for x86-64 on this machine.
 pub fn program(path: &str) -> Command {
     let file = root().join(path);
     assert!(
         file.exists(),
-        "there is no {path}: ./test says what makes it"
+        "there is no {path}: ./test has the command that builds it"
     );
     let mut command = Command::new(root().join("tools/x86"));
     command.arg(file);
@@ -67,7 +67,7 @@ impl Engine {
         let (passed_on, awaited) = sync_channel::<Arc<Batch>>(AHEAD);
         let writer = spawn(move || {
             for batch in sent {
-                // Where the reader has given up, it says why.
+                // If the reader has stopped, it returns the reason.
                 if passed_on.send(batch.clone()).is_err() || write(&mut stdin, &batch).is_err() {
                     return;
                 }
@@ -82,7 +82,7 @@ impl Engine {
         }
     }
 
-    /// Sends a batch; a difference shows itself at the end.
+    /// Sends a batch. A difference is returned by `finish`.
     pub fn send(&mut self, batch: Batch) {
         if let Some(batches) = &self.batches {
             if batches.send(Arc::new(batch)).is_err() {
@@ -91,7 +91,7 @@ impl Engine {
         }
     }
 
-    /// Waits for all replies: the first difference, if there is one.
+    /// Waits for all replies; the error is the first difference.
     pub fn finish(mut self) -> Result<(), String> {
         self.batches = None;
         let found = self.reader.join().expect("the reader ends");
@@ -132,29 +132,30 @@ fn frame(stdout: &mut impl Read) -> io::Result<Vec<u8>> {
     Ok(replies)
 }
 
-/// The first request whose reply differs, with both.
+/// Describes the first request whose reply differs, with both replies.
 fn difference(batch: &Batch, replies: &[u8]) -> String {
     if replies.len() != batch.expected.len() {
         return format!(
-            "{} bytes of replies, and not {}",
+            "{} bytes of replies, not {}",
             replies.len(),
             batch.expected.len()
         );
     }
     let differs = |&i: &usize| batch.part(i, replies).1 != batch.part(i, &batch.expected).1;
-    let i = (0..batch.marks.len()).find(differs).unwrap_or(0);
+    let i = (0..batch.starts.len()).find(differs).unwrap_or(0);
     let (request, found) = batch.part(i, replies);
-    let (_, wanted) = batch.part(i, &batch.expected);
-    let place = found.iter().zip(wanted).position(|(a, b)| a != b);
+    let (_, expected) = batch.part(i, &batch.expected);
+    let place = found.iter().zip(expected).position(|(a, b)| a != b);
     format!(
         "the engine differs in byte {place:?} of the reply to '{}' {}\nengine: {}\nreference: {}",
         request[0] as char,
         shown(&request[1..]),
         shown(found),
-        shown(wanted)
+        shown(expected)
     )
 }
 
+/// The bytes, escaped; at most 400 of them.
 fn shown(bytes: &[u8]) -> String {
     let most = 400;
     let end = if bytes.len() > most { " .." } else { "" };

@@ -1,4 +1,5 @@
-//! What the fuzzer found: a folder of files, each one input in hexadecimal digits. A test replays them.
+//! Inputs on which the fuzzer found a difference: a folder of files, each an input in hexadecimal digits. A test
+//! compares them again.
 
 use std::collections::hash_map::DefaultHasher;
 use std::fs;
@@ -15,14 +16,14 @@ pub fn hex(input: &[u8]) -> String {
     input.iter().map(|byte| format!("{byte:02x}")).collect()
 }
 
-/// The bytes of hexadecimal digits, if they are such.
+/// The bytes of hexadecimal digits; `None` if there are other characters.
 pub fn bytes(hex: &str) -> Option<Vec<u8>> {
     let digit = |&byte: &u8| Some(char::from(byte).to_digit(16)? as u8);
     let two = |pair: &[u8]| Some(digit(pair.first()?)? * 16 + digit(pair.get(1)?)?);
     hex.trim().as_bytes().chunks(2).map(two).collect()
 }
 
-/// Writes an input down, under a name of its own, which is given.
+/// Writes an input to a file and returns its name, which depends on the input alone.
 pub fn keep(input: &[u8]) -> io::Result<String> {
     let mut hasher = DefaultHasher::new();
     input.hash(&mut hasher);
@@ -32,7 +33,7 @@ pub fn keep(input: &[u8]) -> io::Result<String> {
     Ok(name)
 }
 
-/// Every input written down. Where nothing was found there is no folder.
+/// Every input of the folder, with its file. There is no folder until something is found.
 pub fn all() -> io::Result<Vec<(PathBuf, Vec<u8>)>> {
     let folder = root().join(FOLDER);
     if !folder.exists() {
@@ -40,7 +41,7 @@ pub fn all() -> io::Result<Vec<(PathBuf, Vec<u8>)>> {
     }
     let read = |path: &Path| -> io::Result<Vec<u8>> {
         bytes(&fs::read_to_string(path)?).ok_or_else(|| {
-            let why = format!("{} has other than hexadecimal digits", path.display());
+            let why = format!("{} is not in hexadecimal digits", path.display());
             io::Error::new(io::ErrorKind::InvalidData, why)
         })
     };

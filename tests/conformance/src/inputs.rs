@@ -1,14 +1,14 @@
-//! The fuzzer's inputs: any bytes are one. The first says which calls are made, the rest what they are passed.
+//! The fuzzer's inputs. Any bytes are an input: the first says which calls are made, the rest are their arguments.
 
 use reference::session::LANES;
 use reference::{Board, Issuer, Lane, Session};
 
 use crate::calls::{Calls, Conversion, PAGE};
 
-/// The largest buffer that is lent for a page.
+/// The length of the largest buffer for a page.
 const MOST_PAGE: usize = 9000;
 
-/// What an input is about.
+/// Which calls an input makes.
 #[derive(Clone, Copy, Debug, PartialEq, Eq)]
 pub enum Kind {
     Line,
@@ -16,14 +16,14 @@ pub enum Kind {
     Date,
     DateNumbers,
     CheckDigits,
-    Built,
+    Build,
     Record,
-    Converted,
+    Convert,
     Run,
-    Taken,
-    ByHand,
+    Take,
+    ArbitrarySession,
     Page,
-    Written,
+    Write,
 }
 
 impl Kind {
@@ -33,14 +33,14 @@ impl Kind {
         Kind::Date,
         Kind::DateNumbers,
         Kind::CheckDigits,
-        Kind::Built,
+        Kind::Build,
         Kind::Record,
-        Kind::Converted,
+        Kind::Convert,
         Kind::Run,
-        Kind::Taken,
-        Kind::ByHand,
+        Kind::Take,
+        Kind::ArbitrarySession,
         Kind::Page,
-        Kind::Written,
+        Kind::Write,
     ];
 
     pub fn of(input: &[u8]) -> Kind {
@@ -49,7 +49,7 @@ impl Kind {
     }
 }
 
-/// What is left of an input. Past its end there are zeros.
+/// The rest of an input. Past its end there are zeros.
 struct Rest<'a>(&'a [u8]);
 
 impl<'a> Rest<'a> {
@@ -74,13 +74,13 @@ impl<'a> Rest<'a> {
         u64::from_le_bytes(n)
     }
 
-    /// A length of one byte, then so many bytes.
+    /// A length of one byte, then that many bytes.
     fn counted(&mut self) -> &'a [u8] {
         let length = self.byte();
         self.bytes(length.into())
     }
 
-    /// All that is left, as far as a length of one byte goes.
+    /// The rest, but at most 255 bytes.
     fn short(&mut self) -> &'a [u8] {
         self.bytes(255)
     }
@@ -106,46 +106,46 @@ impl<'a> Rest<'a> {
     }
 }
 
-/// Passes an input to the engine and to the reference program. No input depends on those before it.
-pub fn pass(calls: &mut Calls, input: &[u8]) {
+/// Makes the calls of an input. They do not depend on the inputs before it.
+pub fn compare(calls: &mut Calls, input: &[u8]) {
     let mut rest = Rest(input.get(1..).unwrap_or_default());
     match Kind::of(input) {
         Kind::Line => calls.line(rest.short()),
         Kind::Barcode => calls.barcode(rest.short()),
         Kind::Date => calls.date(rest.short()),
         Kind::DateNumbers => calls.is_date(rest.number(), rest.number(), rest.number()),
-        Kind::CheckDigits => calls.checks(&digits(rest.short())),
-        Kind::Built => {
+        Kind::CheckDigits => calls.check_digits(&digits(rest.short())),
+        Kind::Build => {
             let numbers = [(); 4].map(|()| rest.number());
-            let room = rest.byte();
-            calls.build(numbers, rest.short(), room);
+            let out_length = rest.byte();
+            calls.build(numbers, rest.short(), out_length);
         }
         Kind::Record => {
             let record = rest.short();
             calls.record(record);
             calls.fields(record);
         }
-        Kind::Converted => {
-            let which = match rest.byte() % 3 {
+        Kind::Convert => {
+            let conversion = match rest.byte() % 3 {
                 0 => Conversion::LineToBarcode,
                 1 => Conversion::LineFromBarcode,
-                _ => Conversion::Joined,
+                _ => Conversion::Join,
             };
-            let room = rest.byte();
-            calls.converted(which, rest.short(), room);
+            let out_length = rest.byte();
+            calls.convert(conversion, rest.short(), out_length);
         }
         Kind::Run => run(calls, &mut rest),
-        Kind::Taken => {
+        Kind::Take => {
             calls.new_session();
             take(calls, &mut rest, usize::MAX);
         }
-        Kind::ByHand => by_hand(calls, &mut rest),
+        Kind::ArbitrarySession => arbitrary_session(calls, &mut rest),
         Kind::Page => page(calls, &mut rest),
-        Kind::Written => written(calls, &mut rest),
+        Kind::Write => write(calls, &mut rest),
     }
 }
 
-/// Check digits are of digits only.
+/// The bytes with a digit in place of every other byte: check digits are of digits only.
 fn digits(bytes: &[u8]) -> Vec<u8> {
     let digit = |&byte: &u8| match byte {
         b'0'..=b'9' => byte,
@@ -154,7 +154,7 @@ fn digits(bytes: &[u8]) -> Vec<u8> {
     bytes.iter().map(digit).collect()
 }
 
-/// Records at once: so many in a piece, or all for 0.
+/// Runs of a new session. The first byte says how many records a run has; 0 means all.
 fn run(calls: &mut Calls, rest: &mut Rest) {
     calls.new_session();
     let piece = match rest.byte() {
@@ -167,8 +167,8 @@ fn run(calls: &mut Calls, rest: &mut Rest) {
     calls.finish_session();
 }
 
-/// At most so many records one by one. The byte before each says what is done first, and its length if that is
-/// not 150.
+/// Takes at most `most` records one by one. The byte before each says which call is made first, and the record's length
+/// if it is not 150.
 fn take(calls: &mut Calls, rest: &mut Rest, most: usize) {
     for _ in 0..most {
         if rest.0.is_empty() {
@@ -190,8 +190,8 @@ fn take(calls: &mut Calls, rest: &mut Rest, most: usize) {
     calls.finish_session();
 }
 
-/// A session put together by hand: its numbers, up to four records, and its boards behind them.
-fn by_hand(calls: &mut Calls, rest: &mut Rest) {
+/// A session in an arbitrary state: its numbers, then up to four records, then its boards.
+fn arbitrary_session(calls: &mut Calls, rest: &mut Rest) {
     let mut session = Session::new();
     session.open = rest.flag();
     session.taken = rest.number();
@@ -204,34 +204,35 @@ fn by_hand(calls: &mut Calls, rest: &mut Rest) {
     take(calls, &mut steps, records);
 }
 
+/// The page of a board in an arbitrary state.
 fn page(calls: &mut Calls, rest: &mut Rest) {
     let [number, place, records, files] = [(); 4].map(|()| rest.number());
-    let room = match rest.number() as usize {
+    let out_length = match rest.number() as usize {
         0 => PAGE,
         other => other % (MOST_PAGE + 1),
     };
     let mut session = Session::new();
     session.shown = rest.board();
     calls.set_session(&session);
-    calls.page(number, place, records, files, room);
+    calls.page(number, place, records, files, out_length);
 }
 
-/// A new writer or one put together by hand, and the calls that follow.
-fn written(calls: &mut Calls, rest: &mut Rest) {
+/// The calls of a new writer, or of one in an arbitrary state.
+fn write(calls: &mut Calls, rest: &mut Rest) {
     if rest.flag() {
         calls.set_writer(rest.number(), rest.number(), rest.number());
     } else {
         calls.new_writer();
     }
     while !rest.0.is_empty() {
-        let (which, room) = (rest.byte(), rest.byte());
+        let (which, out_length) = (rest.byte(), rest.byte());
         match which % 3 {
-            0 => calls.header(rest.counted(), room),
+            0 => calls.header(rest.counted(), out_length),
             1 => {
                 let (received, tariff) = (rest.number(), rest.number());
-                calls.payment(rest.counted(), received, tariff, room);
+                calls.payment(rest.counted(), received, tariff, out_length);
             }
-            _ => calls.trailer(room),
+            _ => calls.trailer(out_length),
         }
     }
 }

@@ -1,8 +1,8 @@
-//! The engine held to the reference program: the same inputs go to both, and nothing may differ in answer, place,
-//! state or a single lent byte.
+//! The engine compared with the reference program: the same inputs go to both, and the answer, the place, the next
+//! state and every byte of an output buffer must be equal.
 //!
-//! The engine is called by `serve.c`, a process of its own, so that it can be held on machines that run it under
-//! an emulator only.
+//! A process of its own, `serve.c`, calls the engine, so that this also works on machines that run it under an
+//! emulator.
 
 #![forbid(unsafe_code)]
 

@@ -1,6 +1,6 @@
-//! Passes every family of inputs to the engine and to the reference program, and says how many were equal.
+//! Compares the engine with the reference program on every family of inputs, and prints how many were equal.
 //!
-//! `CONFORMANCE_TIMES` asks for so many times the random inputs, `CONFORMANCE_SEED` for other ones.
+//! `CONFORMANCE_TIMES=20` compares twenty times as many random inputs, `CONFORMANCE_SEED=7` other ones.
 
 use std::env;
 use std::process::ExitCode;
@@ -8,54 +8,55 @@ use std::sync::Mutex;
 use std::thread;
 use std::time::Instant;
 
-use conformance::calls::{Calls, Passed};
+use conformance::calls::{Calls, Counts};
 use conformance::families::{Family, ALL};
 use reference::random::Random;
+use reference::Reason;
 
-/// What the test command promises.
-const LEAST: u64 = 5_000_000;
+/// Fewer inputs than this are a failure.
+const LEAST_INPUTS: u64 = 5_000_000;
 
-/// The refusal that never occurs: no check needs two places.
-const NEVER: usize = 20;
+/// The reason that never occurs: no computed check needs two places.
+const NEVER: Reason = Reason::WideCheck;
 
-/// A number of the environment; this one where it has none.
-fn asked(name: &str, else_: u64) -> u64 {
+/// A number of the environment, or the default if it is not set.
+fn variable(name: &str, default: u64) -> u64 {
     match env::var(name) {
         Ok(text) => text
             .parse()
-            .unwrap_or_else(|_| panic!("{name} is no number: {text}")),
-        Err(_) => else_,
+            .unwrap_or_else(|_| panic!("{name} is not a number: {text}")),
+        Err(_) => default,
     }
 }
 
-/// What of a family was equal.
-fn pass(family: &Family, seed: u64, times: u64) -> Result<Passed, String> {
-    let began = Instant::now();
+/// Compares the inputs of a family.
+fn compare(family: &Family, seed: u64, times: u64) -> Result<Counts, String> {
+    let start = Instant::now();
     let mut calls = Calls::new();
-    (family.pass)(&mut calls, &mut Random::new(seed), times);
-    let passed = calls
+    (family.compare)(&mut calls, &mut Random::new(seed), times);
+    let counts = calls
         .finish()
-        .map_err(|found| format!("{}: {found}", family.name))?;
-    let seconds = began.elapsed().as_secs_f64();
-    println!("{:>9} {} ({seconds:.1} s)", passed.inputs, family.name);
-    Ok(passed)
+        .map_err(|difference| format!("{}: {difference}", family.name))?;
+    let seconds = start.elapsed().as_secs_f64();
+    println!("{:>9} {} ({seconds:.1} s)", counts.inputs, family.name);
+    Ok(counts)
 }
 
-/// All families, two at a time: the reference program's share is small, and two engines keep two processors busy.
-fn pass_all(seed: u64, times: u64) -> Result<Passed, String> {
+/// Compares all families, two at a time: the engine takes most of the time, and two of them use two processors.
+fn compare_all(seed: u64, times: u64) -> Result<Counts, String> {
     let left = Mutex::new(ALL.iter().zip(seed..));
-    let work = || -> Result<Passed, String> {
-        let mut all = Passed::default();
+    let work = || -> Result<Counts, String> {
+        let mut all = Counts::default();
         loop {
             let next = left.lock().expect("no family panicked").next();
             let Some((family, seed)) = next else {
                 return Ok(all);
             };
-            all.add(&pass(family, seed, times)?);
+            all.add(&compare(family, seed, times)?);
         }
     };
     thread::scope(|scope| {
-        let mut all = Passed::default();
+        let mut all = Counts::default();
         for worker in [scope.spawn(work), scope.spawn(work)] {
             all.add(&worker.join().expect("a worker ends")?);
         }
@@ -63,32 +64,34 @@ fn pass_all(seed: u64, times: u64) -> Result<Passed, String> {
     })
 }
 
-/// Too few inputs, or a number of the specification's table that nothing was answered with.
-fn lacks(passed: &Passed) -> Option<String> {
-    if passed.inputs < LEAST {
-        return Some(format!("only {} inputs", passed.inputs));
+/// What is missing: inputs, or an answer that no input got.
+fn missing(counts: &Counts) -> Option<String> {
+    if counts.inputs < LEAST_INPUTS {
+        return Some(format!("only {} inputs", counts.inputs));
     }
-    let never = |&n: &usize| passed.answers[n] == 0 && n != NEVER;
-    let unseen = (0..passed.answers.len()).find(never)?;
+    let expected = Reason::ALL.iter().filter(|&&reason| reason != NEVER);
+    let mut numbers = expected.map(|reason| reason.number()).chain([0]);
+    let unseen = numbers.find(|number| !counts.answers.contains_key(number))?;
     Some(format!("no input was answered {unseen}"))
 }
 
 fn main() -> ExitCode {
-    let (times, seed) = (asked("CONFORMANCE_TIMES", 1), asked("CONFORMANCE_SEED", 1));
-    let outcome = pass_all(seed, times).and_then(|passed| match lacks(&passed) {
-        Some(lack) => Err(lack),
-        None => Ok(passed),
+    let times = variable("CONFORMANCE_TIMES", 1);
+    let seed = variable("CONFORMANCE_SEED", 1);
+    let outcome = compare_all(seed, times).and_then(|counts| match missing(&counts) {
+        Some(missing) => Err(missing),
+        None => Ok(counts),
     });
     match outcome {
-        Ok(passed) => {
+        Ok(counts) => {
             println!(
-                "{:>9} inputs in all, answered {:?} times 0 to 21: engine and reference program are equal on each",
-                passed.inputs, passed.answers
+                "{:>9} inputs in all: engine and reference program are equal on each. Answers by number: {:?}",
+                counts.inputs, counts.answers
             );
             ExitCode::SUCCESS
         }
-        Err(found) => {
-            eprintln!("conformance: {found}");
+        Err(failure) => {
+            eprintln!("conformance: {failure}");
             ExitCode::FAILURE
         }
     }

@@ -1,7 +1,7 @@
-//! What `serve.c` replies, from the reference program's outcomes: little-endian numbers of eight bytes, in the order
+//! The replies of `serve.c`, from the reference program's outcomes: little-endian numbers of eight bytes, in the order
 //! of the structs in hollytrot.h.
 
-use reference::{answer, Barcode, Board, Date, Header, Payment, Record, Refusal, Session, Trailer};
+use reference::{Barcode, Board, Date, Header, Payment, Record, Refusal, Session, Trailer};
 
 pub fn number(reply: &mut Vec<u8>, n: u64) {
     reply.extend_from_slice(&n.to_le_bytes());
@@ -13,12 +13,18 @@ pub fn numbers(reply: &mut Vec<u8>, all: &[u64]) {
     }
 }
 
-pub fn answered<T>(reply: &mut Vec<u8>, outcome: &Result<T, Refusal>) {
-    let (n, place) = answer(outcome);
-    numbers(reply, &[u64::from(n), place as u64]);
+/// The number that starts at this index.
+pub fn number_at(reply: &[u8], index: usize) -> u64 {
+    let bytes = reply[index..index + 8].try_into();
+    u64::from_le_bytes(bytes.expect("eight bytes"))
 }
 
-/// A part of lent bytes: the empty one is 0 and 0.
+pub fn answer<T>(reply: &mut Vec<u8>, outcome: &Result<T, Refusal>) {
+    let (n, place) = reference::answer(outcome);
+    numbers(reply, &[n, place as u64]);
+}
+
+/// A part of the whole bytes: the empty one is 0 and 0.
 pub fn part(reply: &mut Vec<u8>, whole: &[u8], part: &[u8]) {
     let from = if part.is_empty() {
         0
@@ -42,8 +48,8 @@ pub fn date(reply: &mut Vec<u8>, date: Option<Date>) {
     }
 }
 
-pub fn fields(reply: &mut Vec<u8>, said: Option<&Barcode>) {
-    match said {
+pub fn fields(reply: &mut Vec<u8>, fields: Option<&Barcode>) {
+    match fields {
         Some(b) => {
             numbers(reply, &[b.kind, b.value, b.segment, b.issuer]);
             date(reply, b.due);
@@ -53,7 +59,7 @@ pub fn fields(reply: &mut Vec<u8>, said: Option<&Barcode>) {
 }
 
 pub fn decoded(reply: &mut Vec<u8>, outcome: &Result<Barcode, Refusal>) {
-    answered(reply, outcome);
+    answer(reply, outcome);
     fields(reply, outcome.as_ref().ok());
 }
 
@@ -86,7 +92,7 @@ fn trailer(reply: &mut Vec<u8>, trailer: Option<&Trailer>) {
 }
 
 pub fn record(reply: &mut Vec<u8>, outcome: &Result<Record, Refusal>) {
-    answered(reply, outcome);
+    answer(reply, outcome);
     let (letter, a, g, z) = match outcome {
         Ok(Record::A(a)) => (b'A', Some(a), None, None),
         Ok(Record::G(g)) => (b'G', None, Some(g), None),

@@ -1,11 +1,11 @@
-//! A difference is found: a reply with one other byte, and a process that ends.
+//! A difference is found: one changed byte of a reply, and a process that stops early.
 
 use conformance::engine::{Batch, Engine};
 
-/// Two barcodes of no length, and what the engine replies to them.
+/// Two barcodes of length 0, and the engine's replies to them.
 fn batch() -> Batch {
     let mut reply = vec![0; 168];
-    // refused 1 by the check, the decoder and the conversion, whose buffer stays as it was
+    // refused 1 by the check, the decoder and the conversion, which does not change its buffer
     for answer in [0, 16, 104] {
         reply[answer] = 1;
     }
@@ -13,11 +13,11 @@ fn batch() -> Batch {
     Batch {
         requests: b"b\0b\0".to_vec(),
         expected: [reply.clone(), reply].concat(),
-        marks: vec![(0, 0), (2, 168)],
+        starts: vec![(0, 0), (2, 168)],
     }
 }
 
-fn sent(batch: Batch) -> Result<(), String> {
+fn compare(batch: Batch) -> Result<(), String> {
     let mut engine = Engine::start();
     engine.send(batch);
     engine.finish()
@@ -25,15 +25,15 @@ fn sent(batch: Batch) -> Result<(), String> {
 
 #[test]
 fn equal_replies_pass() {
-    assert_eq!(sent(batch()), Ok(()));
+    assert_eq!(compare(batch()), Ok(()));
 }
 
 #[test]
-fn every_other_byte_is_found() {
+fn a_changed_byte_is_found() {
     for i in (0..336).step_by(37) {
         let mut other = batch();
         other.expected[i] ^= 1;
-        let found = sent(other).expect_err("a difference");
+        let found = compare(other).expect_err("a difference");
         assert!(
             found.contains(&format!("byte Some({})", i % 168)),
             "{found}"
@@ -42,8 +42,8 @@ fn every_other_byte_is_found() {
 }
 
 #[test]
-fn a_process_that_gives_up_is_found() {
+fn a_process_that_stops_is_found() {
     let mut other = batch();
     other.requests[2] = b'?';
-    assert!(sent(other).is_err());
+    assert!(compare(other).is_err());
 }

@@ -1,13 +1,13 @@
-//! What the fuzzer once found, passed again: no input differs.
+//! The inputs on which the fuzzer once found a difference, and the form of inputs.
 
 use conformance::calls::Calls;
 use conformance::{found, inputs};
 
 #[test]
-fn what_was_found_is_equal() {
-    for (path, input) in found::all().expect("cases that can be read") {
+fn inputs_that_once_differed_are_equal() {
+    for (path, input) in found::all().expect("readable files") {
         let mut calls = Calls::new();
-        inputs::pass(&mut calls, &input);
+        inputs::compare(&mut calls, &input);
         if let Err(difference) = calls.finish() {
             panic!("{}: {difference}", path.display());
         }
@@ -23,7 +23,7 @@ fn hexadecimal_digits_are_read_back() {
     }
 }
 
-/// Every kind makes calls, and no bytes are too few or too many for it.
+/// Every kind makes calls, whatever bytes follow.
 #[test]
 fn any_bytes_are_an_input() {
     let mut calls = Calls::new();
@@ -31,9 +31,9 @@ fn any_bytes_are_an_input() {
         for (fill, length) in [(0, 0), (0, 9), (1, 40), (b'A', 300), (255, 5000)] {
             let mut input = vec![kind];
             input.resize(1 + length, fill);
-            inputs::pass(&mut calls, &input);
+            inputs::compare(&mut calls, &input);
         }
     }
-    let passed = calls.finish().expect("equal outcomes");
-    assert!(passed.inputs >= 65);
+    let counts = calls.finish().expect("equal outcomes");
+    assert!(counts.inputs >= 65);
 }

@@ -1,5 +1,5 @@
-//! `quadro` as a process: its pages are the reference program's, and under faults it neither crashes nor prints what could
-//! be taken for a page.
+//! `quadro` as a process: its pages are those of the reference program, and if reading or writing fails it neither
+//! crashes nor prints anything that looks like a page.
 
 use std::fs::File;
 use std::io::{self, Read, Seek, SeekFrom, Write};
@@ -17,7 +17,7 @@ use reference::random::Random;
 
 const QUADRO: &str = "target/bin/quadro";
 
-/// The signal of a write to a pipe that nobody reads.
+/// The signal of a write to a pipe that has no reader.
 const SIGPIPE: i32 = 13;
 
 fn quadro(stdin: impl Into<Stdio>) -> Command {
@@ -29,16 +29,16 @@ fn quadro(stdin: impl Into<Stdio>) -> Command {
     command
 }
 
-/// What quadro does with an input from a pipe that `feed` writes.
-fn fed(feed: impl FnOnce(&mut dyn Write) -> io::Result<()>) -> Output {
+/// The output of quadro for the input that `feed` writes to its pipe.
+fn output_of(feed: impl FnOnce(&mut dyn Write) -> io::Result<()>) -> Output {
     let mut child = quadro(Stdio::piped()).spawn().expect("quadro starts");
-    // A refused record ends the reading, and then the rest of the input has no reader.
+    // quadro stops reading at a refused record, so this may fail.
     let _ = feed(&mut child.stdin.take().unwrap());
     child.wait_with_output().expect("quadro ends")
 }
 
 #[track_caller]
-fn prints(output: &Output, page: &[u8]) {
+fn assert_page(output: &Output, page: &[u8]) {
     assert!(output.status.success(), "{}", output.status);
     assert_eq!(output.stderr.escape_ascii().to_string(), "");
     assert_eq!(
@@ -47,9 +47,9 @@ fn prints(output: &Output, page: &[u8]) {
     );
 }
 
-/// A complaint and no page.
+/// There must be an error message and no page.
 #[track_caller]
-fn complains(output: &Output) {
+fn assert_error(output: &Output) {
     assert!(output.status.success(), "{}", output.status);
     assert_eq!(output.stdout, b"");
     assert!(
@@ -59,8 +59,8 @@ fn complains(output: &Output) {
     );
 }
 
-/// A command of the shell around quadro, as `<&-`.
-fn around(redirection: &str) -> Command {
+/// quadro, started by a shell with this redirection.
+fn redirected(redirection: &str) -> Command {
     let mut command = Command::new("sh");
     command.args(["-c", &format!("exec \"$@\" {redirection}"), "sh"]);
     command
@@ -69,7 +69,7 @@ fn around(redirection: &str) -> Command {
     command
 }
 
-/// A day of 0 to 70 issuers, as it is, damaged or in disorder; every tenth is longer than one buffer of quadro's.
+/// A day of 0 to 70 issuers: unchanged, damaged or out of order. Every tenth is longer than one buffer of quadro.
 fn day(i: u64) -> Vec<u8> {
     let random = &mut Random::new(i);
     let (files, most) = if i.is_multiple_of(10) {
@@ -89,10 +89,14 @@ fn day(i: u64) -> Vec<u8> {
     bytes
 }
 
+/// Every second of the 600 days.
 fn pages(first: u64) {
     for i in (first..600).step_by(2) {
         let bytes = day(i);
-        prints(&fed(|stdin| stdin.write_all(&bytes)), &page_of(&bytes));
+        assert_page(
+            &output_of(|stdin| stdin.write_all(&bytes)),
+            &page_of(&bytes),
+        );
     }
 }
 
@@ -109,7 +113,7 @@ fn pages_of_other_days() {
 #[test]
 fn a_pipe_that_stalls_and_delivers_single_bytes() {
     let bytes = day(3);
-    let output = fed(|stdin| {
+    let output = output_of(|stdin| {
         for (i, byte) in bytes.iter().enumerate() {
             stdin.write_all(&[*byte])?;
             if i % 150 == 77 {
@@ -118,23 +122,23 @@ fn a_pipe_that_stalls_and_delivers_single_bytes() {
         }
         Ok(())
     });
-    prints(&output, &page_of(&bytes));
+    assert_page(&output, &page_of(&bytes));
 }
 
 #[test]
 fn standard_input_closed() {
-    complains(&around("<&-").output().expect("quadro ends"));
+    assert_error(&redirected("<&-").output().expect("quadro ends"));
 }
 
 #[test]
 fn standard_input_a_directory() {
     let folder = File::open(root()).expect("a directory");
-    complains(&quadro(folder).output().expect("quadro ends"));
+    assert_error(&quadro(folder).output().expect("quadro ends"));
 }
 
-/// Memory of this process: behind the end of a mapping the read fails.
+/// quadro reads the memory of this process: past the end of a mapping the read fails.
 #[test]
-fn a_read_error_behind_some_bytes() {
+fn a_read_error_after_some_bytes() {
     let mut maps = String::new();
     File::open("/proc/self/maps")
         .and_then(|mut maps_| maps_.read_to_string(&mut maps))
@@ -149,17 +153,17 @@ fn a_read_error_behind_some_bytes() {
     let last = all
         .windows(2)
         .find(|two| two[0].2 && two[0].1 < two[1].0)
-        .expect("memory with nothing behind it");
+        .expect("memory with a gap after it");
     let mut memory = File::open("/proc/self/mem").expect("its memory");
     memory
         .seek(SeekFrom::Start(last[0].1 - 300))
         .expect("an end");
-    complains(&quadro(memory).output().expect("quadro ends"));
+    assert_error(&quadro(memory).output().expect("quadro ends"));
 }
 
-/// A connection that breaks off behind records that were taken: closed with bytes unread, it is reset.
+/// A connection that fails after records were taken: it is reset because it was closed with unread bytes.
 #[test]
-fn a_read_error_behind_records() -> io::Result<()> {
+fn a_read_error_after_records() -> io::Result<()> {
     let bytes = days::day(&mut Random::new(1), 40, 12, 400)
         .expect("a good day")
         .bytes;
@@ -169,11 +173,11 @@ fn a_read_error_behind_records() -> io::Result<()> {
     let child = quadro(OwnedFd::from(receiver)).spawn()?;
     sender.write_all(&bytes[..2 * 65_400])?;
     drop(sender);
-    complains(&child.wait_with_output()?);
+    assert_error(&child.wait_with_output()?);
     Ok(())
 }
 
-/// The same connection, ended as it should be.
+/// The same connection, closed in the normal way.
 #[test]
 fn a_connection_in_place_of_a_file() -> io::Result<()> {
     let bytes = day(4);
@@ -181,7 +185,7 @@ fn a_connection_in_place_of_a_file() -> io::Result<()> {
     let child = quadro(OwnedFd::from(receiver)).spawn()?;
     sender.write_all(&bytes)?;
     drop(sender);
-    prints(&child.wait_with_output()?, &page_of(&bytes));
+    assert_page(&child.wait_with_output()?, &page_of(&bytes));
     Ok(())
 }
 
@@ -191,7 +195,7 @@ fn standard_output_full() {
         .write(true)
         .open("/dev/full")
         .expect("the full device");
-    complains(
+    assert_error(
         &quadro(Stdio::null())
             .stdout(full)
             .output()
@@ -201,24 +205,24 @@ fn standard_output_full() {
 
 #[test]
 fn standard_output_closed() {
-    complains(
-        &around(">&-")
+    assert_error(
+        &redirected(">&-")
             .stdin(Stdio::null())
             .output()
             .expect("quadro ends"),
     );
 }
 
-/// Nobody reads the page: it ends as every program does that writes to such a pipe.
+/// Nobody reads the page: quadro ends as every program does that writes to such a pipe.
 #[test]
 fn standard_output_without_a_reader() {
     let mut child = quadro(Stdio::piped()).spawn().expect("quadro starts");
     drop(child.stdout.take());
     drop(child.stdin.take());
     let output = child.wait_with_output().expect("quadro ends");
-    let said = output.stderr.starts_with(b"quadro: standard output");
+    let decoded = output.stderr.starts_with(b"quadro: standard output");
     assert!(
-        said || output.status.signal() == Some(SIGPIPE),
+        decoded || output.status.signal() == Some(SIGPIPE),
         "{output:?}"
     );
 }

@@ -1,5 +1,5 @@
-//! How fast a session takes records, a barcode is decoded and a line read:
-//! `cargo run --release --example speed`.
+//! How fast a session takes records, and lines and barcodes are decoded and converted:
+//! `cargo run --release -p reference --example speed`.
 
 use std::hint::black_box;
 use std::time::Instant;
@@ -22,9 +22,9 @@ fn session(issuers: usize, files: usize, most: usize) -> Result<(), Refusal> {
     for _ in 0..20 {
         let mut session = Session::new();
         let start = Instant::now();
-        let run = session.take_many(black_box(&day.bytes));
+        let result = session.run(black_box(&day.bytes));
         best = best.min(start.elapsed().as_secs_f64());
-        run.answer?;
+        result.answer?;
         black_box(&session);
     }
     println!(

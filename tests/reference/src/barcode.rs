@@ -1,4 +1,4 @@
-//! The 44-digit collection barcode: read, shown and built.
+//! The collection barcode of 44 digits: docs/SPEC.md, "Barcode" and "Builder".
 
 use crate::checks::Modulus;
 use crate::dates::Date;
@@ -18,8 +18,7 @@ const GENERAL_CHECK: usize = 4;
 const VALUE: usize = 5;
 const ISSUER: usize = 16;
 
-/// An issuer: the segment together with its number. Code 3659 in segments 1
-/// and 2 is two issuers.
+/// An issuer: the segment together with its number. Number 3659 in segments 1 and 2 is two issuers.
 #[derive(Clone, Copy, Debug, Default, PartialEq, Eq, PartialOrd, Ord, Hash)]
 pub struct Issuer {
     pub segment: u64,
@@ -27,14 +26,14 @@ pub struct Issuer {
 }
 
 impl Issuer {
-    /// How many digits the number has: 8 of the CNPJ in segment 6, else 4.
+    /// How many digits the number has: 8 in segment 6, else 4.
     #[inline]
     pub const fn width(self) -> usize {
         issuer_width(self.segment)
     }
 }
 
-/// What a barcode or a typed line says.
+/// The fields of a barcode or a typed line.
 #[derive(Clone, Copy, Debug, PartialEq, Eq, Hash)]
 pub struct Barcode {
     pub segment: u64,
@@ -55,7 +54,7 @@ impl Barcode {
     }
 }
 
-/// Digits of the issuer's number in a segment.
+/// How many digits an issuer's number has in a segment.
 #[inline]
 pub const fn issuer_width(segment: u64) -> usize {
     if segment == 6 {
@@ -65,34 +64,33 @@ pub const fn issuer_width(segment: u64) -> usize {
     }
 }
 
-/// Place of the free field's first digit in a segment.
+/// The place of the free field's first digit in a segment.
 #[inline]
 pub const fn free_place(segment: u64) -> usize {
     ISSUER + issuer_width(segment)
 }
 
-/// Length of the free field in a segment: 25, in segment 6 21.
+/// The length of the free field in a segment: 25, in segment 6 21.
 #[inline]
 pub const fn free_length(segment: u64) -> usize {
     LENGTH + 1 - free_place(segment)
 }
 
-/// Reads a barcode. Order: 1, 2, 3, 4, 5, 7.
+/// Decodes a barcode. Order: 1, 2, 3, 4, 5, 7.
 pub fn decode(barcode: &[u8]) -> Result<Barcode, Refusal> {
-    decode_within(sized(barcode)?, 0)
+    decode_within(require_length(barcode)?, 0)
 }
 
-/// The free field, as a stretch of the caller's own bytes; empty for a
-/// refused barcode.
+/// The free field, as a part of the barcode; the empty slice if the barcode is refused.
 pub fn free_field(barcode: &[u8]) -> &[u8] {
     match decode(barcode) {
-        Ok(said) => &barcode[free_place(said.segment) - 1..],
+        Ok(decoded) => &barcode[free_place(decoded.segment) - 1..],
         Err(_) => &[],
     }
 }
 
-/// Builds a barcode from its fields. Order: 1 for `out`, 4, 5, 1 for the free
-/// field, 21 value, 21 issuer, 2, 20. A refusal leaves `out` untouched.
+/// Builds a barcode from its fields. Order: 1 for `out`, 4, 5, 1 for the free field, 21 for the value, 21 for the
+/// issuer, 2, 20. A refusal does not change `out`.
 pub fn build(
     segment: u64,
     kind: u64,
@@ -108,7 +106,7 @@ pub fn build(
         return Err(Reason::Length.at(0));
     }
     let mut built = [b'0'; LENGTH];
-    // Segment and kind are single digits by now: the casts keep them whole.
+    // Segment and kind are single digits here, so the casts lose nothing.
     built[PRODUCT - 1] = b'8';
     built[SEGMENT - 1] = b'0' + segment as u8;
     built[KIND - 1] = b'0' + kind as u8;
@@ -131,20 +129,20 @@ pub fn build(
 }
 
 /// 1 for a length other than 44.
-pub(crate) fn sized(barcode: &[u8]) -> Result<&[u8; LENGTH], Refusal> {
+pub(crate) fn require_length(barcode: &[u8]) -> Result<&[u8; LENGTH], Refusal> {
     barcode.try_into().map_err(|_| Reason::Length.at(0))
 }
 
-/// Reads a barcode that has `before` places before it, 37 inside a G.
+/// Decodes a barcode that has `before` places before it: 37 inside a G.
 #[inline(always)]
 pub(crate) fn decode_within(barcode: &[u8; LENGTH], before: usize) -> Result<Barcode, Refusal> {
     check_digits(barcode, before)?;
-    let modulus = check_start(barcode, before)?;
+    let modulus = check_first_three(barcode, before)?;
     check_general(barcode, modulus, before)?;
-    Ok(read(barcode))
+    Ok(accepted_fields(barcode))
 }
 
-/// 2 at the first byte that is no digit.
+/// 2 at the first byte that is not a digit.
 #[inline(always)]
 pub(crate) fn check_digits(bytes: &[u8], before: usize) -> Result<(), Refusal> {
     if digits::all_digits(bytes) {
@@ -161,10 +159,9 @@ fn no_digit(bytes: &[u8], before: usize) -> Refusal {
     Reason::NoDigit.at(before + i.count() + 1)
 }
 
-/// 3, 4, 5 over the first three digits of a barcode or typed line; gives the
-/// modulus that the third one names.
+/// 3, 4, 5 for the first three digits of a barcode or typed line; returns the modulus that the third one names.
 #[inline(always)]
-pub(crate) fn check_start(digits: &[u8], before: usize) -> Result<Modulus, Refusal> {
+pub(crate) fn check_first_three(digits: &[u8], before: usize) -> Result<Modulus, Refusal> {
     if digits[PRODUCT - 1] != b'8' {
         return Err(Reason::Product.at(before + PRODUCT));
     }
@@ -182,10 +179,10 @@ fn check_segment(segment: u64, before: usize) -> Result<(), Refusal> {
 
 #[inline(always)]
 fn check_kind(kind: u64, before: usize) -> Result<Modulus, Refusal> {
-    Modulus::of_kind(kind).ok_or(Reason::Kind.at(before + KIND))
+    Modulus::from_kind(kind).ok_or(Reason::Kind.at(before + KIND))
 }
 
-/// 7 at the general check.
+/// 7 if the general check is wrong.
 #[inline(always)]
 pub(crate) fn check_general(
     barcode: &[u8; LENGTH],
@@ -199,27 +196,27 @@ pub(crate) fn check_general(
     Ok(())
 }
 
-/// What 44 digits say, once they are accepted.
+/// The fields of an accepted barcode.
 #[inline(always)]
-pub(crate) fn read(barcode: &[u8; LENGTH]) -> Barcode {
+pub(crate) fn accepted_fields(barcode: &[u8; LENGTH]) -> Barcode {
     let segment = u64::from(barcode[SEGMENT - 1] - b'0');
-    // Each branch has constant places, which keeps the reads straight.
+    // Each branch has constant places, so neither reads at a computed one.
     let (issuer, due) = match segment {
-        6 => (digits::read(&barcode[15..23]), due_date(barcode, 23)),
-        _ => (digits::read(&barcode[15..19]), due_date(barcode, 19)),
+        6 => (digits::value(&barcode[15..23]), due_date(barcode, 23)),
+        _ => (digits::value(&barcode[15..19]), due_date(barcode, 19)),
     };
     Barcode {
         segment,
         kind: u64::from(barcode[KIND - 1] - b'0'),
-        value: digits::read(&barcode[VALUE - 1..ISSUER - 1]),
+        value: digits::value(&barcode[VALUE - 1..ISSUER - 1]),
         issuer,
         due,
     }
 }
 
-/// The due date, if the eight digits from index `first` are a real date.
+/// The due date: the date of the eight digits from index `first` on, if they are one.
 #[inline(always)]
 fn due_date(barcode: &[u8; LENGTH], first: usize) -> Option<Date> {
     let digits = barcode.get(first..first + 8)?;
-    Date::of_digits(digits.try_into().ok()?)
+    Date::from_digits(digits.try_into().ok()?)
 }

@@ -1,9 +1,9 @@
-//! Modulo 10 and modulo 11: remainders and check digits.
+//! Check digits under modulo 10 and modulo 11: docs/SPEC.md, "Check digits".
 
 use crate::digits::is_digit;
 use crate::refusal::{Reason, Refusal};
 
-/// The modulus a value kind names.
+/// The modulus that a value kind names.
 #[derive(Clone, Copy, Debug, PartialEq, Eq, Hash)]
 pub enum Modulus {
     Ten,
@@ -13,7 +13,7 @@ pub enum Modulus {
 impl Modulus {
     /// Kinds 6 and 7 name modulo 10, 8 and 9 modulo 11.
     #[inline]
-    pub const fn of_kind(kind: u64) -> Option<Modulus> {
+    pub const fn from_kind(kind: u64) -> Option<Modulus> {
         match kind {
             6 | 7 => Some(Modulus::Ten),
             8 | 9 => Some(Modulus::Eleven),
@@ -29,17 +29,16 @@ impl Modulus {
         }
     }
 
-    /// The weight of the digit with `rank` digits to its right.
+    /// The weight of the digit that has `rank` digits to its right.
     const fn weight(self, rank: usize) -> u16 {
-        // Below 2 and below 8: the casts keep them whole.
+        // The remainders are below 2 and below 8, so the casts lose nothing.
         match self {
             Modulus::Ten => 2 - (rank % 2) as u16,
             Modulus::Eleven => 2 + (rank % 8) as u16,
         }
     }
 
-    /// What a product adds to the sum: under modulo 10 its decimal digits,
-    /// under modulo 11 the whole product.
+    /// What a product adds to the sum: under modulo 10 its decimal digits, under modulo 11 the whole product.
     #[inline(always)]
     const fn share(self, product: u16) -> u16 {
         match self {
@@ -55,13 +54,12 @@ impl Modulus {
         }
     }
 
-    /// The remainder of the weighted sum of any number of digits; 2 at the
-    /// first byte that is no digit.
+    /// The remainder of the weighted sum of any number of digits; 2 at the first byte that is not a digit.
     pub fn remainder(self, digits: &[u8]) -> Result<u64, Refusal> {
         if let Some(i) = digits.iter().position(|&byte| !is_digit(byte)) {
             return Err(Reason::NoDigit.at(i + 1));
         }
-        // The remainder is taken at each step, so no length can overflow it.
+        // The remainder is taken at each step, so the sum cannot overflow.
         Ok(digits
             .iter()
             .rev()
@@ -72,8 +70,8 @@ impl Modulus {
             }))
     }
 
-    /// The check for a remainder below the modulus: 10 or 11 less the
-    /// remainder, and 0 for remainder 0, under modulo 11 also for 1.
+    /// The check digit of a remainder: the modulus less the remainder, but 0 for remainder 0, under modulo 11 also
+    /// for 1.
     #[inline]
     pub(crate) const fn check(self, remainder: u64) -> u64 {
         match (self, remainder) {
@@ -82,12 +80,12 @@ impl Modulus {
         }
     }
 
-    /// The check digit of any number of digits, as a number.
+    /// The check digit of any number of digits, as a number; 2 at the first byte that is not a digit.
     pub fn check_digit(self, digits: &[u8]) -> Result<u64, Refusal> {
         Ok(self.check(self.remainder(digits)?))
     }
 
-    /// The check of the eleven digits of a box, already known to be digits.
+    /// The check of a box of eleven bytes that are digits.
     #[inline(always)]
     pub(crate) fn box_check(self, digits: &[u8; 11]) -> u64 {
         self.check(match self {
@@ -96,8 +94,7 @@ impl Modulus {
         })
     }
 
-    /// The general check of the 44 digits of a barcode, already known to be
-    /// digits. Place 4, index 3, is left out.
+    /// The general check of a barcode of 44 bytes that are digits. Place 4, index 3, is left out.
     #[inline(always)]
     pub(crate) fn general_check(self, digits: &[u8; 44]) -> u64 {
         self.check(match self {
@@ -106,8 +103,7 @@ impl Modulus {
         })
     }
 
-    /// The remainder of at most 44 digits under weights laid out beforehand.
-    /// The sum is at most 44 * 81, which 16 bits hold.
+    /// The remainder of at most 44 digits with given weights. The sum is at most 44 * 81, which fits in 16 bits.
     #[inline(always)]
     fn weighted<const N: usize>(self, digits: &[u8; N], weights: &[u16; N]) -> u64 {
         let mut sum = 0;
@@ -118,8 +114,8 @@ impl Modulus {
     }
 }
 
-/// The weights of N digits, from the right. The digit at index `left_out` has
-/// weight 0 and does not count as a digit.
+/// The weights of N digits. The digit at index `left_out` has weight 0, and the digits to its left have the weights
+/// that they would have without it.
 const fn weights<const N: usize>(modulus: Modulus, left_out: usize) -> [u16; N] {
     let mut weights = [0; N];
     let mut rank = 0;
@@ -140,7 +136,7 @@ mod tests {
     use crate::random::Random;
 
     #[test]
-    fn laid_out_weights_give_the_defined_remainders() {
+    fn constant_weights_give_the_same_checks() {
         let mut random = Random::new(11);
         for _ in 0..20_000 {
             let code: [u8; 44] = std::array::from_fn(|_| random.digit());

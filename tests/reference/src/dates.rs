@@ -1,4 +1,4 @@
-//! The one calendar: Gregorian, years 1900 to 2199.
+//! Dates of the Gregorian calendar, years 1900 to 2199: docs/SPEC.md, "Dates".
 
 use crate::digits;
 use crate::refusal::{Reason, Refusal};
@@ -6,7 +6,7 @@ use crate::refusal::{Reason, Refusal};
 pub const FIRST_YEAR: u16 = 1900;
 pub const LAST_YEAR: u16 = 2199;
 
-/// A real date. Its parts are private, so there is no other kind.
+/// A date. Its parts are private, so every value is a date of the calendar.
 #[derive(Clone, Copy, Debug, PartialEq, Eq, PartialOrd, Ord, Hash)]
 pub struct Date {
     year: u16,
@@ -14,7 +14,7 @@ pub struct Date {
     day: u8,
 }
 
-/// Is the year a leap year?
+/// Whether the year is a leap year.
 #[inline]
 pub const fn is_leap(year: u16) -> bool {
     year.is_multiple_of(4) && (!year.is_multiple_of(100) || year.is_multiple_of(400))
@@ -29,14 +29,13 @@ pub const fn days_in(year: u16, month: u8) -> u8 {
     if month > 12 {
         return 0;
     }
-    // Looked up, not matched: a file's months come in no order that a
-    // processor could guess.
+    // A table and not a match: the branches of a match would be mispredicted, as months come in no order.
     let leap_day = (month == 2) & is_leap(year);
     DAYS[month as usize] + leap_day as u8
 }
 
 impl Date {
-    /// The date of these numbers, if there is one.
+    /// The date of these numbers, if they are one.
     #[inline(always)]
     pub const fn new(year: u16, month: u8, day: u8) -> Option<Date> {
         if year < FIRST_YEAR || year > LAST_YEAR || day < 1 || day > days_in(year, month) {
@@ -45,23 +44,22 @@ impl Date {
         Some(Date { year, month, day })
     }
 
-    /// Reads YYYYMMDD: 1 for a length other than 8, then 2 at the byte, then
-    /// 11 at 1.
+    /// Reads YYYYMMDD: 1 for a length other than 8, then 2 at the byte, then 11 at 1.
     pub fn read(bytes: &[u8]) -> Result<Date, Refusal> {
         let digits: &[u8; 8] = bytes.try_into().map_err(|_| Reason::Length.at(0))?;
         if let Some(i) = digits.iter().position(|&byte| !digits::is_digit(byte)) {
             return Err(Reason::NoDigit.at(i + 1));
         }
-        Date::of_digits(digits).ok_or(Reason::NoDate.at(1))
+        Date::from_digits(digits).ok_or(Reason::NoDate.at(1))
     }
 
-    /// The date of eight bytes already known to be digits.
+    /// The date of eight bytes that are digits, if they are one.
     #[inline(always)]
-    pub(crate) fn of_digits(digits: &[u8; 8]) -> Option<Date> {
-        // The widest parts are 9999 and 99, so the casts keep them whole.
-        let year = digits::read(&digits[..4]) as u16;
-        let month = digits::read(&digits[4..6]) as u8;
-        let day = digits::read(&digits[6..]) as u8;
+    pub(crate) fn from_digits(digits: &[u8; 8]) -> Option<Date> {
+        // The parts are at most 9999 and 99, so the casts lose nothing.
+        let year = digits::value(&digits[..4]) as u16;
+        let month = digits::value(&digits[4..6]) as u8;
+        let day = digits::value(&digits[6..]) as u8;
         Date::new(year, month, day)
     }
 

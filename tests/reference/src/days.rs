@@ -1,5 +1,4 @@
-//! Random but valid lines, barcodes, records and whole days, and damage to
-//! them. Tests reuse them; the engine's rules are not defined here.
+//! Random valid lines, barcodes, records and whole days, and damage to them, for tests. No rule is defined here.
 
 use crate::barcode::{self, Issuer};
 use crate::dates::{days_in, Date};
@@ -11,22 +10,22 @@ use crate::refusal::Refusal;
 use crate::session::Lane;
 use crate::writer::Writer;
 
-/// The segments there are.
+/// Every segment.
 pub const SEGMENTS: [u64; 8] = [1, 2, 3, 4, 5, 6, 7, 9];
 
-/// The most pairs of bank and agreement in a day.
+/// The most pairs of a bank and an agreement in a day.
 pub const MOST_PAIRS: u64 = 16;
 
-/// The most digits of an amount in a day. A file of 999,997 such payments
-/// stays below its limit, and a day of a hundred million below the board's.
+/// The most digits of an amount in a day. A file of 999,997 such payments is below the limit of a file, and a day of a
+/// hundred million below the limit of a board.
 const AMOUNT_DIGITS: u32 = 10;
 
-/// Bytes at the edges of the classes that document 01 knows.
+/// Bytes at the edges of the classes of docs/SPEC.md, "Words".
 const EDGES: [u8; 19] = [
     0, 10, 31, 32, 47, 48, 57, 58, 64, 65, 71, 79, 90, 97, 126, 127, 159, 160, 211,
 ];
 
-/// A random date of the calendar; the ends of months come often.
+/// A random date; often the last day of a month.
 pub fn date(random: &mut Random) -> Date {
     const FIRST: Date = match Date::new(1900, 1, 1) {
         Some(date) => date,
@@ -40,7 +39,7 @@ pub fn date(random: &mut Random) -> Date {
     } else {
         random.between(1, u64::from(last)) as u8
     };
-    // Always a real date; the first one stands in for the type's sake.
+    // The three numbers are always a date; the default is never used.
     Date::new(year, month, day).unwrap_or(FIRST)
 }
 
@@ -54,7 +53,7 @@ pub fn issuer(random: &mut Random) -> Issuer {
     }
 }
 
-/// So many different issuers. Beyond 10,000 there are fewer than asked for.
+/// `count` different issuers, but at most 10,000.
 pub fn issuers(random: &mut Random, count: usize) -> Vec<Issuer> {
     let mut found: Vec<Issuer> = Vec::new();
     for _ in 0..count.min(10_000) {
@@ -67,7 +66,7 @@ pub fn issuers(random: &mut Random, count: usize) -> Vec<Issuer> {
     found
 }
 
-/// A random barcode of an issuer: all four kinds, with and without due date.
+/// A random barcode of an issuer, of any kind, with or without a due date.
 pub fn barcode_of(random: &mut Random, issuer: Issuer) -> Result<[u8; 44], Refusal> {
     let kind = random.between(6, 9);
     let value = random.number(11);
@@ -101,7 +100,7 @@ pub fn line(random: &mut Random) -> Result<[u8; 48], Refusal> {
     Ok(typed)
 }
 
-/// Fills a text field: blank, letters and digits, or any text bytes.
+/// Fills a text field with blanks, with letters and digits, or with any text bytes.
 pub fn text(random: &mut Random, field: &mut [u8]) {
     match random.below(4) {
         0 => field.fill(b' '),
@@ -121,7 +120,7 @@ fn digit_field(random: &mut Random, field: &mut [u8]) {
     field.fill_with(|| random.digit());
 }
 
-/// The joined fields of a random A.
+/// The field bytes of a random A.
 pub fn header_fields(random: &mut Random) -> [u8; HEADER_FIELDS] {
     let mut fields = [b' '; HEADER_FIELDS];
     text(random, &mut fields[..20]);
@@ -134,7 +133,7 @@ pub fn header_fields(random: &mut Random) -> [u8; HEADER_FIELDS] {
     fields
 }
 
-/// The joined fields of a random G with this barcode.
+/// The field bytes of a random G with this barcode.
 pub fn payment_fields(random: &mut Random, code: &[u8; 44]) -> [u8; PAYMENT_FIELDS] {
     let mut fields = [b' '; PAYMENT_FIELDS];
     text(random, &mut fields[..20]);
@@ -156,7 +155,7 @@ pub fn header(random: &mut Random) -> Result<[u8; 150], Refusal> {
     Ok(out)
 }
 
-/// A random G, amounts of every width.
+/// A random G, with amounts of any width.
 pub fn payment(random: &mut Random) -> Result<[u8; 150], Refusal> {
     let code = barcode(random)?;
     let mut out = [b' '; 150];
@@ -170,7 +169,7 @@ pub fn payment(random: &mut Random) -> Result<[u8; 150], Refusal> {
     Ok(out)
 }
 
-/// A random Z, good alone: it fits no file but by chance.
+/// A random Z, which is accepted as a single record but almost never by a session.
 pub fn trailer(random: &mut Random) -> [u8; 150] {
     let mut out = [b' '; 150];
     out[0] = b'Z';
@@ -179,7 +178,7 @@ pub fn trailer(random: &mut Random) -> [u8; 150] {
     out
 }
 
-/// A random record of any letter.
+/// A random A, G or Z.
 pub fn record(random: &mut Random) -> Result<[u8; 150], Refusal> {
     match random.below(3) {
         0 => header(random),
@@ -194,14 +193,14 @@ fn open_writer(random: &mut Random) -> Result<Writer, Refusal> {
     Ok(writer)
 }
 
-/// A payment as it was made, not as it was read.
+/// A payment as it was made, before it was written into a record.
 #[derive(Clone, Copy, Debug, PartialEq, Eq)]
 pub struct Posted {
     pub issuer: Issuer,
     pub received: u64,
 }
 
-/// A day: its records one after another, and the payments of each file.
+/// A day: its consecutive records, and the payments of each file.
 #[derive(Clone, Debug, Default, PartialEq, Eq)]
 pub struct Day {
     pub bytes: Vec<u8>,
@@ -209,7 +208,7 @@ pub struct Day {
 }
 
 impl Day {
-    /// The lanes of the first `files` files, added up plainly.
+    /// The lanes of the first `files` files, summed from the payments as they were made.
     pub fn lanes(&self, files: usize) -> Vec<Lane> {
         let mut lanes: Vec<Lane> = Vec::new();
         for posted in self.files.iter().take(files).flatten() {
@@ -229,7 +228,7 @@ impl Day {
     }
 }
 
-/// A pair of bank and agreement, with the sequence number of its last file.
+/// A bank and an agreement, with the sequence number of their last file.
 struct Pair {
     bank: [u8; 3],
     agreement: [u8; 20],
@@ -245,7 +244,7 @@ fn pairs(random: &mut Random) -> Vec<Pair> {
             digits::write(random.below(1000), &mut bank);
             let mut agreement = [b' '; 20];
             text(random, &mut agreement);
-            // The number of the pair keeps equal texts apart.
+            // The pair's number makes equal texts different.
             digits::write(i, &mut agreement[..2]);
             Pair {
                 bank,
@@ -256,9 +255,9 @@ fn pairs(random: &mut Random) -> Vec<Pair> {
         .collect()
 }
 
-/// The joined fields of the pair's next A; its sequence number rises.
+/// The field bytes of the pair's next A, with a higher sequence number.
 fn next_header(random: &mut Random, pair: &mut Pair) -> [u8; HEADER_FIELDS] {
-    // Room for 300,000 files of one pair; then it stays at its last number.
+    // There are numbers for 300,000 files of a pair; after that it keeps the last one.
     pair.sequence = (pair.sequence + random.between(1, 3)).min(999_999);
     let mut fields = header_fields(random);
     fields[..20].copy_from_slice(&pair.agreement);
@@ -267,9 +266,8 @@ fn next_header(random: &mut Random, pair: &mut Pair) -> [u8; HEADER_FIELDS] {
     fields
 }
 
-/// A day of so many files with at most `most` payments in each, of so many
-/// issuers. Each issuer is paid at least once if there is a file; the last
-/// file is longer than `most` if need be.
+/// A day of `files` files with at most `most` payments in each, of `issuer_count` issuers. If there is a file, every
+/// issuer has a payment; the last file has more than `most` payments if that takes them.
 pub fn day(
     random: &mut Random,
     issuer_count: usize,
@@ -297,7 +295,7 @@ pub fn day(
     Ok(day)
 }
 
-/// Now and then an issuer not seen before, else one of those seen.
+/// Sometimes the first issuer that was not chosen yet, else one that was.
 fn next_issuer(random: &mut Random, issuers: &[Issuer], seen: &mut usize) -> Issuer {
     if *seen == 0 || (*seen < issuers.len() && random.once_in(4)) {
         *seen += 1;
@@ -306,7 +304,7 @@ fn next_issuer(random: &mut Random, issuers: &[Issuer], seen: &mut usize) -> Iss
     issuers[random.index(*seen)]
 }
 
-/// Adds one file with a payment of each issuer given, in that order.
+/// Adds a file with one payment for each of these issuers, in this order.
 fn file(
     random: &mut Random,
     header: &[u8; HEADER_FIELDS],
@@ -315,28 +313,32 @@ fn file(
 ) -> Result<(), Refusal> {
     let mut writer = Writer::new();
     let mut payments = Vec::new();
-    writer.header(header, lend(&mut day.bytes))?;
+    writer.header(header, new_record(&mut day.bytes))?;
     for &issuer in issuers {
         let code = barcode_of(random, issuer)?;
         let fields = payment_fields(random, &code);
         let received = random.number(AMOUNT_DIGITS);
-        writer.payment(&fields, received, random.number(7), lend(&mut day.bytes))?;
+        writer.payment(
+            &fields,
+            received,
+            random.number(7),
+            new_record(&mut day.bytes),
+        )?;
         payments.push(Posted { issuer, received });
     }
-    writer.trailer(lend(&mut day.bytes))?;
+    writer.trailer(new_record(&mut day.bytes))?;
     day.files.push(payments);
     Ok(())
 }
 
-/// Room for one more record at the end.
-fn lend(bytes: &mut Vec<u8>) -> &mut [u8] {
+/// Adds one record at the end and returns its bytes.
+fn new_record(bytes: &mut Vec<u8>) -> &mut [u8] {
     let start = bytes.len();
     bytes.resize(start + records::LENGTH, b' ');
     &mut bytes[start..]
 }
 
-/// Damages the bytes in 1 to 3 places, each a byte that differs, and gives
-/// the places. Bytes that are none stay so.
+/// Changes the bytes at 1 to 3 places, fewer if there are fewer bytes, and returns the places.
 pub fn damage(random: &mut Random, bytes: &mut [u8]) -> Vec<usize> {
     let count = random.between(1, 3).min(bytes.len() as u64) as usize;
     let mut places: Vec<usize> = Vec::new();
@@ -351,14 +353,14 @@ pub fn damage(random: &mut Random, bytes: &mut [u8]) -> Vec<usize> {
     places
 }
 
-/// A byte that differs: mostly a digit, else an edge of a class, else any.
+/// Another byte than this one: mostly a digit, sometimes an edge of a class, sometimes any.
 fn other_byte(random: &mut Random, byte: u8) -> u8 {
     let other = match random.below(8) {
         0..=4 => random.digit(),
         5 | 6 => random.one_of(&EDGES),
         _ => random.byte(),
     };
-    // A digit whose last bit turns is still a digit.
+    // With its last bit flipped, a digit is still a digit.
     if other == byte {
         byte ^ 1
     } else {
@@ -366,8 +368,7 @@ fn other_byte(random: &mut Random, byte: u8) -> u8 {
     }
 }
 
-/// Swaps two neighbours that differ, and gives the first place; none if there
-/// are no such neighbours.
+/// Swaps two different neighbours and returns the place of the first; `None` if all bytes are equal.
 pub fn swap(random: &mut Random, bytes: &mut [u8]) -> Option<usize> {
     let differ: Vec<usize> = (1..bytes.len())
         .filter(|&i| bytes[i - 1] != bytes[i])
@@ -377,8 +378,7 @@ pub fn swap(random: &mut Random, bytes: &mut [u8]) -> Option<usize> {
     Some(i)
 }
 
-/// Disturbs the order of a day's records: one dropped, doubled, swapped with
-/// the next, or the end cut off.
+/// Changes the order of a day's records: drops one, doubles one, swaps one with the next, or cuts off the end.
 pub fn disorder(random: &mut Random, bytes: &mut Vec<u8>) {
     let count = bytes.len() / records::LENGTH;
     if count < 2 {

@@ -1,20 +1,19 @@
-//! Digits, text bytes, and numbers written in digits.
+//! Digits, text bytes, and numbers written in digits: docs/SPEC.md, "Words".
 
-/// A digit is a byte 48 to 57.
+/// Whether the byte is a digit, 48 to 57.
 #[inline]
 pub const fn is_digit(byte: u8) -> bool {
     byte.is_ascii_digit()
 }
 
-/// A text byte is 32 to 126 or 160 to 255 (ISO 8859-1).
+/// Whether the byte is a text byte, 32 to 126 or 160 to 255 (ISO 8859-1).
 #[inline]
 pub const fn is_text(byte: u8) -> bool {
-    // Both ranges are tested without a branch, so that a field's bytes can be
-    // tested many at a time.
+    // No branch, so the loop over a field vectorizes.
     ((byte >= 32) & (byte <= 126)) | (byte >= 160)
 }
 
-/// Are all the bytes digits? (No early end: the usual answer is yes.)
+/// Whether all bytes are digits. The loop has no early exit, so it vectorizes.
 #[inline(always)]
 pub fn all_digits(bytes: &[u8]) -> bool {
     let worst = bytes
@@ -23,7 +22,7 @@ pub fn all_digits(bytes: &[u8]) -> bool {
     worst <= 9
 }
 
-/// Are all the bytes text bytes?
+/// Whether all bytes are text bytes. The loop has no early exit, so it vectorizes.
 #[inline(always)]
 pub fn all_text(bytes: &[u8]) -> bool {
     bytes
@@ -32,8 +31,7 @@ pub fn all_text(bytes: &[u8]) -> bool {
         == 0
 }
 
-/// The number written by the bytes; none if one is no digit, or if the
-/// number does not fit.
+/// The number that the bytes write; `None` if one is not a digit, or if the number does not fit.
 pub fn number(bytes: &[u8]) -> Option<u64> {
     bytes.iter().try_fold(0u64, |number, &byte| {
         if !is_digit(byte) {
@@ -43,30 +41,29 @@ pub fn number(bytes: &[u8]) -> Option<u64> {
     })
 }
 
-/// The number written by at most 19 digits, already known to be digits.
+/// The number that at most 19 bytes write, all of them digits.
 #[inline(always)]
-pub(crate) fn read(digits: &[u8]) -> u64 {
+pub(crate) fn value(digits: &[u8]) -> u64 {
     digits
         .iter()
         .fold(0, |number, &digit| number * 10 + u64::from(digit - b'0'))
 }
 
-/// Writes the number with leading zeros over all of `out`. A number too wide
-/// for it gives false and leaves `out` untouched.
+/// Writes the number with leading zeros over all of `out`. False, and `out` does not change, if the number is too wide.
 pub fn write(number: u64, out: &mut [u8]) -> bool {
     if !fits(number, out.len()) {
         return false;
     }
     let mut rest = number;
     for byte in out.iter_mut().rev() {
-        // A remainder by 10 is one digit, so the cast keeps it whole.
+        // A remainder by 10 is one digit, so the cast loses nothing.
         *byte = b'0' + (rest % 10) as u8;
         rest /= 10;
     }
     true
 }
 
-/// Has the number at most `width` digits?
+/// Whether the number has at most `width` digits.
 pub fn fits(number: u64, width: usize) -> bool {
     u32::try_from(width)
         .ok()

@@ -1,11 +1,9 @@
-//! A second, independent program for document 01: the collection barcode,
-//! the typed line, the return file of A, G and Z records, a writer for each
-//! and the board.
+//! An independent program for docs/SPEC.md: the collection barcode, the typed line, the return file of A, G and Z
+//! records, a writer for each, and the board.
 //!
-//! It is plain Rust with mutable state, made from document 01 and the page of
-//! open points alone, so that a proved engine can be tested against it. Every
-//! function is total: it answers for each input, and a refusal changes
-//! nothing that was lent or held.
+//! It is plain Rust with mutable state, written from the specification alone, so that the proved engine can be compared
+//! with it. It shares no code with the engine. Every function is total: it answers for each input, and a refused call
+//! changes neither its buffers nor its session or writer.
 
 #![forbid(unsafe_code)]
 
@@ -28,5 +26,5 @@ pub use dates::Date;
 pub use page::Reading;
 pub use records::{Header, Payment, Record, Trailer};
 pub use refusal::{answer, Reason, Refusal};
-pub use session::{Board, Lane, Run, Session};
+pub use session::{Board, Lane, RunResult, Session};
 pub use writer::{Stage, Writer};

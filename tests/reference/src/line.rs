@@ -1,5 +1,4 @@
-//! The 48-digit typed line: four boxes of eleven barcode digits, each
-//! followed by its check.
+//! The typed line of 48 digits: docs/SPEC.md, "Typed line".
 
 use crate::barcode::{self, Barcode};
 use crate::checks::Modulus;
@@ -7,58 +6,58 @@ use crate::refusal::{Reason, Refusal};
 
 pub const LENGTH: usize = 48;
 
-/// Digits of a box with its check, and without.
+/// How many digits a box has with its check, and without.
 const BOX: usize = 12;
 const BOX_DIGITS: usize = 11;
 
-/// Reads a typed line. Order: 1, 2, 3, 4, 5, 6, 7; places are the line's.
+/// Decodes a typed line. Order: 1, 2, 3, 4, 5, 6, 7; places are those of the line.
 pub fn decode(line: &[u8]) -> Result<Barcode, Refusal> {
-    let code = code_of(sized(line)?)?;
-    Ok(barcode::read(&code))
+    let code = accepted_barcode(require_length(line)?)?;
+    Ok(barcode::accepted_fields(&code))
 }
 
-/// Writes the typed line of a barcode: 1 if either length is wrong, then the
-/// barcode's refusals. A refusal leaves `line` untouched.
+/// Writes the typed line of a barcode: 1 if either length is wrong, then the barcode's refusals. A refusal does not
+/// change `line`.
 pub fn line_from_barcode(code: &[u8], line: &mut [u8]) -> Result<(), Refusal> {
-    let code = barcode::sized(code)?;
+    let code = barcode::require_length(code)?;
     let line: &mut [u8; LENGTH] = line.try_into().map_err(|_| Reason::Length.at(0))?;
     barcode::check_digits(code, 0)?;
-    let modulus = barcode::check_start(code, 0)?;
+    let modulus = barcode::check_first_three(code, 0)?;
     barcode::check_general(code, modulus, 0)?;
     for (digits, typed) in boxes(code).zip(line.chunks_exact_mut(BOX)) {
         typed[..BOX_DIGITS].copy_from_slice(digits);
-        // A check is one digit: the cast keeps it whole.
+        // A check is one digit, so the cast loses nothing.
         typed[BOX_DIGITS] = b'0' + modulus.box_check(digits) as u8;
     }
     Ok(())
 }
 
-/// Writes the barcode of a typed line: 1 if either length is wrong, then the
-/// line's refusals. A refusal leaves `code` untouched.
+/// Writes the barcode of a typed line: 1 if either length is wrong, then the line's refusals. A refusal does not change
+/// `code`.
 pub fn barcode_from_line(line: &[u8], code: &mut [u8]) -> Result<(), Refusal> {
-    let line = sized(line)?;
+    let line = require_length(line)?;
     let code: &mut [u8; barcode::LENGTH] = code.try_into().map_err(|_| Reason::Length.at(0))?;
-    *code = code_of(line)?;
+    *code = accepted_barcode(line)?;
     Ok(())
 }
 
-fn sized(line: &[u8]) -> Result<&[u8; LENGTH], Refusal> {
+fn require_length(line: &[u8]) -> Result<&[u8; LENGTH], Refusal> {
     line.try_into().map_err(|_| Reason::Length.at(0))
 }
 
-/// The barcode of a line: 2, 3, 4, 5, 6, 7. The first four places of a line
-/// are those of its barcode, so their refusals need no shift.
-fn code_of(line: &[u8; LENGTH]) -> Result<[u8; barcode::LENGTH], Refusal> {
+/// The barcode of a line: 2, 3, 4, 5, 6, 7. The first four places of a line are those of its barcode, so the places of
+/// their refusals are the same.
+fn accepted_barcode(line: &[u8; LENGTH]) -> Result<[u8; barcode::LENGTH], Refusal> {
     barcode::check_digits(line, 0)?;
     // The line's third digit names the modulus of all five checks.
-    let modulus = barcode::check_start(line, 0)?;
+    let modulus = barcode::check_first_three(line, 0)?;
     check_boxes(line, modulus)?;
     let code = without_checks(line);
     barcode::check_general(&code, modulus, 0)?;
     Ok(code)
 }
 
-/// 6 at the check of the lowest wrong box.
+/// 6 at the check of the first wrong box.
 fn check_boxes(line: &[u8; LENGTH], modulus: Modulus) -> Result<(), Refusal> {
     let (typed, _) = line.as_chunks::<BOX>();
     for (i, typed) in typed.iter().enumerate() {

@@ -1,4 +1,4 @@
-//! Reads standard input and prints the page of "The board on paper".
+//! Reads return files from standard input and prints the page: docs/SPEC.md, "The program quadro".
 
 use std::io::{self, Write};
 use std::process::ExitCode;
@@ -7,7 +7,7 @@ fn main() -> ExitCode {
     match run() {
         Ok(()) => ExitCode::SUCCESS,
         Err(error) => {
-            // Nothing is left to do if standard error is closed as well.
+            // If standard error is closed too, there is nowhere left to report to.
             let _ = writeln!(io::stderr(), "reference: {error}");
             ExitCode::FAILURE
         }

@@ -1,4 +1,4 @@
-//! The board on paper.
+//! The page: docs/SPEC.md, "Page" and "The program quadro".
 
 use std::io::{self, Read, Write};
 
@@ -6,17 +6,15 @@ use crate::records;
 use crate::refusal::{answer, Refusal};
 use crate::session::{Board, Lane, Session};
 
-/// Bytes read at a time: whole records.
+/// How many bytes are read at a time: whole records.
 const PIECE: usize = 4096 * records::LENGTH;
 
-/// The page: key=value lines, each ended by a newline.
-pub fn page(outcome: Result<(), Refusal>, records: u64, files: u64, board: &Board) -> Vec<u8> {
-    let (number, place) = answer(&outcome);
+/// The page: key=value lines, each ended by a newline. The number and the place of the answer may be any numbers.
+pub fn page(number: u64, place: u64, records: u64, files: u64, board: &Board) -> Vec<u8> {
     let lanes = board.in_use();
     let mut text = Vec::new();
-    line(&mut text, "answer", u64::from(number));
-    // Places and lanes are small: the casts keep them whole.
-    line(&mut text, "place", place as u64);
+    line(&mut text, "answer", number);
+    line(&mut text, "place", place);
     line(&mut text, "record", records);
     line(&mut text, "files", files);
     line(&mut text, "lanes", lanes.len() as u64);
@@ -36,7 +34,7 @@ fn line(text: &mut Vec<u8>, key: &str, number: u64) {
     let _ = writeln!(text, "{key}={number}");
 }
 
-/// Segment, hyphen, and the number with its zeros.
+/// The segment, a hyphen, and the issuer's number with its leading zeros.
 fn issuer_line(text: &mut Vec<u8>, lane: &Lane) {
     let width = lane.issuer.width();
     let _ = writeln!(
@@ -46,7 +44,7 @@ fn issuer_line(text: &mut Vec<u8>, lane: &Lane) {
     );
 }
 
-/// A session fed from an input, with what the page counts beside it.
+/// A session that takes an input piece by piece, with the counts that the page has.
 #[derive(Clone, Debug, PartialEq, Eq)]
 pub struct Reading {
     pub session: Session,
@@ -72,33 +70,33 @@ impl Reading {
         }
     }
 
-    /// Takes the records of one piece, until the first refusal of all pieces.
+    /// Takes the records of a piece up to the first refusal; nothing after a refusal.
     pub fn take(&mut self, piece: &[u8]) {
         if self.outcome.is_ok() {
-            let run = self.session.take_many(piece);
-            self.records = self.records.saturating_add(run.records);
-            self.files = self.files.saturating_add(run.files);
-            self.outcome = run.answer;
+            let result = self.session.run(piece);
+            self.records = self.records.saturating_add(result.records);
+            self.files = self.files.saturating_add(result.files);
+            self.outcome = result.answer;
         }
     }
 
-    /// The page at the end of input: the first refusal, else the answer of
-    /// finishing.
+    /// The page at the end of the input, with the first refusal or else the answer of `finish`.
     pub fn page(&self) -> Vec<u8> {
-        let outcome = self.outcome.and_then(|()| self.session.finish());
-        page(outcome, self.records, self.files, self.session.board())
+        let (number, place) = answer(&self.outcome.and_then(|()| self.session.finish()));
+        let board = self.session.board();
+        page(number, place as u64, self.records, self.files, board)
     }
 }
 
-/// The page of a whole input held in memory.
+/// The page of a whole input.
 pub fn page_of(input: &[u8]) -> Vec<u8> {
     let mut reading = Reading::new();
     reading.take(input);
     reading.page()
 }
 
-/// The page of an input read to its end, or to the first refusal, in large
-/// pieces. A failed read gives no page.
+/// The page of an input, which is read in large pieces to its end or to the first refusal. There is no page if a read
+/// fails.
 pub fn read_page(mut input: impl Read) -> io::Result<Vec<u8>> {
     let mut reading = Reading::new();
     let mut piece = vec![0; PIECE];
@@ -112,7 +110,7 @@ pub fn read_page(mut input: impl Read) -> io::Result<Vec<u8>> {
     }
 }
 
-/// Fills the piece; less than its length only at the end of input.
+/// Fills the piece and returns how many bytes it has: less than its length only at the end of the input.
 fn fill(input: &mut impl Read, piece: &mut [u8]) -> io::Result<usize> {
     let mut filled = 0;
     while filled < piece.len() {

@@ -1,7 +1,6 @@
-//! A small deterministic generator (splitmix64), so that every test can be
-//! run again from its seed.
+//! A small deterministic generator (splitmix64), so that every test can be repeated from its seed.
 
-/// The generator; equal seeds give equal numbers.
+/// The generator. Equal seeds give equal numbers.
 #[derive(Clone, Debug, PartialEq, Eq)]
 pub struct Random {
     state: u64,
@@ -14,7 +13,7 @@ impl Random {
 
     /// The next 64 bits.
     pub fn bits(&mut self) -> u64 {
-        // Splitmix64 is defined modulo 2^64: here wrapping is meant.
+        // Splitmix64 is defined modulo 2^64, so this wraps on purpose.
         self.state = self.state.wrapping_add(0x9E37_79B9_7F4A_7C15);
         let mut z = self.state;
         z = (z ^ (z >> 30)).wrapping_mul(0xBF58_476D_1CE4_E5B9);
@@ -27,8 +26,7 @@ impl Random {
         self.bits().checked_rem(bound).unwrap_or(0)
     }
 
-    /// A number from `low` to `high`, both included; `low` if they are out of
-    /// order.
+    /// A number from `low` to `high`, both included; `low` if `high` is below it.
     pub fn between(&mut self, low: u64, high: u64) -> u64 {
         match high.checked_sub(low).map(|span| span.checked_add(1)) {
             None => low,
@@ -63,8 +61,7 @@ impl Random {
         bytes.get(i).copied().unwrap_or(0)
     }
 
-    /// A number of at most `width` digits (19 at most), short ones as likely
-    /// as long ones.
+    /// A number of at most `width` digits, and of at most 19. Each length is as likely as another.
     pub fn number(&mut self, width: u32) -> u64 {
         let digits = self.between(0, u64::from(width.min(19))) as u32;
         self.below(10u64.pow(digits))

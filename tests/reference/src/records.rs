@@ -1,4 +1,4 @@
-//! The three 150-byte records A, G and Z, decoded one alone.
+//! Single records, A, G and Z: docs/SPEC.md, "Records" and "Field bytes".
 
 use crate::barcode::{self, Barcode};
 use crate::dates::Date;
@@ -7,15 +7,15 @@ use crate::refusal::{Reason, Refusal};
 
 pub const LENGTH: usize = 150;
 
-/// Joined field bytes of an A and of a G.
+/// The lengths of the field bytes of an A and of a G.
 pub const HEADER_FIELDS: usize = 78;
 pub const PAYMENT_FIELDS: usize = 121;
 
-/// The service field's two spellings.
+/// The two spellings of the service field.
 pub const SERVICE_PLAIN: &[u8; 17] = b"CODIGO DE BARRAS ";
 pub const SERVICE_ACCENTED: &[u8; 17] = b"C\xD3DIGO DE BARRAS ";
 
-/// What a field may hold.
+/// What a field may contain.
 #[derive(Clone, Copy, Debug, PartialEq, Eq)]
 pub enum Content {
     Fixed(&'static [u8]),
@@ -29,7 +29,7 @@ pub enum Content {
     Form,
 }
 
-/// A row of the table: a field of a record, its places and what it holds.
+/// A row of the table: a field of a record, its places and its content.
 #[derive(Clone, Copy, Debug, PartialEq, Eq)]
 pub struct Row {
     pub letter: u8,
@@ -137,7 +137,7 @@ pub struct Trailer {
     pub total: u64,
 }
 
-/// A record decoded alone.
+/// A decoded record.
 #[derive(Clone, Copy, Debug, PartialEq, Eq, Hash)]
 pub enum Record {
     A(Header),
@@ -145,9 +145,9 @@ pub enum Record {
     Z(Trailer),
 }
 
-/// Decodes one record alone. Order: 1, 9, then the fields from left to right.
+/// Decodes a record. Order: 1, 9, then the fields from left to right.
 pub fn decode(record: &[u8]) -> Result<Record, Refusal> {
-    let record = sized(record)?;
+    let record = require_length(record)?;
     match record[0] {
         b'A' => header(record).map(Record::A),
         b'G' => payment(record).map(Record::G),
@@ -156,8 +156,8 @@ pub fn decode(record: &[u8]) -> Result<Record, Refusal> {
     }
 }
 
-/// The field of a row, as a stretch of the caller's own bytes. It is empty
-/// for a refused record, another record's row and a row past the table.
+/// The field of a row, as a part of the record. The empty slice if the record is refused, and for a row of another
+/// letter or past the table.
 pub fn field(record: &[u8], row: usize) -> &[u8] {
     let Some(row) = TABLE.get(row) else {
         return &[];
@@ -168,12 +168,10 @@ pub fn field(record: &[u8], row: usize) -> &[u8] {
     &record[row.first - 1..row.last]
 }
 
-/// Writes the field bytes of an A (78) or a G (121), joined in record order
-/// as the file writer takes them. Order: 1 for the record, 9 (a Z has no
-/// joined fields), 1 for `out`, then the record's fields. A refusal leaves
-/// `out` untouched.
-pub fn joined(record: &[u8], out: &mut [u8]) -> Result<(), Refusal> {
-    let record = sized(record)?;
+/// Writes the field bytes of an A (78) or a G (121), which the writer takes for the same record. Order: 1 for the
+/// record, 9 (a Z has no field bytes), 1 for `out`, then the record's fields. A refusal does not change `out`.
+pub fn join(record: &[u8], out: &mut [u8]) -> Result<(), Refusal> {
+    let record = require_length(record)?;
     match record[0] {
         b'A' => {
             let out = out.try_into().map_err(|_| Reason::Length.at(0))?;
@@ -190,20 +188,20 @@ pub fn joined(record: &[u8], out: &mut [u8]) -> Result<(), Refusal> {
     Ok(())
 }
 
-/// Places 3 to 79, then the service field's second byte.
+/// Places 3 to 79, then the second byte of the service field.
 fn join_header(record: &[u8; LENGTH], out: &mut [u8; HEADER_FIELDS]) {
     out[..77].copy_from_slice(&record[2..79]);
     out[77] = record[82];
 }
 
-/// Places 2 to 81, then 101 to 141: all but the money between them.
+/// Places 2 to 81, then 101 to 141: all but the two amounts between them.
 fn join_payment(record: &[u8; LENGTH], out: &mut [u8; PAYMENT_FIELDS]) {
     out[..80].copy_from_slice(&record[1..81]);
     out[80..].copy_from_slice(&record[100..141]);
 }
 
-/// The A that these joined fields make, not yet checked.
-pub(crate) fn part_header(fields: &[u8; HEADER_FIELDS]) -> [u8; LENGTH] {
+/// The A of these field bytes, not yet checked.
+pub(crate) fn header_from_fields(fields: &[u8; HEADER_FIELDS]) -> [u8; LENGTH] {
     let mut record = [b' '; LENGTH];
     record[..2].copy_from_slice(b"A2");
     record[2..79].copy_from_slice(&fields[..77]);
@@ -213,9 +211,8 @@ pub(crate) fn part_header(fields: &[u8; HEADER_FIELDS]) -> [u8; LENGTH] {
     record
 }
 
-/// The G that these joined fields make, with its money still zero, not yet
-/// checked.
-pub(crate) fn part_payment(fields: &[u8; PAYMENT_FIELDS]) -> [u8; LENGTH] {
+/// The G of these field bytes, with amounts of zero, not yet checked.
+pub(crate) fn payment_from_fields(fields: &[u8; PAYMENT_FIELDS]) -> [u8; LENGTH] {
     let mut record = [b' '; LENGTH];
     record[0] = b'G';
     record[1..81].copy_from_slice(&fields[..80]);
@@ -224,19 +221,18 @@ pub(crate) fn part_payment(fields: &[u8; PAYMENT_FIELDS]) -> [u8; LENGTH] {
     record
 }
 
-/// Writes a number into the field of a row; false, with nothing written, if
-/// it is too wide.
+/// Writes a number into the field of a row; false, and nothing is written, if it is too wide.
 pub(crate) fn write_number<const ROW: usize>(record: &mut [u8; LENGTH], number: u64) -> bool {
     digits::write(number, &mut record[TABLE[ROW].first - 1..TABLE[ROW].last])
 }
 
 /// 1 for a length other than 150.
 #[inline(always)]
-pub(crate) fn sized(record: &[u8]) -> Result<&[u8; LENGTH], Refusal> {
+pub(crate) fn require_length(record: &[u8]) -> Result<&[u8; LENGTH], Refusal> {
     record.try_into().map_err(|_| Reason::Length.at(0))
 }
 
-/// The fields of an A; its letter was seen.
+/// The fields of an A, whose letter is already checked.
 #[inline(always)]
 pub(crate) fn header(record: &[u8; LENGTH]) -> Result<Header, Refusal> {
     fixed::<A_RETURN>(record)?;
@@ -256,7 +252,7 @@ pub(crate) fn header(record: &[u8; LENGTH]) -> Result<Header, Refusal> {
     })
 }
 
-/// The fields of a G; its letter was seen.
+/// The fields of a G, whose letter is already checked.
 #[inline(always)]
 pub(crate) fn payment(record: &[u8; LENGTH]) -> Result<Payment, Refusal> {
     text::<G_ACCOUNT>(record)?;
@@ -283,7 +279,7 @@ pub(crate) fn payment(record: &[u8; LENGTH]) -> Result<Payment, Refusal> {
     })
 }
 
-/// The fields of a Z; its letter was seen.
+/// The fields of a Z, whose letter is already checked.
 #[inline(always)]
 pub(crate) fn trailer(record: &[u8; LENGTH]) -> Result<Trailer, Refusal> {
     let count = number::<Z_COUNT>(record)?;
@@ -292,19 +288,19 @@ pub(crate) fn trailer(record: &[u8; LENGTH]) -> Result<Trailer, Refusal> {
     Ok(Trailer { count, total })
 }
 
-/// The bytes of a row. The row is a constant, so its places cost nothing.
+/// The bytes of a row. The row is a constant, so its places are known when this is compiled.
 #[inline(always)]
 fn bytes<const ROW: usize>(record: &[u8; LENGTH]) -> &[u8] {
     &record[TABLE[ROW].first - 1..TABLE[ROW].last]
 }
 
-/// Only 10, at the first place.
+/// A fixed field: only 10, at its first place.
 #[inline(always)]
 fn fixed<const ROW: usize>(record: &[u8; LENGTH]) -> Result<(), Refusal> {
     let wanted = const {
         match TABLE[ROW].content {
             Content::Fixed(wanted) => wanted,
-            _ => panic!("this row is no fixed field"),
+            _ => panic!("this row is not a fixed field"),
         }
     };
     if bytes::<ROW>(record) != wanted {
@@ -313,7 +309,7 @@ fn fixed<const ROW: usize>(record: &[u8; LENGTH]) -> Result<(), Refusal> {
     Ok(())
 }
 
-/// The service field in either spelling; only 10, at its first place.
+/// The service field, in either spelling: only 10, at its first place.
 #[inline(always)]
 fn service(record: &[u8; LENGTH]) -> Result<(), Refusal> {
     let field = bytes::<A_SERVICE>(record);
@@ -323,7 +319,7 @@ fn service(record: &[u8; LENGTH]) -> Result<(), Refusal> {
     Ok(())
 }
 
-/// 8 at the first byte that is no text byte.
+/// A text field: 8 at the first byte that is not a text byte.
 #[inline(always)]
 fn text<const ROW: usize>(record: &[u8; LENGTH]) -> Result<(), Refusal> {
     const { assert!(matches!(TABLE[ROW].content, Content::Text)) };
@@ -341,8 +337,7 @@ fn no_text(field: &[u8], first: usize) -> Refusal {
     Reason::NoText.at(first + text.count())
 }
 
-/// A digit or money field, at most 17 digits: 2 at the first byte that is no
-/// digit.
+/// A digit or money field of at most 17 digits: 2 at the first byte that is not a digit.
 #[inline(always)]
 fn number<const ROW: usize>(record: &[u8; LENGTH]) -> Result<u64, Refusal> {
     const {
@@ -354,24 +349,24 @@ fn number<const ROW: usize>(record: &[u8; LENGTH]) -> Result<u64, Refusal> {
     };
     let field = bytes::<ROW>(record);
     barcode::check_digits(field, TABLE[ROW].first - 1)?;
-    Ok(digits::read(field))
+    Ok(digits::value(field))
 }
 
-/// A date: 2 at the first byte that is no digit, then 11 at the first place.
+/// A date: 2 at the first byte that is not a digit, then 11 at the first place.
 #[inline(always)]
 fn date<const ROW: usize>(record: &[u8; LENGTH]) -> Result<Date, Refusal> {
     const { assert!(matches!(TABLE[ROW].content, Content::Date)) };
     let field = bytes::<ROW>(record);
     barcode::check_digits(field, TABLE[ROW].first - 1)?;
-    let date = field.try_into().ok().and_then(Date::of_digits);
+    let date = field.try_into().ok().and_then(Date::from_digits);
     date.ok_or(Reason::NoDate.at(TABLE[ROW].first))
 }
 
-/// The barcode of a G, with the places of the record.
+/// The barcode of a G; its refusals have places of the record.
 #[inline(always)]
 fn code(record: &[u8; LENGTH]) -> Result<Barcode, Refusal> {
     let before = TABLE[G_BARCODE].first - 1;
-    barcode::decode_within(barcode::sized(bytes::<G_BARCODE>(record))?, before)
+    barcode::decode_within(barcode::require_length(bytes::<G_BARCODE>(record))?, before)
 }
 
 /// Capture: only 12.
@@ -379,7 +374,7 @@ fn code(record: &[u8; LENGTH]) -> Result<Barcode, Refusal> {
 fn capture(record: &[u8; LENGTH]) -> Result<u8, Refusal> {
     let place = TABLE[G_CAPTURE].first;
     let capture = record[place - 1];
-    // Both ranges are tested, so that nothing has to be guessed.
+    // Both ranges are tested without a branch.
     let known = matches!(capture, b'1'..=b'6') | matches!(capture, b'a'..=b'f');
     if !known {
         return Err(Reason::UnknownCode.at(place));

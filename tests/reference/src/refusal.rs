@@ -1,10 +1,9 @@
-//! Refusals: a number of document 01's table, with a place.
+//! Refusals: a number of docs/SPEC.md, "Refusals", with a place.
 
 use std::fmt;
 
-/// Why something was refused. The numbers are those of document 01.
+/// Why something was refused, with the numbers of docs/SPEC.md, "Refusals".
 #[derive(Clone, Copy, Debug, PartialEq, Eq, PartialOrd, Ord, Hash)]
-#[repr(u8)]
 pub enum Reason {
     Length = 1,
     NoDigit = 2,
@@ -30,8 +29,8 @@ pub enum Reason {
 }
 
 impl Reason {
-    /// Every reason, in the order of the table.
-    pub const ALL: [Reason; 21] = [
+    /// Every reason. Nothing depends on the order, and numbers may be missing between the first and the last.
+    pub const ALL: &'static [Reason] = &[
         Reason::Length,
         Reason::NoDigit,
         Reason::Product,
@@ -55,13 +54,12 @@ impl Reason {
         Reason::WideNumber,
     ];
 
-    /// The number in document 01's table, 1 to 21.
-    pub const fn number(self) -> u8 {
-        self as u8
+    /// The number in docs/SPEC.md, "Refusals".
+    pub const fn number(self) -> u64 {
+        self as u64
     }
 
-    /// The refusal for this reason at a place; places count from 1, and 0
-    /// stands for the whole.
+    /// The refusal for this reason at a place. Places count from 1; place 0 means that the refusal has none.
     pub const fn at(self, place: usize) -> Refusal {
         Refusal {
             reason: self,
@@ -69,35 +67,35 @@ impl Reason {
         }
     }
 
-    /// The table's own words, shortened.
+    /// What is wrong, in words.
     pub const fn words(self) -> &'static str {
         match self {
-            Reason::Length => "length is not the one called for",
-            Reason::NoDigit => "a byte is no digit",
+            Reason::Length => "length is not the required one",
+            Reason::NoDigit => "a byte is not a digit",
             Reason::Product => "product is not 8",
             Reason::Segment => "segment is not 1 to 7 or 9",
             Reason::Kind => "value kind is not 6 to 9",
             Reason::BoxCheck => "a box check is wrong",
             Reason::GeneralCheck => "general check is wrong",
-            Reason::NoText => "no text byte",
+            Reason::NoText => "a byte is not a text byte",
             Reason::Unexpected => "first byte names no record expected now",
-            Reason::Fixed => "fixed field differs",
-            Reason::NoDate => "eight digits, no date",
+            Reason::Fixed => "fixed field has other bytes",
+            Reason::NoDate => "eight digits are not a date",
             Reason::UnknownCode => "capture or payment form unknown",
             Reason::TrailerCount => "trailer count differs",
             Reason::TrailerTotal => "trailer total differs",
-            Reason::TooManyPayments => "a G when 999,997 were taken",
-            Reason::FileTotal => "file's total past its limit",
-            Reason::TooManyLanes => "new issuer, 64 lanes taken",
+            Reason::TooManyPayments => "a payment after 999,997 in the same file",
+            Reason::FileTotal => "file total past its limit",
+            Reason::TooManyLanes => "new issuer when all lanes are in use",
             Reason::BoardTotal => "a board total past 10^18",
-            Reason::FileOpen => "end with a file open",
-            Reason::WideCheck => "a computed check needs two places",
-            Reason::WideNumber => "number too wide",
+            Reason::FileOpen => "end of the input while a file is open",
+            Reason::WideCheck => "a computed check digit needs two places",
+            Reason::WideNumber => "number too wide for its field",
         }
     }
 }
 
-/// A refusal: its reason (with the number) and its place.
+/// A refusal: its reason and its place.
 #[derive(Clone, Copy, Debug, PartialEq, Eq, PartialOrd, Ord, Hash)]
 pub struct Refusal {
     pub reason: Reason,
@@ -105,8 +103,8 @@ pub struct Refusal {
 }
 
 impl Refusal {
-    /// The number in document 01's table, 1 to 21.
-    pub const fn number(self) -> u8 {
+    /// The number in docs/SPEC.md, "Refusals".
+    pub const fn number(self) -> u64 {
         self.reason.number()
     }
 }
@@ -125,9 +123,8 @@ impl fmt::Display for Refusal {
 
 impl std::error::Error for Refusal {}
 
-/// An outcome as document 01 counts it: number and place, 0 and 0 when
-/// accepted.
-pub fn answer<T>(outcome: &Result<T, Refusal>) -> (u8, usize) {
+/// The answer of an outcome: number and place, 0 and 0 if accepted.
+pub fn answer<T>(outcome: &Result<T, Refusal>) -> (u64, usize) {
     match outcome {
         Ok(_) => (0, 0),
         Err(refusal) => (refusal.number(), refusal.place),

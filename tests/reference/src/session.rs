@@ -1,13 +1,13 @@
-//! Sessions and the board.
+//! Sessions and the board: docs/SPEC.md, "Sessions", "Board" and "Limits".
 
 use crate::barcode::Issuer;
 use crate::records::{self, Payment, Trailer};
 use crate::refusal::{Reason, Refusal};
 
-/// The most lanes of a board.
+/// How many lanes a board has.
 pub const LANES: usize = 64;
 
-/// The most G records of a file.
+/// The most payments of a file.
 pub const MOST_PAYMENTS: u64 = 999_997;
 
 /// The most centavos of a file, 17 digits.
@@ -24,8 +24,8 @@ pub struct Lane {
     pub centavos: u64,
 }
 
-/// A board: its lanes in the order of first appearance, how many are in use,
-/// and the totals over them.
+/// A board: its lanes in the order in which issuers first appeared, how many of them are in use, and the totals over
+/// them.
 #[derive(Clone, Copy, Debug, PartialEq, Eq, Hash)]
 pub struct Board {
     pub lanes: [Lane; LANES],
@@ -65,9 +65,8 @@ impl Board {
         &self.lanes[..self.used.min(LANES)]
     }
 
-    /// Posts one payment: 17 at 53, 18 at 82. A hand-made board may hold any
-    /// numbers, so each sum stops at the largest number, which lies past its
-    /// limit anyway.
+    /// Posts one payment: 17 at 53, 18 at 82. A board in an arbitrary state may have any numbers, so sums saturate at
+    /// 2^64 - 1, which is past every limit.
     fn post(&mut self, issuer: Issuer, received: u64) -> Result<(), Refusal> {
         let found = self.in_use().iter().position(|lane| lane.issuer == issuer);
         let index = match found {
@@ -84,11 +83,11 @@ impl Board {
         };
         let lane = Lane {
             issuer,
-            payments: past_board(before.payments, 1)?,
-            centavos: past_board(before.centavos, received)?,
+            payments: board_sum(before.payments, 1)?,
+            centavos: board_sum(before.centavos, received)?,
         };
-        let payments = past_board(self.payments, 1)?;
-        let centavos = past_board(self.centavos, received)?;
+        let payments = board_sum(self.payments, 1)?;
+        let centavos = board_sum(self.centavos, received)?;
         self.lanes[index] = lane;
         self.payments = payments;
         self.centavos = centavos;
@@ -101,7 +100,7 @@ impl Board {
 
 /// The sum, or 18 at 82 if it is past the board's limit.
 #[inline(always)]
-fn past_board(before: u64, more: u64) -> Result<u64, Refusal> {
+fn board_sum(before: u64, more: u64) -> Result<u64, Refusal> {
     let sum = before.saturating_add(more);
     if sum > MOST_BOARD_TOTAL {
         return Err(Reason::BoardTotal.at(82));
@@ -109,7 +108,7 @@ fn past_board(before: u64, more: u64) -> Result<u64, Refusal> {
     Ok(sum)
 }
 
-/// The sum, or 16 at 82 if it is past a file's limit. The writer shares it.
+/// The sum, or 16 at 82 if it is past the file's limit. The writer uses it too.
 #[inline(always)]
 pub(crate) fn file_sum(before: u64, more: u64) -> Result<u64, Refusal> {
     let sum = before.saturating_add(more);
@@ -119,38 +118,36 @@ pub(crate) fn file_sum(before: u64, more: u64) -> Result<u64, Refusal> {
     Ok(sum)
 }
 
-/// 15 at 1 when a file has all the payments it may have. The writer shares
-/// it.
+/// 15 at 1 if the file has as many payments as a file can have. The writer uses it too.
 #[inline(always)]
-pub(crate) fn room_for_payment(taken: u64) -> Result<(), Refusal> {
+pub(crate) fn check_payment_count(taken: u64) -> Result<(), Refusal> {
     if taken >= MOST_PAYMENTS {
         return Err(Reason::TooManyPayments.at(1));
     }
     Ok(())
 }
 
-/// What a run over many records did: the records and files accepted, and the
-/// answer of the first one refused.
+/// The result of taking many records: how many records and files were accepted, and the first refusal.
 #[derive(Clone, Copy, Debug, PartialEq, Eq)]
-pub struct Run {
+pub struct RunResult {
     pub records: u64,
     pub files: u64,
     pub answer: Result<(), Refusal>,
 }
 
-/// A session. While no file is open, `taken` and `total` are 0 and `working`
-/// equals `shown`, unless it is a hand-made one.
+/// A session. While no file is open, `taken` and `total` are 0 and `working` equals `shown`, except in an arbitrary
+/// state.
 #[derive(Clone, Debug, PartialEq, Eq, Hash)]
 pub struct Session {
-    /// Is a file open?
+    /// Whether a file is open.
     pub open: bool,
-    /// G records taken in the open file.
+    /// The payments of the open file.
     pub taken: u64,
-    /// Centavos received in the open file.
+    /// The centavos of those payments.
     pub total: u64,
-    /// The board shown: accepted files only.
+    /// The board shown, which has accepted files only.
     pub shown: Board,
-    /// The board with the open file's payments.
+    /// The working board, which has the open file's payments too.
     pub working: Board,
 }
 
@@ -161,7 +158,7 @@ impl Default for Session {
 }
 
 impl Session {
-    /// A fresh session: no file open, an empty board.
+    /// A new session: no file is open, and the board is empty.
     pub const fn new() -> Session {
         Session {
             open: false,
@@ -172,10 +169,10 @@ impl Session {
         }
     }
 
-    /// Takes one record. Order: 1, 9, the fields; then Z: 13, 14; G: 15, 16,
-    /// 17, 18. A refusal changes nothing.
+    /// Takes one record. Order: 1, 9, the fields; then for Z 13, 14, and for G 15, 16, 17, 18. A refusal changes
+    /// nothing.
     pub fn take(&mut self, record: &[u8]) -> Result<(), Refusal> {
-        let record = records::sized(record)?;
+        let record = records::require_length(record)?;
         match (record[0], self.open) {
             (b'A', false) => {
                 records::header(record)?;
@@ -194,34 +191,34 @@ impl Session {
         }
     }
 
-    /// Takes the records of one slice until the first refusal. A rest shorter
-    /// than 150 is a record of wrong length.
-    pub fn take_many(&mut self, bytes: &[u8]) -> Run {
-        let mut run = Run {
+    /// Takes consecutive records up to the first refusal. A rest shorter than 150 bytes is a record of the wrong
+    /// length.
+    pub fn run(&mut self, bytes: &[u8]) -> RunResult {
+        let mut result = RunResult {
             records: 0,
             files: 0,
             answer: Ok(()),
         };
         for record in bytes.chunks(records::LENGTH) {
-            run.answer = self.take(record);
-            if run.answer.is_err() {
+            result.answer = self.take(record);
+            if result.answer.is_err() {
                 break;
             }
-            run.records += 1;
+            result.records += 1;
             // An accepted Z is an accepted file.
-            run.files += u64::from(record[0] == b'Z');
+            result.files += u64::from(record[0] == b'Z');
         }
-        run
+        result
     }
 
-    /// Drops an open file; does nothing otherwise.
+    /// Drops the open file; does nothing if none is open.
     pub fn abandon(&mut self) {
         if self.open {
             self.close();
         }
     }
 
-    /// 19 while a file is open; changes nothing.
+    /// 19 if a file is open. It changes nothing.
     pub fn finish(&self) -> Result<(), Refusal> {
         if self.open {
             return Err(Reason::FileOpen.at(0));
@@ -229,12 +226,12 @@ impl Session {
         Ok(())
     }
 
-    /// The board shown: that of accepted files only.
+    /// The board shown, which has accepted files only.
     pub const fn board(&self) -> &Board {
         &self.shown
     }
 
-    /// Opens a file: its board starts from the board shown.
+    /// Opens a file: the working board starts as the board shown.
     fn begin(&mut self) {
         self.open = true;
         self.taken = 0;
@@ -242,9 +239,9 @@ impl Session {
         self.working = self.shown;
     }
 
-    /// Posts a payment to the open file: 15, 16, 17, 18.
+    /// Adds a payment to the open file: 15, 16, 17, 18.
     fn post(&mut self, payment: &Payment) -> Result<(), Refusal> {
-        room_for_payment(self.taken)?;
+        check_payment_count(self.taken)?;
         let total = file_sum(self.total, payment.received)?;
         self.working
             .post(payment.barcode.issuer(), payment.received)?;
@@ -254,9 +251,9 @@ impl Session {
         Ok(())
     }
 
-    /// Accepts the open file if the trailer fits it: 13, 14.
+    /// Accepts the open file if the trailer has its count and total: 13, 14.
     fn accept(&mut self, trailer: &Trailer) -> Result<(), Refusal> {
-        // A hand-made count near 2^64 has no such sum, and no trailer fits.
+        // In an arbitrary state the sum may pass 2^64; then no trailer has this count.
         if self.taken.checked_add(2) != Some(trailer.count) {
             return Err(Reason::TrailerCount.at(2));
         }
@@ -268,7 +265,7 @@ impl Session {
         Ok(())
     }
 
-    /// The one closed state with the board shown.
+    /// The closed state, which depends on the board shown alone.
     fn close(&mut self) {
         self.open = false;
         self.taken = 0;

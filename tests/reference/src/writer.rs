@@ -1,17 +1,17 @@
-//! The file writer: A, then each G, then Z with its own count and total.
+//! The writer of one file: docs/SPEC.md, "Writer".
 
 use crate::records::{self, G_RECEIVED, G_TARIFF, LENGTH, TABLE, Z_COUNT, Z_TOTAL};
 use crate::refusal::{Reason, Refusal};
-use crate::session::{file_sum, room_for_payment, MOST_PAYMENTS};
+use crate::session::{check_payment_count, file_sum, MOST_PAYMENTS};
 
-/// How far the file is.
+/// Which record the writer expects.
 #[derive(Clone, Copy, Debug, PartialEq, Eq, Hash)]
 pub enum Stage {
-    /// Nothing was written: A is expected.
+    /// Nothing was written: it expects A.
     Fresh,
-    /// A was written: G or Z is expected.
+    /// A was written: it expects G or Z.
     Open,
-    /// Z was written: nothing is expected any more.
+    /// Z was written: it expects nothing more.
     Closed,
 }
 
@@ -19,9 +19,9 @@ pub enum Stage {
 #[derive(Clone, Debug, PartialEq, Eq, Hash)]
 pub struct Writer {
     pub stage: Stage,
-    /// G records written.
+    /// The payments written.
     pub taken: u64,
-    /// Centavos received in them.
+    /// The centavos of those payments.
     pub total: u64,
 }
 
@@ -32,7 +32,7 @@ impl Default for Writer {
 }
 
 impl Writer {
-    /// A writer that has written nothing.
+    /// A new writer, which expects a header.
     pub const fn new() -> Writer {
         Writer {
             stage: Stage::Fresh,
@@ -41,13 +41,12 @@ impl Writer {
         }
     }
 
-    /// Writes the A of 78 field bytes. Order: 1, 9, the fields. A refusal
-    /// changes nothing.
+    /// Writes the A of 78 field bytes. Order: 1, 9, the fields. A refusal changes nothing.
     pub fn header(&mut self, fields: &[u8], out: &mut [u8]) -> Result<(), Refusal> {
         let fields = fields.try_into().map_err(|_| Reason::Length.at(0))?;
-        let out = sized(out)?;
+        let out = require_length(out)?;
         self.expects(Stage::Fresh)?;
-        let record = records::part_header(fields);
+        let record = records::header_from_fields(fields);
         records::header(&record)?;
         *out = record;
         *self = Writer {
@@ -58,8 +57,8 @@ impl Writer {
         Ok(())
     }
 
-    /// Writes the G of 121 field bytes and two amounts. Order: 1, 9, the
-    /// fields with 21 in that field's turn, 15, 16. A refusal changes nothing.
+    /// Writes the G of 121 field bytes and two amounts. Order: 1, 9, the fields (21 in the turn of its field), 15, 16.
+    /// A refusal changes nothing.
     pub fn payment(
         &mut self,
         fields: &[u8],
@@ -68,12 +67,12 @@ impl Writer {
         out: &mut [u8],
     ) -> Result<(), Refusal> {
         let fields = fields.try_into().map_err(|_| Reason::Length.at(0))?;
-        let out = sized(out)?;
+        let out = require_length(out)?;
         self.expects(Stage::Open)?;
-        let mut record = records::part_payment(fields);
+        let mut record = records::payment_from_fields(fields);
         let money = write_money(&mut record, received, tariff);
         first_refusal(records::payment(&record).map(|_| ()), money)?;
-        room_for_payment(self.taken)?;
+        check_payment_count(self.taken)?;
         self.total = file_sum(self.total, received)?;
         // No overflow: `taken` is below 999,997 here.
         self.taken += 1;
@@ -81,10 +80,10 @@ impl Writer {
         Ok(())
     }
 
-    /// Writes the Z and closes the file. Order: 1, 9; for a hand-made writer
-    /// whose count or total is too wide, 15, 16. A refusal changes nothing.
+    /// Writes the Z and closes the file. Order: 1, 9; then 15, 16 for a writer in an arbitrary state whose count or
+    /// total is too wide. A refusal changes nothing.
     pub fn trailer(&mut self, out: &mut [u8]) -> Result<(), Refusal> {
-        let out = sized(out)?;
+        let out = require_length(out)?;
         self.expects(Stage::Open)?;
         if self.taken > MOST_PAYMENTS {
             return Err(Reason::TooManyPayments.at(1));
@@ -100,7 +99,7 @@ impl Writer {
         Ok(())
     }
 
-    /// 9 at 1 unless the file is at this stage.
+    /// 9 at 1 if the writer is at another stage.
     fn expects(&self, stage: Stage) -> Result<(), Refusal> {
         if self.stage != stage {
             return Err(Reason::Unexpected.at(1));
@@ -109,13 +108,12 @@ impl Writer {
     }
 }
 
-/// 1 for a lent record of a length other than 150.
-fn sized(out: &mut [u8]) -> Result<&mut [u8; LENGTH], Refusal> {
+/// 1 for a buffer of a length other than 150.
+fn require_length(out: &mut [u8]) -> Result<&mut [u8; LENGTH], Refusal> {
     out.try_into().map_err(|_| Reason::Length.at(0))
 }
 
-/// Writes both amounts: 21 for the first that is too wide, which leaves its
-/// zeros.
+/// Writes both amounts; 21 for the first that is too wide, whose field keeps its zeros.
 fn write_money(record: &mut [u8; LENGTH], received: u64, tariff: u64) -> Result<(), Refusal> {
     if !records::write_number::<G_RECEIVED>(record, received) {
         return Err(Reason::WideNumber.at(TABLE[G_RECEIVED].first));
@@ -126,9 +124,8 @@ fn write_money(record: &mut [u8; LENGTH], received: u64, tariff: u64) -> Result<
     Ok(())
 }
 
-/// Of a record's refusal and its money's, the one further left. Fields take
-/// their turns from left to right, each refusal lies in its own field, and a
-/// money field of zeros has none of its own.
+/// Of the record's refusal and its amounts' refusal, the one further left: fields are checked from left to right, each
+/// refusal is inside its own field, and an amount of zeros is not refused.
 fn first_refusal(record: Result<(), Refusal>, money: Result<(), Refusal>) -> Result<(), Refusal> {
     match (record, money) {
         (Err(of_record), Err(of_money)) if of_record.place < of_money.place => Err(of_record),

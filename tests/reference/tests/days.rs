@@ -1,18 +1,17 @@
-//! Days of random files, made with the writer and taken by a session.
+//! Days of random files, written by the writer and taken by a session.
 
 mod common;
 
 use std::collections::BTreeMap;
 
+use common::assert_answer;
 use common::naive::{NaiveBoard, NaiveSession};
-use common::says;
 use reference::days::{self, Day};
 use reference::random::Random;
 use reference::records;
 use reference::{answer, Session, Stage, Writer};
 
-/// How many files can be accepted before a 65th issuer, and the record that
-/// names it, if there is one.
+/// How many files and records are accepted before a 65th issuer; `None` if there is no such issuer.
 fn refused_at(day: &Day) -> Option<(usize, u64)> {
     let mut seen = Vec::new();
     let mut record = 0;
@@ -39,24 +38,24 @@ fn days_with_0_to_70_issuers() {
         for files in [1, 2, 9, 40] {
             let day = days::day(&mut random, issuers, files, 30).unwrap();
             let mut session = Session::new();
-            let run = session.take_many(&day.bytes);
+            let run = session.run(&day.bytes);
             let accepted = match refused_at(&day) {
                 Some((accepted, record)) => {
                     assert!(issuers > 64);
-                    says(run.answer, 17, 53);
+                    assert_answer(run.answer, 17, 53);
                     assert_eq!((run.records, run.files), (record, accepted as u64));
                     session.abandon();
                     accepted
                 }
                 None => {
                     assert!(issuers <= 64);
-                    says(run.answer, 0, 0);
+                    assert_answer(run.answer, 0, 0);
                     assert_eq!(run.records, (day.bytes.len() / 150) as u64);
                     assert_eq!(session.board().used, issuers);
                     files
                 }
             };
-            says(session.finish(), 0, 0);
+            assert_answer(session.finish(), 0, 0);
             let lanes = day.lanes(accepted);
             assert_eq!(session.board().in_use(), lanes);
             assert_eq!(
@@ -123,10 +122,9 @@ fn damage_changes_one_to_three_places() {
     assert_eq!(pair, [2, 1]);
 }
 
-/// A damaged day against the slow session; refused records are passed over,
-/// and a file is abandoned now and then.
+/// Damaged days against the naive session. Refused records are skipped, and files are abandoned now and then.
 #[test]
-fn damaged_days_beside_the_slow_session() {
+fn damaged_days_against_the_naive_session() {
     let mut random = Random::new(10);
     let mut numbers = BTreeMap::new();
     for round in 0..400 {
@@ -145,38 +143,37 @@ fn damaged_days_beside_the_slow_session() {
             }
         }
         let mut session = Session::new();
-        let mut slow = NaiveSession::default();
+        let mut naive = NaiveSession::default();
         for record in day.bytes.chunks(150) {
             let before = session.clone();
             let outcome = session.take(record);
-            let expected = slow.take(record);
+            let expected = naive.take(record);
             assert_eq!(answer(&outcome), expected.clone().err().unwrap_or((0, 0)));
             *numbers.entry(answer(&outcome).0).or_insert(0) += 1;
             match expected {
-                Ok(next) => slow = next,
+                Ok(next) => naive = next,
                 Err(_) => assert_eq!(session, before),
             }
-            assert_eq!(NaiveSession::of(&session), slow);
+            assert_eq!(NaiveSession::of(&session), naive);
             if random.once_in(200) {
                 session.abandon();
-                slow = NaiveSession {
-                    shown: slow.shown.clone(),
-                    working: slow.shown.clone(),
+                naive = NaiveSession {
+                    shown: naive.shown.clone(),
+                    working: naive.shown.clone(),
                     ..NaiveSession::default()
                 };
-                assert_eq!(NaiveSession::of(&session), slow);
+                assert_eq!(NaiveSession::of(&session), naive);
             }
         }
-        says(session.finish(), if slow.open { 19 } else { 0 }, 0);
-        assert_eq!(NaiveBoard::of(session.board()), slow.shown);
+        assert_answer(session.finish(), if naive.open { 19 } else { 0 }, 0);
+        assert_eq!(NaiveBoard::of(session.board()), naive.shown);
     }
     for number in [0, 1, 2, 7, 8, 9, 10, 11, 12, 13, 14, 17] {
         assert!(numbers.contains_key(&number), "{number} of {numbers:?}");
     }
 }
 
-/// A list of calls from the constructor, refused ones in between: a file that
-/// the writer closed is accepted by a fresh session.
+/// Any list of calls of a new writer, refused ones among them: a new session accepts the file that the writer closed.
 #[test]
 fn any_calls_of_a_writer() {
     let mut random = Random::new(11);
@@ -187,7 +184,7 @@ fn any_calls_of_a_writer() {
         for _ in 0..random.below(60) {
             let mut out = [7; 150];
             let length = if random.once_in(20) { 149 } else { 150 };
-            let lent = &mut out[..length];
+            let buffer = &mut out[..length];
             let before = writer.clone();
             let outcome = match random.below(30) {
                 0..=5 => {
@@ -195,9 +192,9 @@ fn any_calls_of_a_writer() {
                     if random.once_in(4) {
                         days::damage(&mut random, &mut fields);
                     }
-                    writer.header(&fields, lent)
+                    writer.header(&fields, buffer)
                 }
-                6 => writer.trailer(lent),
+                6 => writer.trailer(buffer),
                 _ => {
                     let code = days::barcode(&mut random).unwrap();
                     let mut fields = days::payment_fields(&mut random, &code);
@@ -205,7 +202,7 @@ fn any_calls_of_a_writer() {
                         days::damage(&mut random, &mut fields);
                     }
                     let (received, tariff) = (random.number(13), random.number(8));
-                    writer.payment(&fields, received, tariff, lent)
+                    writer.payment(&fields, received, tariff, buffer)
                 }
             };
             match outcome {
@@ -214,7 +211,7 @@ fn any_calls_of_a_writer() {
             }
         }
         let mut session = Session::new();
-        let run = session.take_many(&bytes);
+        let run = session.run(&bytes);
         assert_eq!(run.answer, Ok(()));
         assert_eq!(run.files, u64::from(writer.stage == Stage::Closed));
         assert_eq!(session.open, writer.stage == Stage::Open);
@@ -226,8 +223,7 @@ fn any_calls_of_a_writer() {
     assert!(closed > 100);
 }
 
-/// The writer's refusals are those of the record it would write, with 21 in
-/// its turn, held against the slow record check.
+/// The writer refuses what the naive check of the record refuses, with 21 in the turn of its field.
 #[test]
 fn writer_refuses_as_the_record_would() {
     let mut random = Random::new(12);
@@ -265,7 +261,7 @@ fn writer_refuses_as_the_record_would() {
         let (place, number) = refusals.first().copied().unwrap_or((0, 0));
         let mut out = [7; 150];
         let outcome = open.clone().payment(&fields, received, tariff, &mut out);
-        says(outcome, number, place);
+        assert_answer(outcome, number, place);
         assert_eq!(
             &out[..],
             if outcome.is_ok() {

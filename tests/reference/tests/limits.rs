@@ -1,9 +1,11 @@
-//! Totals and counts at their limits, reached record by record.
+//! Totals and counts at their limits (docs/SPEC.md, "Limits"), reached record by record.
 
 mod common;
 
+use std::collections::BTreeMap;
+
 use common::naive::NaiveSession;
-use common::{a, code_for, g, p4_code, says, with, z};
+use common::{a, assert_answer, code_for, g, p4_code, with_bytes, z};
 use reference::random::Random;
 use reference::records;
 use reference::{answer, days, Board, Lane, Session, Writer};
@@ -12,13 +14,13 @@ const MOST_RECEIVED: u64 = 999_999_999_999;
 const FILE_LIMIT: u64 = 99_999_999_999_999_999;
 const E18: u64 = 1_000_000_000_000_000_000;
 
-/// Takes a file whose total is exactly the limit.
+/// Takes the payments of a file whose total is exactly the limit.
 fn take_full_file(session: &mut Session, most: &[u8], rest: &[u8]) {
-    says(session.take(&a()), 0, 0);
+    assert_answer(session.take(&a()), 0, 0);
     for _ in 0..100_000 {
         session.take(most).unwrap();
     }
-    says(session.take(rest), 0, 0);
+    assert_answer(session.take(rest), 0, 0);
     assert_eq!(session.total, FILE_LIMIT);
 }
 
@@ -30,7 +32,7 @@ fn past_2_to_the_32_in_one_lane() {
     for received in [4_294_967_295, 1, 1, 4_294_967_296, MOST_RECEIVED] {
         sum += received;
         for record in [a(), g(&code, received), z(3, received)] {
-            says(session.take(&record), 0, 0);
+            assert_answer(session.take(&record), 0, 0);
         }
         assert_eq!(session.board().in_use()[0].centavos, sum);
         assert_eq!(session.board().centavos, sum);
@@ -45,8 +47,8 @@ fn a_file_of_999_997_payments() {
     let mut out = [0; 150];
     let (header, payment) = (a(), g(&p4_code(), 3));
     let (mut header_fields, mut payment_fields) = ([0; 78], [0; 121]);
-    records::joined(&header, &mut header_fields).unwrap();
-    records::joined(&payment, &mut payment_fields).unwrap();
+    records::join(&header, &mut header_fields).unwrap();
+    records::join(&payment, &mut payment_fields).unwrap();
     writer.header(&header_fields, &mut out).unwrap();
     session.take(&out).unwrap();
     for _ in 0..999_997 {
@@ -55,16 +57,16 @@ fn a_file_of_999_997_payments() {
     }
     assert_eq!(out, payment);
     let before = session.clone();
-    says(session.take(&payment), 15, 1);
-    says(session.take(&with(payment, 22, b"20230229")), 11, 22);
+    assert_answer(session.take(&payment), 15, 1);
+    assert_answer(session.take(&with_bytes(payment, 22, b"20230229")), 11, 22);
     assert_eq!(session, before);
     let before = writer.clone();
-    says(writer.payment(&payment_fields, 3, 150, &mut out), 15, 1);
+    assert_answer(writer.payment(&payment_fields, 3, 150, &mut out), 15, 1);
     assert_eq!((&writer, out), (&before, payment));
-    says(session.take(&z(999_998, 2_999_991)), 13, 2);
+    assert_answer(session.take(&z(999_998, 2_999_991)), 13, 2);
     writer.trailer(&mut out).unwrap();
     assert_eq!(out, z(999_999, 2_999_991));
-    says(session.take(&out), 0, 0);
+    assert_answer(session.take(&out), 0, 0);
     assert_eq!(session.board().in_use()[0].payments, 999_997);
     assert_eq!(session.board().centavos, 2_999_991);
 }
@@ -78,30 +80,30 @@ fn file_and_board_totals_at_their_limits() {
     for files in 1..=10 {
         take_full_file(&mut session, &most, &rest);
         let before = session.clone();
-        says(session.take(&g(&code, 1)), 16, 82);
+        assert_answer(session.take(&g(&code, 1)), 16, 82);
         assert_eq!(session, before);
-        says(session.take(&g(&code, 0)), 0, 0);
-        says(session.take(&z(100_004, FILE_LIMIT)), 0, 0);
+        assert_answer(session.take(&g(&code, 0)), 0, 0);
+        assert_answer(session.take(&z(100_004, FILE_LIMIT)), 0, 0);
         assert_eq!(session.board().centavos, files * FILE_LIMIT);
         assert_eq!(session.board().payments, files * 100_002);
     }
-    says(session.take(&a()), 0, 0);
-    says(session.take(&g(&code, 11)), 18, 82);
-    says(session.take(&g(&code_for(2, 1), 11)), 18, 82);
-    says(session.take(&g(&code, 10)), 0, 0);
+    assert_answer(session.take(&a()), 0, 0);
+    assert_answer(session.take(&g(&code, 11)), 18, 82);
+    assert_answer(session.take(&g(&code_for(2, 1), 11)), 18, 82);
+    assert_answer(session.take(&g(&code, 10)), 0, 0);
     let before = session.clone();
-    says(session.take(&g(&code, 1)), 18, 82);
-    says(session.take(&g(&code_for(2, 1), 1)), 18, 82);
+    assert_answer(session.take(&g(&code, 1)), 18, 82);
+    assert_answer(session.take(&g(&code_for(2, 1), 1)), 18, 82);
     assert_eq!(session, before);
-    says(session.take(&g(&code_for(2, 1), 0)), 0, 0);
-    says(session.take(&z(4, 10)), 0, 0);
+    assert_answer(session.take(&g(&code_for(2, 1), 0)), 0, 0);
+    assert_answer(session.take(&z(4, 10)), 0, 0);
     assert_eq!(session.board().centavos, E18);
     assert_eq!(session.board().in_use()[0].centavos, E18);
-    // A new file at the limit takes payments of nothing only.
-    says(session.take(&a()), 0, 0);
-    says(session.take(&g(&code, 1)), 18, 82);
-    says(session.take(&g(&code, 0)), 0, 0);
-    says(session.take(&z(3, 0)), 0, 0);
+    // At the limit, a new file accepts payments of 0 only.
+    assert_answer(session.take(&a()), 0, 0);
+    assert_answer(session.take(&g(&code, 1)), 18, 82);
+    assert_answer(session.take(&g(&code, 0)), 0, 0);
+    assert_answer(session.take(&z(3, 0)), 0, 0);
 }
 
 #[test]
@@ -109,8 +111,8 @@ fn writer_total_at_its_limit() {
     let mut writer = Writer::new();
     let mut out = [0; 150];
     let (mut header, mut payment) = ([0; 78], [0; 121]);
-    records::joined(&a(), &mut header).unwrap();
-    records::joined(&g(&p4_code(), 0), &mut payment).unwrap();
+    records::join(&a(), &mut header).unwrap();
+    records::join(&g(&p4_code(), 0), &mut payment).unwrap();
     writer.header(&header, &mut out).unwrap();
     for _ in 0..100_000 {
         writer
@@ -118,12 +120,12 @@ fn writer_total_at_its_limit() {
             .unwrap();
     }
     let before = (writer.clone(), out);
-    says(writer.payment(&payment, 100_000, 0, &mut out), 16, 82);
+    assert_answer(writer.payment(&payment, 100_000, 0, &mut out), 16, 82);
     assert_eq!((writer.clone(), out), before);
-    says(writer.payment(&payment, 99_999, 0, &mut out), 0, 0);
-    says(writer.payment(&payment, 1, 0, &mut out), 16, 82);
-    says(writer.payment(&payment, 0, 0, &mut out), 0, 0);
-    says(writer.trailer(&mut out), 0, 0);
+    assert_answer(writer.payment(&payment, 99_999, 0, &mut out), 0, 0);
+    assert_answer(writer.payment(&payment, 1, 0, &mut out), 16, 82);
+    assert_answer(writer.payment(&payment, 0, 0, &mut out), 0, 0);
+    assert_answer(writer.trailer(&mut out), 0, 0);
     assert_eq!(out, z(100_004, FILE_LIMIT));
 }
 
@@ -133,7 +135,7 @@ fn lanes_keep_the_order_of_first_appearance_in_accepted_files() {
     let (one, two, three) = (code_for(1, 1), code_for(2, 2), code_for(6, 33_333_333));
     let take = |session: &mut Session, records: &[[u8; 150]]| {
         for record in records {
-            says(session.take(record), 0, 0);
+            assert_answer(session.take(record), 0, 0);
         }
     };
     take(&mut session, &[a(), g(&three, 1)]);
@@ -178,7 +180,7 @@ fn small_or_edge(random: &mut Random) -> u64 {
     }
 }
 
-fn hand_made_board(random: &mut Random, few: &[reference::Issuer]) -> Board {
+fn arbitrary_board(random: &mut Random, few: &[reference::Issuer]) -> Board {
     let mut board = Board {
         used: match random.below(4) {
             0 => 64,
@@ -204,12 +206,12 @@ fn hand_made_board(random: &mut Random, few: &[reference::Issuer]) -> Board {
     board
 }
 
-/// Hand-made sessions against the slow one, which counts in 128 bits.
+/// Sessions in arbitrary states against the naive one, which counts in 128 bits.
 #[test]
-fn hand_made_sessions_beside_the_slow_one() {
+fn arbitrary_sessions_against_the_naive_one() {
     let mut random = Random::new(64);
     let few = days::issuers(&mut random, 6);
-    let mut seen = [0; 22];
+    let mut seen = BTreeMap::new();
     for _ in 0..40_000 {
         let mut session = Session {
             open: !random.once_in(8),
@@ -219,8 +221,8 @@ fn hand_made_sessions_beside_the_slow_one() {
                 random.below(5)
             },
             total: small_or_edge(&mut random),
-            shown: hand_made_board(&mut random, &few),
-            working: hand_made_board(&mut random, &few),
+            shown: arbitrary_board(&mut random, &few),
+            working: arbitrary_board(&mut random, &few),
         };
         let record = match random.below(8) {
             0 => days::header(&mut random).unwrap(),
@@ -243,9 +245,9 @@ fn hand_made_sessions_beside_the_slow_one() {
             Ok(next) => assert_eq!(NaiveSession::of(&session), next),
             Err(_) => assert_eq!(session, before),
         }
-        seen[usize::from(answer(&outcome).0)] += 1;
+        *seen.entry(answer(&outcome).0).or_insert(0) += 1;
     }
     for number in [0, 9, 13, 14, 15, 16, 17, 18] {
-        assert!(seen[number] > 100, "{number} of {seen:?}");
+        assert!(seen.get(&number) > Some(&100), "{number} of {seen:?}");
     }
 }

@@ -1,13 +1,13 @@
-//! Each refusal number with its place, and that a refusal changes nothing.
+//! Each refusal with its place (docs/SPEC.md, "Refusals"), and that a refusal changes nothing.
 
 mod common;
 
 use std::collections::BTreeSet;
 
-use common::{a, at, code_for, g, p4_code, says, with, z, P4};
+use common::{a, assert_answer, code_for, g, p4_code, with_byte, with_bytes, z, P4};
 use reference::{answer, barcode, line, records, Board, Date, Modulus, Reason, Refusal, Session};
 
-/// A session with an open file and these numbers.
+/// A session with an open file that has these figures.
 fn session(taken: u64, total: u64, change: impl Fn(&mut Board)) -> Session {
     let mut session = Session::new();
     session.take(&a()).unwrap();
@@ -18,11 +18,12 @@ fn session(taken: u64, total: u64, change: impl Fn(&mut Board)) -> Session {
 }
 
 #[test]
-fn numbers_are_1_to_21() {
-    let numbers: Vec<u8> = Reason::ALL.iter().map(|reason| reason.number()).collect();
-    assert_eq!(numbers, (1..=21).collect::<Vec<u8>>());
+fn no_two_reasons_share_a_number_or_words() {
+    let numbers: BTreeSet<u64> = Reason::ALL.iter().map(|reason| reason.number()).collect();
+    assert_eq!(numbers.len(), Reason::ALL.len());
+    assert!(!numbers.contains(&0), "0 is accepted");
     let words: BTreeSet<&str> = Reason::ALL.iter().map(|reason| reason.words()).collect();
-    assert_eq!(words.len(), 21);
+    assert_eq!(words.len(), Reason::ALL.len());
 }
 
 #[test]
@@ -38,13 +39,13 @@ fn each_number_with_its_place() {
     let code = p4_code();
     let good = g(&code, 1);
     let mut seen = BTreeSet::new();
-    let mut says = |outcome: Result<(), Refusal>, number: u8, place: usize| {
+    let mut assert_seen = |outcome: Result<(), Refusal>, number: u64, place: usize| {
         assert_eq!(answer(&outcome), (number, place));
         seen.insert(number);
     };
-    let code_says = |bytes: &[u8]| barcode::decode(bytes).map(|_| ());
-    let line_says = |bytes: &[u8]| line::decode(bytes).map(|_| ());
-    let record_says = |bytes: &[u8]| records::decode(bytes).map(|_| ());
+    let check_barcode = |bytes: &[u8]| barcode::decode(bytes).map(|_| ());
+    let check_line = |bytes: &[u8]| line::decode(bytes).map(|_| ());
+    let check_record = |bytes: &[u8]| records::decode(bytes).map(|_| ());
     let take = |mut session: Session, record: &[u8]| {
         let before = session.clone();
         let outcome = session.take(record);
@@ -54,67 +55,67 @@ fn each_number_with_its_place() {
     let none = |_: &mut Board| {};
 
     for length in [0, 1, 43, 45, 48, 150] {
-        says(code_says(&vec![b'8'; length]), 1, 0);
+        assert_seen(check_barcode(&vec![b'8'; length]), 1, 0);
     }
     for length in [0, 1, 44, 47, 49, 150] {
-        says(line_says(&vec![b'8'; length]), 1, 0);
+        assert_seen(check_line(&vec![b'8'; length]), 1, 0);
     }
     for length in [0, 1, 149, 151, 300] {
-        says(record_says(&vec![b'A'; length]), 1, 0);
-        says(take(Session::new(), &vec![b'A'; length]), 1, 0);
+        assert_seen(check_record(&vec![b'A'; length]), 1, 0);
+        assert_seen(take(Session::new(), &vec![b'A'; length]), 1, 0);
     }
     for place in 1..=44 {
-        says(code_says(&at(code, place, b':')), 2, place);
+        assert_seen(check_barcode(&with_byte(code, place, b':')), 2, place);
     }
     for place in 1..=48 {
-        says(line_says(&at(*P4, place, b'/')), 2, place);
+        assert_seen(check_line(&with_byte(*P4, place, b'/')), 2, place);
     }
-    says(code_says(&at(code, 1, b'9')), 3, 1);
-    says(line_says(&at(*P4, 1, b'9')), 3, 1);
+    assert_seen(check_barcode(&with_byte(code, 1, b'9')), 3, 1);
+    assert_seen(check_line(&with_byte(*P4, 1, b'9')), 3, 1);
     for segment in [b'0', b'8'] {
-        says(code_says(&at(code, 2, segment)), 4, 2);
-        says(line_says(&at(*P4, 2, segment)), 4, 2);
+        assert_seen(check_barcode(&with_byte(code, 2, segment)), 4, 2);
+        assert_seen(check_line(&with_byte(*P4, 2, segment)), 4, 2);
     }
     for kind in b'0'..=b'5' {
-        says(code_says(&at(code, 3, kind)), 5, 3);
-        says(line_says(&at(*P4, 3, kind)), 5, 3);
+        assert_seen(check_barcode(&with_byte(code, 3, kind)), 5, 3);
+        assert_seen(check_line(&with_byte(*P4, 3, kind)), 5, 3);
     }
     for place in [12, 24, 36, 48] {
         let other = b'0' + (P4[place - 1] - b'0' + 1) % 10;
-        says(line_says(&at(*P4, place, other)), 6, place);
+        assert_seen(check_line(&with_byte(*P4, place, other)), 6, place);
     }
-    says(code_says(&at(code, 4, b'8')), 7, 4);
-    says(record_says(&at(good, 41, b'8')), 7, 41);
+    assert_seen(check_barcode(&with_byte(code, 4, b'8')), 7, 4);
+    assert_seen(check_record(&with_byte(good, 41, b'8')), 7, 41);
     for byte in [0, 31, 127, 159] {
         for place in [3, 22, 23, 42, 46, 65] {
-            says(record_says(&at(a(), place, byte)), 8, place);
+            assert_seen(check_record(&with_byte(a(), place, byte)), 8, place);
         }
         for place in [2, 21, 109, 116, 118, 140] {
-            says(record_says(&at(good, place, byte)), 8, place);
+            assert_seen(check_record(&with_byte(good, place, byte)), 8, place);
         }
     }
     for byte in [32, 126, 160, 255] {
-        assert!(record_says(&at(good, 2, byte)).is_ok());
+        assert!(check_record(&with_byte(good, 2, byte)).is_ok());
     }
-    says(record_says(&at(good, 1, b'g')), 9, 1);
-    says(take(Session::new(), &good), 9, 1);
-    says(take(Session::new(), &z(2, 0)), 9, 1);
-    says(take(session(0, 0, none), &a()), 9, 1);
+    assert_seen(check_record(&with_byte(good, 1, b'g')), 9, 1);
+    assert_seen(take(Session::new(), &good), 9, 1);
+    assert_seen(take(Session::new(), &z(2, 0)), 9, 1);
+    assert_seen(take(session(0, 0, none), &a()), 9, 1);
     for (place, last) in [(2, 2), (80, 81), (82, 98), (99, 150)] {
-        says(record_says(&at(a(), place, b'!')), 10, place);
-        says(record_says(&at(a(), last, b'!')), 10, place);
+        assert_seen(check_record(&with_byte(a(), place, b'!')), 10, place);
+        assert_seen(check_record(&with_byte(a(), last, b'!')), 10, place);
     }
-    says(record_says(&at(good, 150, b'!')), 10, 142);
-    says(record_says(&at(z(2, 0), 150, 0)), 10, 25);
-    says(record_says(&with(a(), 66, b"21000229")), 11, 66);
-    says(record_says(&with(good, 22, b"20240431")), 11, 22);
-    says(record_says(&with(good, 30, b"20241301")), 11, 30);
-    says(record_says(&at(good, 117, b'g')), 12, 117);
-    says(record_says(&at(good, 141, b'0')), 12, 141);
-    says(take(session(0, 0, none), &z(3, 1)), 13, 2);
-    says(take(session(0, 0, none), &z(2, 1)), 14, 8);
-    says(take(session(999_997, u64::MAX, none), &good), 15, 1);
-    says(
+    assert_seen(check_record(&with_byte(good, 150, b'!')), 10, 142);
+    assert_seen(check_record(&with_byte(z(2, 0), 150, 0)), 10, 25);
+    assert_seen(check_record(&with_bytes(a(), 66, b"21000229")), 11, 66);
+    assert_seen(check_record(&with_bytes(good, 22, b"20240431")), 11, 22);
+    assert_seen(check_record(&with_bytes(good, 30, b"20241301")), 11, 30);
+    assert_seen(check_record(&with_byte(good, 117, b'g')), 12, 117);
+    assert_seen(check_record(&with_byte(good, 141, b'0')), 12, 141);
+    assert_seen(take(session(0, 0, none), &z(3, 1)), 13, 2);
+    assert_seen(take(session(0, 0, none), &z(2, 1)), 14, 8);
+    assert_seen(take(session(999_997, u64::MAX, none), &good), 15, 1);
+    assert_seen(
         take(session(0, 99_999_999_999_999_999, none), &good),
         16,
         82,
@@ -123,30 +124,31 @@ fn each_number_with_its_place() {
         board.used = 64;
         board.centavos = u64::MAX;
     };
-    says(take(session(0, 0, full), &good), 17, 53);
+    assert_seen(take(session(0, 0, full), &good), 17, 53);
     let heavy = |board: &mut Board| board.centavos = 1_000_000_000_000_000_000;
-    says(take(session(0, 0, heavy), &good), 18, 82);
-    says(session(0, 0, none).finish(), 19, 0);
+    assert_seen(take(session(0, 0, heavy), &good), 18, 82);
+    assert_seen(session(0, 0, none).finish(), 19, 0);
     let mut out = [0; 44];
-    says(
+    assert_seen(
         barcode::build(1, 6, 100_000_000_000, 0, &[b'0'; 25], &mut out),
         21,
         5,
     );
-    says(
+    assert_seen(
         barcode::build(1, 6, 0, 10_000, &[b'0'; 25], &mut out),
         21,
         16,
     );
     assert_eq!(out, [0; 44]);
-    // All but 20, which never occurs.
-    let expected: BTreeSet<u8> = (1..=21).filter(|&number| number != 20).collect();
-    assert_eq!(seen, expected);
+    // No computed check needs two places.
+    let occurs = |reason: &&Reason| **reason != Reason::WideCheck;
+    let all = Reason::ALL.iter().filter(occurs);
+    assert_eq!(seen, all.map(|reason| reason.number()).collect());
 }
 
 #[test]
 fn a_record_is_read_from_left_to_right() {
-    // From right to left, each fault put before the last one takes over.
+    // From right to left: each new fault is the first one of the record.
     let mut record = g(&p4_code(), 1);
     for (place, byte, number, shown) in [
         (150, b'x', 10, 142),
@@ -175,7 +177,7 @@ fn a_record_is_read_from_left_to_right() {
         (1, b'X', 9, 1),
     ] {
         record[place - 1] = byte;
-        says(records::decode(&record), number, shown);
+        assert_answer(records::decode(&record), number, shown);
     }
     let mut record = a();
     for (place, byte, number, shown) in [
@@ -195,7 +197,7 @@ fn a_record_is_read_from_left_to_right() {
         (1, b'a', 9, 1),
     ] {
         record[place - 1] = byte;
-        says(records::decode(&record), number, shown);
+        assert_answer(records::decode(&record), number, shown);
     }
     let mut record = z(2, 0);
     for (place, byte, number, shown) in [
@@ -207,7 +209,7 @@ fn a_record_is_read_from_left_to_right() {
         (1, 0, 9, 1),
     ] {
         record[place - 1] = byte;
-        says(records::decode(&record), number, shown);
+        assert_answer(records::decode(&record), number, shown);
     }
 }
 
@@ -226,9 +228,9 @@ fn a_line_is_checked_in_its_order() {
         (1, b'x', 2, 1),
     ] {
         typed[place - 1] = byte;
-        says(line::decode(&typed), number, shown);
+        assert_answer(line::decode(&typed), number, shown);
         let mut code = [7; 44];
-        says(line::barcode_from_line(&typed, &mut code), number, shown);
+        assert_answer(line::barcode_from_line(&typed, &mut code), number, shown);
         assert_eq!(code, [7; 44]);
     }
 }
@@ -237,15 +239,15 @@ fn a_line_is_checked_in_its_order() {
 fn checks_and_dates_answer_any_bytes() {
     assert_eq!(Modulus::Ten.check_digit(b""), Ok(0));
     assert_eq!(Modulus::Eleven.remainder(b""), Ok(0));
-    says(Modulus::Eleven.remainder(b"12x"), 2, 3);
-    says(Modulus::Ten.check_digit(&[255]), 2, 1);
+    assert_answer(Modulus::Eleven.remainder(b"12x"), 2, 3);
+    assert_answer(Modulus::Ten.check_digit(&[255]), 2, 1);
     assert_eq!(
         Modulus::Eleven.remainder(&[b'9'; 100_000]).map(|r| r < 11),
         Ok(true)
     );
-    says(Date::read(b""), 1, 0);
-    says(Date::read(b"2024010"), 1, 0);
-    says(Date::read(b"2024010x"), 2, 8);
+    assert_answer(Date::read(b""), 1, 0);
+    assert_answer(Date::read(b"2024010"), 1, 0);
+    assert_answer(Date::read(b"2024010x"), 2, 8);
     for text in [
         b"00000000",
         b"18991231",
@@ -258,7 +260,7 @@ fn checks_and_dates_answer_any_bytes() {
         b"20240431",
         b"99999999",
     ] {
-        says(Date::read(text), 11, 1);
+        assert_answer(Date::read(text), 11, 1);
     }
 }
 
@@ -293,7 +295,7 @@ fn issuers_differ_by_segment() {
         g(&code_for(1, 3659), 4),
         z(5, 7),
     ] {
-        says(session.take(&record), 0, 0);
+        assert_answer(session.take(&record), 0, 0);
     }
     let lanes = session.board().in_use();
     assert_eq!(lanes.len(), 2);

@@ -1,10 +1,10 @@
-//! The days in samples/ print the pages beside them.
+//! Each day in samples/ has the page beside it.
 
 use std::fs;
 use std::path::Path;
 
 #[test]
-fn every_day_prints_its_page() {
+fn every_day_has_its_page() {
     let samples = Path::new(env!("CARGO_MANIFEST_DIR")).join("../../samples");
     let mut days = 0;
     for entry in fs::read_dir(samples).unwrap() {

@@ -1,4 +1,4 @@
-//! Round trips: what is written is read back, byte for byte.
+//! Round trips: decoding what was built, written or converted gives the same bytes again.
 
 mod common;
 
@@ -11,23 +11,23 @@ fn barcode_to_fields_and_back() {
     let mut random = Random::new(1);
     for _ in 0..50_000 {
         let code = days::barcode(&mut random).unwrap();
-        let said = barcode::decode(&code).unwrap();
+        let decoded = barcode::decode(&code).unwrap();
         let free = barcode::free_field(&code);
-        assert_eq!(free.len(), barcode::free_length(said.segment));
+        assert_eq!(free.len(), barcode::free_length(decoded.segment));
         let mut again = [0; 44];
         barcode::build(
-            said.segment,
-            said.kind,
-            said.value,
-            said.issuer,
+            decoded.segment,
+            decoded.kind,
+            decoded.value,
+            decoded.issuer,
             free,
             &mut again,
         )
         .unwrap();
         assert_eq!(again, code);
         let real = common::naive::is_date(&free[..8]);
-        assert_eq!(said.due.is_some(), real);
-        if let Some(due) = said.due {
+        assert_eq!(decoded.due.is_some(), real);
+        if let Some(due) = decoded.due {
             assert_eq!(due.digits(), free[..8]);
         }
     }
@@ -44,9 +44,9 @@ fn fields_to_barcode_and_back() {
             .collect();
         let mut code = [0; 44];
         barcode::build(issuer.segment, kind, value, issuer.number, &free, &mut code).unwrap();
-        let said = barcode::decode(&code).unwrap();
+        let decoded = barcode::decode(&code).unwrap();
         assert_eq!(
-            (said.issuer(), said.kind, said.value),
+            (decoded.issuer(), decoded.kind, decoded.value),
             (issuer, kind, value)
         );
         assert_eq!(barcode::free_field(&code), free);
@@ -69,30 +69,30 @@ fn barcode_to_line_and_back() {
 }
 
 #[test]
-fn record_to_joined_fields_and_back() {
+fn record_to_field_bytes_and_back() {
     let mut random = Random::new(4);
     for _ in 0..20_000 {
         let header = days::header(&mut random).unwrap();
         let mut fields = [0; 78];
-        records::joined(&header, &mut fields).unwrap();
+        records::join(&header, &mut fields).unwrap();
         let mut writer = Writer::new();
         let mut out = [0; 150];
         writer.header(&fields, &mut out).unwrap();
         assert_eq!(out, header);
 
         let payment = days::payment(&mut random).unwrap();
-        let Ok(Record::G(said)) = records::decode(&payment) else {
+        let Ok(Record::G(decoded)) = records::decode(&payment) else {
             panic!("a G")
         };
         let mut fields = [0; 121];
-        records::joined(&payment, &mut fields).unwrap();
+        records::join(&payment, &mut fields).unwrap();
         writer
-            .payment(&fields, said.received, said.tariff, &mut out)
+            .payment(&fields, decoded.received, decoded.tariff, &mut out)
             .unwrap();
         assert_eq!(out, payment);
-        assert_eq!((writer.taken, writer.total), (1, said.received));
+        assert_eq!((writer.taken, writer.total), (1, decoded.received));
         writer.trailer(&mut out).unwrap();
-        assert_eq!(out, common::z(3, said.received));
+        assert_eq!(out, common::z(3, decoded.received));
         assert_eq!(writer.stage, Stage::Closed);
     }
 }
@@ -104,26 +104,29 @@ fn decoded_numbers_are_those_of_the_fields() {
         let record = days::record(&mut random).unwrap();
         let number = |row: usize| digits::number(records::field(&record, row)).unwrap();
         match records::decode(&record).unwrap() {
-            Record::A(said) => {
-                assert_eq!(said.bank, number(records::A_BANK));
-                assert_eq!(said.sequence, number(records::A_SEQUENCE));
+            Record::A(decoded) => {
+                assert_eq!(decoded.bank, number(records::A_BANK));
+                assert_eq!(decoded.sequence, number(records::A_SEQUENCE));
                 let date = records::field(&record, records::A_DATE);
-                assert_eq!(said.date.digits(), date);
+                assert_eq!(decoded.date.digits(), date);
             }
-            Record::G(said) => {
-                assert_eq!(said.received, number(records::G_RECEIVED));
-                assert_eq!(said.tariff, number(records::G_TARIFF));
-                assert_eq!(said.number, number(records::G_NUMBER));
+            Record::G(decoded) => {
+                assert_eq!(decoded.received, number(records::G_RECEIVED));
+                assert_eq!(decoded.tariff, number(records::G_TARIFF));
+                assert_eq!(decoded.number, number(records::G_NUMBER));
                 let bytes = |row| records::field(&record, row);
-                assert_eq!(said.paid.digits(), bytes(records::G_PAID));
-                assert_eq!(said.credited.digits(), bytes(records::G_CREDITED));
-                assert_eq!([said.capture], bytes(records::G_CAPTURE));
-                assert_eq!([said.form], bytes(records::G_FORM));
-                assert_eq!(Ok(said.barcode), barcode::decode(bytes(records::G_BARCODE)));
+                assert_eq!(decoded.paid.digits(), bytes(records::G_PAID));
+                assert_eq!(decoded.credited.digits(), bytes(records::G_CREDITED));
+                assert_eq!([decoded.capture], bytes(records::G_CAPTURE));
+                assert_eq!([decoded.form], bytes(records::G_FORM));
+                assert_eq!(
+                    Ok(decoded.barcode),
+                    barcode::decode(bytes(records::G_BARCODE))
+                );
             }
-            Record::Z(said) => {
-                assert_eq!(said.count, number(records::Z_COUNT));
-                assert_eq!(said.total, number(records::Z_TOTAL));
+            Record::Z(decoded) => {
+                assert_eq!(decoded.count, number(records::Z_COUNT));
+                assert_eq!(decoded.total, number(records::Z_TOTAL));
             }
         }
     }

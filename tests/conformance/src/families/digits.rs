@@ -3,10 +3,11 @@
 use reference::days;
 use reference::random::Random;
 
-use super::{near, noise, room};
+use super::{near, noise, out_length};
 use crate::calls::{Calls, Conversion};
 
-/// Lines of document 01: P4, P8, one whose segment may slip, and one whose kind may.
+/// P4 and P8 of docs/SPEC.md, "Samples", and from "Typing errors" a line whose segment may be mistyped and one whose
+/// kind may.
 const LINES: [&[u8; 48]; 4] = [
     b"817700000000010936599702411310797039001433708318",
     b"818000000004000000100005000000000000000000000000",
@@ -19,19 +20,19 @@ fn lines(random: &mut Random, count: u64) -> Vec<[u8; 48]> {
     LINES.iter().map(|line| **line).chain(more).collect()
 }
 
-/// The bytes with each other byte at each place.
-fn each_change(bytes: &mut [u8], mut pass: impl FnMut(&[u8])) {
+/// Calls `compare` with each of the 256 bytes at each place.
+fn each_change(bytes: &mut [u8], mut compare: impl FnMut(&[u8])) {
     for i in 0..bytes.len() {
         let was = bytes[i];
         for byte in 0..=255 {
             bytes[i] = byte;
-            pass(bytes);
+            compare(bytes);
         }
         bytes[i] = was;
     }
 }
 
-/// Accepted lines with each byte at each place, and with each two neighbours exchanged.
+/// Accepted lines with each byte at each place, and with each two neighbours swapped.
 pub fn changed_lines(calls: &mut Calls, random: &mut Random, times: u64) {
     for mut line in lines(random, 200 * times) {
         each_change(&mut line, |changed| calls.line(changed));
@@ -43,6 +44,7 @@ pub fn changed_lines(calls: &mut Calls, random: &mut Random, times: u64) {
     }
 }
 
+/// Accepted barcodes with each byte at each place.
 pub fn changed_barcodes(calls: &mut Calls, random: &mut Random, times: u64) {
     for _ in 0..100 * times {
         let mut code = days::barcode(random).expect("a good barcode");
@@ -50,7 +52,7 @@ pub fn changed_barcodes(calls: &mut Calls, random: &mut Random, times: u64) {
     }
 }
 
-/// Each two digits at each two places of each box.
+/// Accepted lines with each two digits at each two places of each box.
 pub fn pairs_in_boxes(calls: &mut Calls, random: &mut Random, times: u64) {
     for line in lines(random, 20 * times) {
         for first in [0, 12, 24, 36] {
@@ -68,11 +70,11 @@ pub fn pairs_in_boxes(calls: &mut Calls, random: &mut Random, times: u64) {
     }
 }
 
-/// Every two digits for month and day in each year, and the same as numbers.
+/// Every month and day of two digits in each year, and the same as numbers; then random ones.
 pub fn dates(calls: &mut Calls, random: &mut Random, times: u64) {
     for year in 1899..=2200 {
         for rest in 0..10_000 {
-            calls.date(format(year * 10_000 + rest).as_slice());
+            calls.date(&eight_digits(year * 10_000 + rest));
         }
         for month in 0..14 {
             for day in 0..33 {
@@ -97,16 +99,16 @@ pub fn dates(calls: &mut Calls, random: &mut Random, times: u64) {
     }
 }
 
-fn format(mut date: u64) -> [u8; 8] {
+fn eight_digits(mut number: u64) -> [u8; 8] {
     let mut digits = [b'0'; 8];
     for digit in digits.iter_mut().rev() {
-        *digit += (date % 10) as u8;
-        date /= 10;
+        *digit += (number % 10) as u8;
+        number /= 10;
     }
     digits
 }
 
-/// Lines and barcodes damaged in one to three places, and noise of every length up to 200.
+/// Lines and barcodes damaged at one to three places, random bytes of every length up to 200, and conversions.
 pub fn damaged(calls: &mut Calls, random: &mut Random, times: u64) {
     for _ in 0..300_000 * times {
         let mut line = days::line(random).expect("a good line");
@@ -123,15 +125,15 @@ pub fn damaged(calls: &mut Calls, random: &mut Random, times: u64) {
         }
         for _ in 0..100 {
             let line = days::line(random).expect("a good line");
-            calls.converted(Conversion::LineToBarcode, &line, room(random, 44));
+            calls.convert(Conversion::LineToBarcode, &line, out_length(random, 44));
             let code = days::barcode(random).expect("a good barcode");
-            calls.converted(Conversion::LineFromBarcode, &code, room(random, 48));
+            calls.convert(Conversion::LineFromBarcode, &code, out_length(random, 48));
         }
     }
 }
 
 /// Barcodes built from numbers at the edges of their widths, and check digits of up to 255 digits.
-pub fn built(calls: &mut Calls, random: &mut Random, times: u64) {
+pub fn build(calls: &mut Calls, random: &mut Random, times: u64) {
     for _ in 0..300_000 * times {
         let segment = if random.once_in(16) {
             random.bits()
@@ -154,22 +156,26 @@ pub fn built(calls: &mut Calls, random: &mut Random, times: u64) {
         } else {
             random.number(11)
         };
-        let asked = if segment == 6 { 21 } else { 25 };
+        let required = if segment == 6 { 21 } else { 25 };
         let length = if random.once_in(16) {
             random.index(50)
         } else {
-            asked
+            required
         };
         let mut free: Vec<u8> = (0..length).map(|_| random.digit()).collect();
         if random.once_in(4) {
             days::damage(random, &mut free);
         }
-        calls.build([segment, issuer, kind, value], &free, room(random, 44));
+        calls.build(
+            [segment, issuer, kind, value],
+            &free,
+            out_length(random, 44),
+        );
     }
     for _ in 0..20 * times {
         for length in 0..=255 {
             let digits: Vec<u8> = (0..length).map(|_| random.digit()).collect();
-            calls.checks(&digits);
+            calls.check_digits(&digits);
         }
     }
 }

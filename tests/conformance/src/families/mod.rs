@@ -1,4 +1,4 @@
-//! The inputs, by what they are about: all there are where that is possible, else random ones from a seed.
+//! The inputs, in families: all inputs of a kind where that is possible, else random ones from a seed.
 
 mod digits;
 mod records;
@@ -9,72 +9,72 @@ use reference::random::Random;
 
 use crate::calls::Calls;
 
-/// A family of inputs. It is passed how many times its random share is wanted.
+/// A family of inputs. The number is how many times as many random inputs are compared.
 pub struct Family {
     pub name: &'static str,
-    pub pass: fn(&mut Calls, &mut Random, u64),
+    pub compare: fn(&mut Calls, &mut Random, u64),
 }
 
 pub const ALL: [Family; 14] = [
     Family {
-        name: "typed lines, every change and exchange",
-        pass: digits::changed_lines,
+        name: "typed lines, every change and swap",
+        compare: digits::changed_lines,
     },
     Family {
         name: "barcodes, every change",
-        pass: digits::changed_barcodes,
+        compare: digits::changed_barcodes,
     },
     Family {
         name: "typed lines, every pair of digits in a box",
-        pass: digits::pairs_in_boxes,
+        compare: digits::pairs_in_boxes,
     },
     Family {
         name: "dates of 1899 to 2200",
-        pass: digits::dates,
+        compare: digits::dates,
     },
     Family {
         name: "lines and barcodes, damaged and noise",
-        pass: digits::damaged,
+        compare: digits::damaged,
     },
     Family {
         name: "barcodes built, check digits",
-        pass: digits::built,
+        compare: digits::build,
     },
     Family {
         name: "records, every byte at every place",
-        pass: records::changed,
+        compare: records::changed,
     },
     Family {
         name: "records, damaged and noise",
-        pass: records::damaged,
+        compare: records::damaged,
     },
     Family {
         name: "days, record by record",
-        pass: sessions::by_record,
+        compare: sessions::by_record,
     },
     Family {
         name: "days, many records at once",
-        pass: sessions::by_run,
+        compare: sessions::by_run,
     },
     Family {
-        name: "noise given to sessions",
-        pass: sessions::noise,
+        name: "sessions, noise",
+        compare: sessions::noise,
     },
     Family {
-        name: "sessions put together by hand",
-        pass: sessions::by_hand,
+        name: "sessions in arbitrary states",
+        compare: sessions::arbitrary,
     },
     Family {
         name: "pages",
-        pass: sessions::pages,
+        compare: sessions::pages,
     },
     Family {
         name: "files written",
-        pass: writers::written,
+        compare: writers::files,
     },
 ];
 
-/// Noise of a length: any bytes, or digits alone.
+/// Random bytes of a length: any bytes, or only digits.
 fn noise(random: &mut Random, length: usize) -> Vec<u8> {
     let digits = random.once_in(2);
     let one = |_| {
@@ -87,7 +87,7 @@ fn noise(random: &mut Random, length: usize) -> Vec<u8> {
     (0..length).map(one).collect()
 }
 
-/// One of these numbers, one next to it, or any number.
+/// One of these numbers, one near it, or any number.
 fn near(random: &mut Random, edges: &[u64]) -> u64 {
     let edge = edges[random.index(edges.len())];
     match random.below(8) {
@@ -100,12 +100,12 @@ fn near(random: &mut Random, edges: &[u64]) -> u64 {
     }
 }
 
-/// Mostly the length that is asked for, else another.
-fn room(random: &mut Random, asked: u8) -> u8 {
+/// The length of an output buffer: mostly the required one.
+fn out_length(random: &mut Random, required: u8) -> u8 {
     match random.below(16) {
         0 => random.byte(),
-        1 => asked - 1,
-        2 => asked + 1,
-        _ => asked,
+        1 => required - 1,
+        2 => required + 1,
+        _ => required,
     }
 }

@@ -1,11 +1,12 @@
-//! The three records, each alone.
+//! Single records.
 
 use reference::days;
 use reference::random::Random;
 
-use super::{noise, room};
+use super::{noise, out_length};
 use crate::calls::{Calls, Conversion};
 
+/// An accepted A, G and Z.
 fn records(random: &mut Random) -> [[u8; 150]; 3] {
     [
         days::header(random).expect("a good header"),
@@ -31,14 +32,14 @@ pub fn changed(calls: &mut Calls, random: &mut Random, times: u64) {
     }
 }
 
-/// Records damaged in one to three places, and noise of every length up to 200, now and then behind a letter.
+/// Records damaged at one to three places, and random bytes of every length up to 200, half of them with a letter
+/// first.
 pub fn damaged(calls: &mut Calls, random: &mut Random, times: u64) {
     for _ in 0..100_000 * times {
         for mut record in records(random) {
             if random.once_in(8) {
-                let which = Conversion::Joined;
-                let asked = if record[0] == b'A' { 78 } else { 121 };
-                calls.converted(which, &record, room(random, asked));
+                let required = if record[0] == b'A' { 78 } else { 121 };
+                calls.convert(Conversion::Join, &record, out_length(random, required));
             }
             days::damage(random, &mut record);
             calls.record(&record);

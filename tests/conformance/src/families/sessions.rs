@@ -1,14 +1,15 @@
-//! Sessions, boards and pages: structured days, damaged and in disorder, and sessions that no history leads to.
+//! Sessions, boards and pages: days, damaged and out of order, and sessions in arbitrary states.
 
 use reference::random::Random;
-use reference::{days, digits, Board, Issuer, Session};
+use reference::{days, digits, Board, Issuer, Reason, Session};
 
 use super::near;
 use crate::calls::{Calls, PAGE};
 
-const FULL: [u64; 4] = [0, 999_997, 1_000_000_000_000_000_000, u64::MAX];
+/// Numbers at the limits of counts and sums.
+const LIMITS: [u64; 4] = [0, 999_997, 1_000_000_000_000_000_000, u64::MAX];
 
-/// A day of 0 to 70 issuers, as it is, damaged in one to three places, in disorder, or both.
+/// A day of 0 to 70 issuers: unchanged, damaged at one to three places, out of order, or both.
 fn day(random: &mut Random) -> Vec<u8> {
     let issuers = random.index(71);
     let (files, most) = (random.index(5), random.index(30));
@@ -25,7 +26,8 @@ fn day(random: &mut Random) -> Vec<u8> {
     bytes
 }
 
-/// Each record with the session behind it; now and then a refused one is sent again, or the file is abandoned.
+/// Days record by record, with the session after each. Sometimes a refused record is taken again, or the file
+/// abandoned.
 pub fn by_record(calls: &mut Calls, random: &mut Random, times: u64) {
     for _ in 0..1_500 * times {
         calls.new_session();
@@ -47,7 +49,7 @@ pub fn by_record(calls: &mut Calls, random: &mut Random, times: u64) {
     }
 }
 
-/// Pieces of whole records, then the page.
+/// Days in pieces of whole records, then the page.
 pub fn by_run(calls: &mut Calls, random: &mut Random, times: u64) {
     for _ in 0..8_000 * times {
         calls.new_session();
@@ -63,7 +65,8 @@ pub fn by_run(calls: &mut Calls, random: &mut Random, times: u64) {
     }
 }
 
-/// Noise of every length up to 200, some behind a letter, given to a fresh session and to one with a file open.
+/// Random bytes of every length up to 200, half of them with a letter first, taken by a new session and by one with a
+/// file open.
 pub fn noise(calls: &mut Calls, random: &mut Random, times: u64) {
     for i in 0..20 * times {
         calls.new_session();
@@ -82,6 +85,7 @@ pub fn noise(calls: &mut Calls, random: &mut Random, times: u64) {
     }
 }
 
+/// One of twelve issuers.
 fn issuer(random: &mut Random) -> Issuer {
     let number = random.below(4);
     Issuer {
@@ -90,7 +94,8 @@ fn issuer(random: &mut Random) -> Issuer {
     }
 }
 
-/// A board of any numbers, mostly near the limits, with few issuers, so that some are found and some twice.
+/// A board in an arbitrary state, with numbers near the limits. Some of its lanes have one of the few issuers, so
+/// that a payment's issuer may be found once, several times or never.
 fn board(random: &mut Random) -> Board {
     let mut board = Board::new();
     for lane in &mut board.lanes {
@@ -100,12 +105,12 @@ fn board(random: &mut Random) -> Board {
             lane.issuer.segment = random.bits();
             lane.issuer.number = random.number(8);
         }
-        lane.payments = near(random, &FULL);
-        lane.centavos = near(random, &FULL);
+        lane.payments = near(random, &LIMITS);
+        lane.centavos = near(random, &LIMITS);
     }
     board.used = near(random, &[0, 1, 5, 63, 64, 65, u64::MAX]) as usize;
-    board.payments = near(random, &FULL);
-    board.centavos = near(random, &FULL);
+    board.payments = near(random, &LIMITS);
+    board.centavos = near(random, &LIMITS);
     board
 }
 
@@ -117,7 +122,7 @@ fn payment(random: &mut Random) -> [u8; 150] {
     record
 }
 
-/// A trailer that fits the session, if there is one.
+/// A trailer with the count and the total of the session's file, if they fit in its fields.
 fn trailer(session: &Session) -> [u8; 150] {
     let mut record = [b' '; 150];
     record[0] = b'Z';
@@ -127,7 +132,8 @@ fn trailer(session: &Session) -> [u8; 150] {
     record
 }
 
-pub fn by_hand(calls: &mut Calls, random: &mut Random, times: u64) {
+/// Sessions in arbitrary states, with a few calls each.
+pub fn arbitrary(calls: &mut Calls, random: &mut Random, times: u64) {
     for _ in 0..12_000 * times {
         let session = Session {
             open: !random.once_in(8),
@@ -151,7 +157,7 @@ pub fn by_hand(calls: &mut Calls, random: &mut Random, times: u64) {
             1 => calls.finish_session(),
             2 => calls.board(),
             _ => calls.page(
-                random.below(24),
+                answer_number(random),
                 random.number(19),
                 random.bits(),
                 random.bits(),
@@ -161,26 +167,32 @@ pub fn by_hand(calls: &mut Calls, random: &mut Random, times: u64) {
     }
 }
 
-/// Pages of any board and any numbers, into buffers of the right length and of others.
+/// The number of an answer on a page: that of a reason, one near it, or any number.
+fn answer_number(random: &mut Random) -> u64 {
+    let reason = Reason::ALL[random.index(Reason::ALL.len())];
+    near(random, &[0, reason.number(), u64::MAX])
+}
+
+/// Pages of boards in arbitrary states, with answers of any number and any place, into buffers of any length.
 pub fn pages(calls: &mut Calls, random: &mut Random, times: u64) {
     for _ in 0..1_500 * times {
         let mut session = Session::new();
         session.shown = board(random);
         calls.set_session(&session);
-        let room = if random.once_in(4) {
+        let out_length = if random.once_in(4) {
             random.index(9000)
         } else {
             PAGE
         };
         calls.page(
-            near(random, &[0, 21]),
+            answer_number(random),
+            near(random, &[0, 150, u64::MAX]),
             random.bits(),
             random.bits(),
-            random.bits(),
-            room,
+            out_length,
         );
         calls.page(
-            random.below(23),
+            answer_number(random),
             random.number(4),
             random.number(19),
             random.number(19),

@@ -1,23 +1,23 @@
-//! What the tests share: records made by hand, without the writer.
+//! What the tests share: records that are spelled out, not made by the writer.
 
-// Each test file uses its own part of this module.
+// No test file uses all of this module.
 #![allow(dead_code)]
 
 pub mod naive;
 
 use reference::{answer, line, Refusal};
 
-/// P4, without the blanks of the page.
+/// The typed line of P4, without blanks.
 pub const P4: &[u8; 48] = b"817700000000010936599702411310797039001433708318";
 
 pub const DATE: &str = "20240131";
 
 /// The barcode of P4.
 pub fn p4_code() -> [u8; 44] {
-    code_of(P4)
+    barcode_of_line(P4)
 }
 
-pub fn code_of(typed: &[u8]) -> [u8; 44] {
+pub fn barcode_of_line(typed: &[u8]) -> [u8; 44] {
     let mut code = [0; 44];
     line::barcode_from_line(typed, &mut code).expect("a good line");
     code
@@ -49,13 +49,13 @@ pub fn z(count: u64, total: u64) -> [u8; 150] {
 }
 
 /// The record with other bytes from a place on.
-pub fn with(mut record: [u8; 150], place: usize, bytes: &[u8]) -> [u8; 150] {
+pub fn with_bytes(mut record: [u8; 150], place: usize, bytes: &[u8]) -> [u8; 150] {
     record[place - 1..place - 1 + bytes.len()].copy_from_slice(bytes);
     record
 }
 
 /// The bytes with another byte at a place.
-pub fn at<const N: usize>(mut bytes: [u8; N], place: usize, byte: u8) -> [u8; N] {
+pub fn with_byte<const N: usize>(mut bytes: [u8; N], place: usize, byte: u8) -> [u8; N] {
     bytes[place - 1] = byte;
     bytes
 }
@@ -68,8 +68,8 @@ pub fn code_for(segment: u64, number: u64) -> [u8; 44] {
     code
 }
 
-/// One answer after another.
+/// The outcome must have this answer.
 #[track_caller]
-pub fn says<T>(outcome: Result<T, Refusal>, number: u8, place: usize) {
+pub fn assert_answer<T>(outcome: Result<T, Refusal>, number: u64, place: usize) {
     assert_eq!(answer(&outcome), (number, place));
 }

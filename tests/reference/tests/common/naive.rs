@@ -1,10 +1,9 @@
-//! The same rules once more, slowly and with no thought of speed: digits as
-//! they stand, numbers in 128 bits, vectors for boards. The fast code is held
-//! against these.
+//! A naive version of the same rules, which does nothing for speed: numbers have 128 bits and boards are vectors. The
+//! program is compared with it.
 
 use reference::{Board, Lane, Session};
 
-pub type Answer = (u8, usize);
+pub type Answer = (u64, usize);
 type Outcome<T> = Result<T, Answer>;
 
 pub fn is_digit(byte: u8) -> bool {
@@ -118,8 +117,8 @@ pub fn typed_line(line: &[u8]) -> Outcome<()> {
     general(&code)
 }
 
-/// First and last place and content: t text, n number, d date, b barcode,
-/// c capture, f payment form, s service, _ blank, or a fixed string.
+/// First place, last place and content: t text, n number, d date, b barcode, c capture, f payment form, s service,
+/// _ blanks, or a fixed string after =.
 const A: &[(usize, usize, &str)] = &[
     (2, 2, "=2"),
     (3, 22, "t"),
@@ -149,11 +148,12 @@ const G: &[(usize, usize, &str)] = &[
 const Z: &[(usize, usize, &str)] = &[(2, 7, "n"), (8, 24, "n"), (25, 150, "_")];
 
 fn field(first: usize, bytes: &[u8], content: &str) -> Outcome<()> {
-    let no = |number: u8, bad: &dyn Fn(u8) -> bool| match bytes.iter().position(|byte| bad(*byte)) {
+    let no = |number: u64, bad: &dyn Fn(u8) -> bool| match bytes.iter().position(|byte| bad(*byte))
+    {
         Some(i) => Err((number, first + i)),
         None => Ok(()),
     };
-    let or = |good: bool, number: u8| if good { Ok(()) } else { Err((number, first)) };
+    let or = |good: bool, number: u64| if good { Ok(()) } else { Err((number, first)) };
     match content {
         "t" => no(8, &|byte| !is_text(byte)),
         "n" => no(2, &|byte| !is_digit(byte)),
@@ -173,7 +173,7 @@ fn field(first: usize, bytes: &[u8], content: &str) -> Outcome<()> {
     }
 }
 
-/// A record alone, its letter one of those allowed.
+/// A single record, whose letter must be one of those allowed.
 pub fn record(bytes: &[u8], allowed: &[u8]) -> Outcome<()> {
     if bytes.len() != 150 {
         return Err((1, 0));
@@ -220,7 +220,7 @@ impl NaiveBoard {
     }
 }
 
-/// A session, remade at each step from nothing shared.
+/// A session. Each step makes a new one.
 #[derive(Clone, Debug, Default, PartialEq, Eq)]
 pub struct NaiveSession {
     pub open: bool,

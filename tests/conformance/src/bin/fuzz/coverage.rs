@@ -1,5 +1,5 @@
-//! The coverage counters of the reference program, in this process. The compiler adds one to nearly every branch, and
-//! its profiler's runtime says where they are.
+//! The coverage counters of the reference program, which runs in this process. The compiler adds one to nearly every
+//! branch, and the runtime of its profiler knows where they are.
 
 use std::slice;
 
@@ -9,15 +9,15 @@ extern "C" {
     fn __llvm_profile_reset_counters();
 }
 
-/// Forgets what was counted.
+/// Sets every counter to 0.
 pub fn clear() {
-    // SAFETY: the reference program, which alone is counted, runs on this thread only.
+    // SAFETY: only the reference program has counters, and it runs on this thread alone.
     unsafe { __llvm_profile_reset_counters() }
 }
 
-/// How often each counter was passed since they were cleared.
+/// Every counter's count since they were cleared.
 pub fn counts() -> Vec<u64> {
-    // SAFETY: the counters are one section of this program, and only this thread writes to them.
+    // SAFETY: the counters are one section of this program, and only this thread writes to it.
     unsafe {
         let first = __llvm_profile_begin_counters();
         let count = __llvm_profile_end_counters().offset_from(first);

@@ -1,11 +1,12 @@
-//! A fuzzer that the reference program's coverage guides: inputs that reach what none did before are kept and changed
-//! again, and each goes to the engine as well. `fuzz SECONDS`; `CONFORMANCE_SEED` asks for other inputs.
+//! `fuzz SECONDS`: compares the engine with the reference program on inputs that the coverage of the reference program
+//! guides. An input that reaches code that none before it reached is kept and mutated again. `CONFORMANCE_SEED=7` gives
+//! other inputs.
 
 mod corpus;
 mod coverage;
-mod mend;
 mod mutate;
 mod places;
+mod repair;
 mod seeds;
 
 use std::env;
@@ -20,53 +21,53 @@ use reference::random::Random;
 
 use corpus::Corpus;
 
-/// Inputs whose outcomes are awaited together.
+/// How many inputs are compared before their outcomes are awaited.
 const ROUND: usize = 1 << 14;
 
-/// An input that differs, and how.
+/// An input on which the engine differs, and how it does.
 struct Difference {
     input: Vec<u8>,
     how: String,
 }
 
-/// Passes inputs, or says which of them differ; the corpus keeps those with new counts.
-fn pass(
+/// Compares the inputs that `next` returns, or returns one that differs. The corpus keeps those with new counts.
+fn compare(
     corpus: &mut Corpus,
     mut next: impl FnMut(&Corpus) -> Option<Vec<u8>>,
 ) -> Result<(), Difference> {
     let mut calls = Calls::new();
-    let mut passed = Vec::new();
+    let mut compared = Vec::new();
     while let Some(input) = next(corpus) {
         coverage::clear();
-        // The reference program is total: a panic is a finding too.
-        if catch_unwind(AssertUnwindSafe(|| inputs::pass(&mut calls, &input))).is_err() {
+        // The reference program is total, so a panic is a failure too.
+        if catch_unwind(AssertUnwindSafe(|| inputs::compare(&mut calls, &input))).is_err() {
             let how = "the reference program panics".to_string();
             return Err(Difference { input, how });
         }
         corpus.keep(&input, &coverage::counts());
-        passed.push(input);
+        compared.push(input);
     }
     match calls.finish() {
         Ok(_) => Ok(()),
-        Err(how) => Err(alone(&passed, how)),
+        Err(how) => Err(narrow(&compared, how)),
     }
 }
 
 fn outcome(inputs: &[Vec<u8>]) -> Result<(), String> {
     let mut calls = Calls::new();
     for input in inputs {
-        inputs::pass(&mut calls, input);
+        inputs::compare(&mut calls, input);
     }
     calls.finish().map(|_| ())
 }
 
-/// The one of the inputs that differs: halves are passed again, until one input is left.
-fn alone(mut inputs: &[Vec<u8>], mut how: String) -> Difference {
+/// The input that differs: halves are compared again until one input is left.
+fn narrow(mut inputs: &[Vec<u8>], mut how: String) -> Difference {
     while inputs.len() > 1 {
-        let (first, second) = inputs.split_at(inputs.len() / 2);
-        inputs = second;
-        if let Err(found) = outcome(first) {
-            (inputs, how) = (first, found);
+        let (left, right) = inputs.split_at(inputs.len() / 2);
+        inputs = right;
+        if let Err(difference) = outcome(left) {
+            (inputs, how) = (left, difference);
         }
     }
     Difference {
@@ -77,10 +78,10 @@ fn alone(mut inputs: &[Vec<u8>], mut how: String) -> Difference {
 
 fn fuzz(corpus: &mut Corpus, random: &mut Random, until: Instant) -> Result<(), Difference> {
     let mut seeds = seeds::seeds(random).expect("samples").into_iter();
-    pass(corpus, |_| seeds.next())?;
+    compare(corpus, |_| seeds.next())?;
     while Instant::now() < until {
         let mut left = ROUND;
-        pass(corpus, |corpus| {
+        compare(corpus, |corpus| {
             left = left.checked_sub(1)?;
             let kind = corpus.kind();
             let one = corpus.choose(random, kind);
@@ -92,14 +93,17 @@ fn fuzz(corpus: &mut Corpus, random: &mut Random, until: Instant) -> Result<(), 
 }
 
 fn main() -> ExitCode {
-    let number = |text: String| text.parse().unwrap_or_else(|_| panic!("no number: {text}"));
+    let number = |text: String| {
+        text.parse()
+            .unwrap_or_else(|_| panic!("not a number: {text}"))
+    };
     let seconds = env::args().nth(1).map_or(60, number);
     let seed = env::var("CONFORMANCE_SEED").map_or(1, number);
-    let began = Instant::now();
+    let start = Instant::now();
     let mut corpus = Corpus::new();
-    let until = began + Duration::from_secs(seconds);
+    let until = start + Duration::from_secs(seconds);
     let outcome = fuzz(&mut corpus, &mut Random::new(seed), until);
-    println!("{corpus}, in {:.0} s", began.elapsed().as_secs_f64());
+    println!("{corpus}, in {:.0} s", start.elapsed().as_secs_f64());
     let Err(Difference { input, how }) = outcome else {
         println!("engine and reference program are equal on each");
         return ExitCode::SUCCESS;

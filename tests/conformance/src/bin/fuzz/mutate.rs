@@ -1,15 +1,15 @@
-//! Changes to an input: to bytes, to stretches of them, and to the records and fields that they are.
+//! Mutations of an input: of bytes, of ranges of bytes, and of the records and fields in it.
 
 use conformance::inputs::Kind;
 use reference::digits;
 use reference::random::Random;
 use reference::records::{LENGTH, TABLE};
 
-use crate::mend::mend;
 use crate::places;
+use crate::repair::repair;
 
-/// No input is longer.
-const MOST: usize = 1 << 14;
+/// The length of the longest input.
+const MOST_BYTES: usize = 1 << 14;
 
 /// Bytes at the edges of their classes.
 const BYTES: &[u8] = b"\0\x01\x1f /09:@AGOZ[`az~\x7f\x80\x9f\xa0\xd3\xff";
@@ -52,7 +52,7 @@ pub const EDGES: [u64; 34] = [
     u64::MAX,
 ];
 
-/// A number at an edge, next to one, below one, or any.
+/// A number at an edge, next to one, somewhat below one, or any.
 fn edge(random: &mut Random) -> u64 {
     let edge = EDGES[random.index(EDGES.len())];
     match random.below(8) {
@@ -64,27 +64,28 @@ fn edge(random: &mut Random) -> u64 {
     }
 }
 
-/// An input of a kind made of the rest of one, with parts of that of another.
+/// A new input of a kind, from one input without its first byte and parts of another.
 pub fn mutate(random: &mut Random, kind: Kind, one: &[u8], other: &[u8]) -> Vec<u8> {
     let mut bytes = one.to_vec();
     for _ in 0..1 << random.below(4) {
         match random.below(12) {
             0 => records(random, kind, &mut bytes, other),
             1 | 2 => field(random, kind, &mut bytes, other),
-            3 | 4 => stretch(random, &mut bytes, other),
+            3 | 4 => range(random, &mut bytes, other),
             5 | 6 => number(random, kind, &mut bytes),
             7 => date(random, kind, &mut bytes),
             _ => byte(random, &mut bytes),
         }
     }
     if random.once_in(2) {
-        mend(kind, &mut bytes);
+        repair(kind, &mut bytes);
     }
-    bytes.truncate(MOST);
+    bytes.truncate(MOST_BYTES);
     bytes.insert(0, kind as u8);
     bytes
 }
 
+/// Changes one byte, or swaps two.
 fn byte(random: &mut Random, bytes: &mut [u8]) {
     let i = random.index(bytes.len());
     let j = random.index(bytes.len());
@@ -102,14 +103,15 @@ fn byte(random: &mut Random, bytes: &mut [u8]) {
     }
 }
 
-/// Some stretch of bytes, mostly short.
+/// A range of the bytes, mostly short.
 fn part(random: &mut Random, bytes: &[u8]) -> std::ops::Range<usize> {
     let from = random.index(bytes.len());
     let most = [4, 16, 200][random.index(3)];
     from..bytes.len().min(from + 1 + random.index(most))
 }
 
-fn stretch(random: &mut Random, bytes: &mut Vec<u8>, other: &[u8]) {
+/// Drops, inserts, replaces, doubles or fills a range of bytes, or takes over the end of the other input.
+fn range(random: &mut Random, bytes: &mut Vec<u8>, other: &[u8]) {
     let here = part(random, bytes);
     match random.below(6) {
         0 => drop(bytes.drain(here)),
@@ -128,7 +130,7 @@ fn stretch(random: &mut Random, bytes: &mut Vec<u8>, other: &[u8]) {
     }
 }
 
-/// A number gets one at an edge.
+/// Replaces a number by one at an edge.
 fn number(random: &mut Random, kind: Kind, bytes: &mut [u8]) {
     let places = places::numbers(kind, bytes);
     let place = places.get(random.index(places.len()));
@@ -138,7 +140,7 @@ fn number(random: &mut Random, kind: Kind, bytes: &mut [u8]) {
     }
 }
 
-/// A date gets one at the end of a month, a century or the calendar, or just past it.
+/// Replaces a date by one at the end of a month, of a century or of the calendar, or just past it.
 fn date(random: &mut Random, kind: Kind, bytes: &mut [u8]) {
     let mut one_of = |edges: &[u64]| edges[random.index(edges.len())];
     let year = one_of(&[1899, 1900, 2000, 2023, 2024, 2100, 2199, 2200]);
@@ -158,18 +160,18 @@ fn date(random: &mut Random, kind: Kind, bytes: &mut [u8]) {
     }
 }
 
-/// The place of one of the records, if there are any.
+/// The index of one of the records, if there are any.
 fn place(random: &mut Random, kind: Kind, length: usize) -> Option<usize> {
     let count = places::records(kind, length).count();
     places::records(kind, length).nth(random.index(count))
 }
 
-/// Drops, doubles or exchanges records, or brings one of another input.
+/// Drops, doubles or moves a record, or inserts one of the other input.
 fn records(random: &mut Random, kind: Kind, bytes: &mut Vec<u8>, other: &[u8]) {
     let step = match kind {
         Kind::Run => LENGTH,
-        Kind::Taken | Kind::ByHand => LENGTH + 1,
-        _ => return stretch(random, bytes, other),
+        Kind::Take | Kind::ArbitrarySession => LENGTH + 1,
+        _ => return range(random, bytes, other),
     };
     let record = |bytes: &[u8], place: usize| {
         let end = bytes.len().min(place + step);
@@ -190,7 +192,7 @@ fn records(random: &mut Random, kind: Kind, bytes: &mut Vec<u8>, other: &[u8]) {
     }
 }
 
-/// A field of a record gets that of another record, a number at an edge, or one byte all over.
+/// Replaces a field of a record by that of another record, by a number at an edge, or by one repeated byte.
 fn field(random: &mut Random, kind: Kind, bytes: &mut [u8], other: &[u8]) {
     let (Some(here), Some(there)) = (
         place(random, kind, bytes.len()),

@@ -1,23 +1,23 @@
-//! Where the rest of an input has records, dates of eight digits, and numbers of eight bytes.
+//! Where an input without its first byte has records, dates of eight digits, and numbers of eight bytes.
 
 use conformance::inputs::Kind;
 use reference::records::{Content, LENGTH, TABLE};
 use reference::session::LANES;
 
-/// Where records start, as far as the rest is made of records.
+/// Where records start, if all of them have 150 bytes.
 pub fn records(kind: Kind, length: usize) -> impl Iterator<Item = usize> {
     let (first, step) = match kind {
         Kind::Record => (0, usize::MAX),
-        Kind::Converted => (2, usize::MAX),
+        Kind::Convert => (2, usize::MAX),
         Kind::Run => (1, LENGTH),
-        Kind::Taken => (1, LENGTH + 1),
-        Kind::ByHand => (19, LENGTH + 1),
+        Kind::Take => (1, LENGTH + 1),
+        Kind::ArbitrarySession => (19, LENGTH + 1),
         _ => (usize::MAX, 1),
     };
     (first..length).step_by(step)
 }
 
-/// Where dates start, those that a barcode may have among them; some may lie past the end.
+/// Where dates start, including the due dates that barcodes may have. Some may be past the end.
 pub fn dates(kind: Kind, rest: &[u8]) -> Vec<usize> {
     match kind {
         Kind::Date => vec![0],
@@ -36,18 +36,18 @@ pub fn dates(kind: Kind, rest: &[u8]) -> Vec<usize> {
     }
 }
 
-/// Where numbers start; some may lie past the end.
+/// Where numbers start. Some may be past the end.
 pub fn numbers(kind: Kind, rest: &[u8]) -> Vec<usize> {
     match kind {
         Kind::DateNumbers => vec![0, 8, 16],
-        Kind::Built => vec![0, 8, 16, 24],
-        Kind::Written => vec![1, 9, 17],
+        Kind::Build => vec![0, 8, 16, 24],
+        Kind::Write => vec![1, 9, 17],
         Kind::Page => {
             let mut places = vec![0, 8, 16, 24, 32];
             board(rest, 40, &mut places);
             places
         }
-        Kind::ByHand => {
+        Kind::ArbitrarySession => {
             let mut places = vec![1, 9];
             let records = rest.get(17).map_or(0, |count| usize::from(count % 5));
             let shown = 18 + records * (LENGTH + 1);
@@ -59,7 +59,7 @@ pub fn numbers(kind: Kind, rest: &[u8]) -> Vec<usize> {
     }
 }
 
-/// Adds the numbers of a board, its own and those of its lanes, and says where it ends.
+/// Adds where the numbers of a board and of its lanes start, and returns where the board ends.
 fn board(rest: &[u8], first: usize, places: &mut Vec<usize>) -> usize {
     let lanes = rest.get(first + 24).map_or(0, |&count| count.into());
     let end = first + 25 + 32 * LANES.min(lanes);

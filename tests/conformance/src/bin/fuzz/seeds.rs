@@ -1,4 +1,4 @@
-//! The first inputs of each kind: the samples, and valid ones made at random.
+//! The first inputs of each kind: the samples, and random valid ones.
 
 use std::{fs, io};
 
@@ -9,10 +9,10 @@ use reference::{days, Board, Issuer, Refusal};
 
 use crate::mutate::EDGES;
 
-/// Inputs of each kind that are made.
+/// How many random inputs of each kind there are.
 const EACH: usize = 8;
 
-/// Every sample, at once and record by record, and some inputs of each kind.
+/// Every sample, in one run and record by record, and random inputs of each kind.
 pub fn seeds(random: &mut Random) -> io::Result<Vec<Vec<u8>>> {
     let mut seeds = Vec::new();
     for entry in fs::read_dir(root().join("samples"))? {
@@ -20,15 +20,15 @@ pub fn seeds(random: &mut Random) -> io::Result<Vec<Vec<u8>>> {
         if path.extension().is_some_and(|name| name == "ret") {
             let day = fs::read(path)?;
             seeds.push(input(Kind::Run, [vec![0], day.clone()].concat()));
-            seeds.push(input(Kind::Taken, steps(&day)));
+            seeds.push(input(Kind::Take, steps(&day)));
         }
     }
-    // A folder's order is any.
+    // A folder has no order of its own.
     seeds.sort();
     for kind in Kind::ALL {
         for turn in 0..EACH {
-            // What the reference program refuses to make is no seed.
-            let rest = made(random, kind, turn).ok();
+            // Where the reference program refuses to build the input, there is none.
+            let rest = valid(random, kind, turn).ok();
             seeds.extend(rest.map(|rest| input(kind, rest)));
         }
     }
@@ -40,8 +40,8 @@ fn input(kind: Kind, mut rest: Vec<u8>) -> Vec<u8> {
     rest
 }
 
-/// The rest of an input of a kind; records, conversions and writers take turns.
-fn made(random: &mut Random, kind: Kind, turn: usize) -> Result<Vec<u8>, Refusal> {
+/// A valid input of a kind, without its first byte. The turn chooses among records, conversions and writers.
+fn valid(random: &mut Random, kind: Kind, turn: usize) -> Result<Vec<u8>, Refusal> {
     Ok(match kind {
         Kind::Line => days::line(random)?.to_vec(),
         Kind::Barcode => days::barcode(random)?.to_vec(),
@@ -51,7 +51,7 @@ fn made(random: &mut Random, kind: Kind, turn: usize) -> Result<Vec<u8>, Refusal
             numbers([date.year().into(), date.month().into(), date.day().into()])
         }
         Kind::CheckDigits => days::line(random)?.to_vec(),
-        Kind::Built => {
+        Kind::Build => {
             let issuer = days::issuer(random);
             let kind = random.between(6, 9);
             let free = reference::barcode::free_length(issuer.segment);
@@ -65,15 +65,15 @@ fn made(random: &mut Random, kind: Kind, turn: usize) -> Result<Vec<u8>, Refusal
             1 => days::payment(random)?.to_vec(),
             _ => days::trailer(random).to_vec(),
         },
-        Kind::Converted => match turn % 4 {
+        Kind::Convert => match turn % 4 {
             0 => [&[0, 44], days::line(random)?.as_slice()].concat(),
             1 => [&[1, 48], days::barcode(random)?.as_slice()].concat(),
             2 => [&[2, 78], days::header(random)?.as_slice()].concat(),
             _ => [&[2, 121], days::payment(random)?.as_slice()].concat(),
         },
         Kind::Run => [vec![random.below(4) as u8], day(random)?].concat(),
-        Kind::Taken => steps(&day(random)?),
-        Kind::ByHand => {
+        Kind::Take => steps(&day(random)?),
+        Kind::ArbitrarySession => {
             let mut rest = vec![1];
             rest.extend(numbers([random.number(6), random.number(17)]));
             rest.push(2);
@@ -87,14 +87,13 @@ fn made(random: &mut Random, kind: Kind, turn: usize) -> Result<Vec<u8>, Refusal
             rest
         }
         Kind::Page => {
-            let answer = [random.below(22), random.below(151)];
-            let mut rest = numbers(answer);
+            let mut rest = numbers([random.number(2), random.number(3)]);
             rest.extend(numbers([random.number(19), random.number(19), 0]));
             let issuer = days::issuer(random);
             rest.extend(board(random, issuer));
             rest
         }
-        Kind::Written => written(random, turn.is_multiple_of(2))?,
+        Kind::Write => file(random, turn.is_multiple_of(2))?,
     })
 }
 
@@ -107,13 +106,13 @@ fn day(random: &mut Random) -> Result<Vec<u8>, Refusal> {
     Ok(days::day(random, issuers, files, 4)?.bytes)
 }
 
-/// Records taken one by one, with nothing done in between.
+/// Records to be taken one by one, with no other call between them.
 fn steps(records: &[u8]) -> Vec<u8> {
     let step = |record: &[u8]| [&[0], record].concat();
     records.chunks(150).flat_map(step).collect()
 }
 
-/// A board of some lanes, the first of this issuer, with numbers at the edges.
+/// A board with numbers at the edges; its first lane has this issuer.
 fn board(random: &mut Random, first: Issuer) -> Vec<u8> {
     let lanes = [0, 1, 3, Board::new().lanes.len()][random.index(4)];
     let mut edge = || EDGES[random.index(EDGES.len())];
@@ -126,8 +125,8 @@ fn board(random: &mut Random, first: Issuer) -> Vec<u8> {
     board
 }
 
-/// A file written by a new writer, or by one with a file open, which refuses another header.
-fn written(random: &mut Random, new: bool) -> Result<Vec<u8>, Refusal> {
+/// The calls that write a file, by a new writer or by one whose file is open already, which refuses the header.
+fn file(random: &mut Random, new: bool) -> Result<Vec<u8>, Refusal> {
     let mut rest = vec![u8::from(!new)];
     if !new {
         rest.extend(numbers([1, random.number(6), random.number(17)]));

@@ -1,6 +1,8 @@
-//! The fast readers beside the slow ones, on good and damaged bytes.
+//! The program against the naive version of its rules, on good and damaged bytes.
 
 mod common;
+
+use std::collections::BTreeSet;
 
 use common::naive;
 use reference::random::Random;
@@ -50,7 +52,7 @@ fn lines() {
         let converted = line::barcode_from_line(&typed, &mut code);
         assert_eq!(answer(&converted), answer(&outcome));
         match outcome {
-            Ok(said) => assert_eq!(barcode::decode(&code), Ok(said)),
+            Ok(decoded) => assert_eq!(barcode::decode(&code), Ok(decoded)),
             Err(_) => assert_eq!(code, [7; 44]),
         }
     }
@@ -72,7 +74,7 @@ fn any_digits_after_a_good_start() {
 #[test]
 fn records_alone() {
     let mut random = Random::new(24);
-    let mut seen = [0; 22];
+    let mut seen = BTreeSet::new();
     for round in 0..400_000 {
         let mut record = days::record(&mut random).unwrap();
         match round % 8 {
@@ -82,10 +84,10 @@ fn records_alone() {
         }
         let outcome = records::decode(&record);
         assert_eq!(answer(&outcome), expected(naive::record(&record, b"AGZ")));
-        seen[usize::from(answer(&outcome).0)] += 1;
+        seen.insert(answer(&outcome).0);
     }
     for number in [0, 2, 3, 4, 5, 7, 8, 9, 10, 11, 12] {
-        assert!(seen[number] > 0, "{number} of {seen:?}");
+        assert!(seen.contains(&number), "{number} of {seen:?}");
     }
 }
 
@@ -116,7 +118,7 @@ fn any_bytes_of_any_length() {
             expected(naive::record(&bytes, b"AGZ"))
         );
         let mut out = [7; 121];
-        assert!(records::joined(&bytes, &mut out).is_err() || bytes.len() == 150);
+        assert!(records::join(&bytes, &mut out).is_err() || bytes.len() == 150);
     }
 }
 
@@ -132,7 +134,7 @@ fn every_byte_in_every_place_of_a_record() {
             };
             for place in 1..=150 {
                 for byte in 0..=255 {
-                    let record = common::at(good, place, byte);
+                    let record = common::with_byte(good, place, byte);
                     assert_eq!(
                         answer(&records::decode(&record)),
                         expected(naive::record(&record, b"AGZ"))
@@ -149,8 +151,8 @@ fn checks() {
     for _ in 0..50_000 {
         let digits: Vec<u8> = (0..random.below(100)).map(|_| random.digit()).collect();
         for modulus in [Modulus::Ten, Modulus::Eleven] {
-            let slow = naive::check(u128::from(modulus.number()), &digits);
-            assert_eq!(modulus.check_digit(&digits).map(u128::from), Ok(slow));
+            let expected = naive::check(u128::from(modulus.number()), &digits);
+            assert_eq!(modulus.check_digit(&digits).map(u128::from), Ok(expected));
         }
     }
 }

@@ -1,4 +1,4 @@
-//! The board on paper, and the program that prints it.
+//! The program that prints the page, and how it reads its input.
 
 mod common;
 
@@ -36,7 +36,7 @@ fn run(input: &[u8]) -> Output {
         .stderr(Stdio::piped())
         .spawn()
         .expect("started");
-    // The program may stop before the end of its input.
+    // The program may stop before the end of its input, so this may fail.
     let mut stdin = child.stdin.take().expect("a pipe");
     let _ = stdin.write_all(input);
     drop(stdin);
@@ -73,7 +73,7 @@ fn the_program_prints_the_page_of_any_input() {
     assert_eq!(run(b"\n").stdout, page_of(b"\n"));
 }
 
-/// More than one piece, with the refusal in a later one.
+/// An input of several pieces, with the refusal in a later one.
 #[test]
 fn many_pieces() {
     let mut input = a().to_vec();
@@ -103,7 +103,7 @@ fn many_pieces() {
     );
 }
 
-/// Gives a few bytes at a time, as a pipe may.
+/// A reader that returns a few bytes at a time, as a pipe may.
 struct Trickle<'a> {
     rest: &'a [u8],
     random: Random,
@@ -144,7 +144,7 @@ fn pieces_do_not_matter() {
 
 #[test]
 fn it_stops_at_the_first_refusal() {
-    // An input without end.
+    // An endless input.
     let page = read_page(io::repeat(b'x')).unwrap();
     let zeros = "record=0\nfiles=0\nlanes=0\npayments=0\ncentavos=0\n";
     assert_eq!(
@@ -158,13 +158,13 @@ fn it_stops_at_the_first_refusal() {
     assert_eq!(reading, refused);
 }
 
-/// Good bytes, then a failure.
+/// A reader that returns good bytes, then fails.
 struct Failing(bool);
 
 impl Read for Failing {
     fn read(&mut self, out: &mut [u8]) -> io::Result<usize> {
         if self.0 {
-            return Err(io::Error::other("the line broke"));
+            return Err(io::Error::other("connection lost"));
         }
         self.0 = true;
         let bytes = sample();
