@@ -30,6 +30,9 @@
 extern "C" {
 #endif
 
+/* The version of this header and of its library. */
+#define HOLLYTROT_VERSION "0.1.0"
+
 /* The lengths that buffers must have, exactly ("Limits"). */
 #define HOLLYTROT_BARCODE 44
 #define HOLLYTROT_LINE 48
