@@ -50,6 +50,7 @@ typedef struct hollytrot_answer {
     size_t place;
 } hollytrot_answer;
 
+/* The numbers of answers. Later versions may add numbers, in any order and with gaps. */
 enum {
     HOLLYTROT_ACCEPTED = 0,
     HOLLYTROT_WRONG_LENGTH = 1,        /* a length is not the required one */
@@ -155,13 +156,14 @@ uint64_t hollytrot_check_eleven(const uint8_t *bytes, size_t length);
 
 /* Single records ("Records", "Field bytes"). */
 
+/* The values of an A. */
 typedef struct hollytrot_header {
     uint64_t bank;
     hollytrot_date date;
     uint64_t sequence;
 } hollytrot_header;
 
-/* `paid` is the payment date and `credited` the credit date; `received` and `tariff` are centavos. */
+/* The values of a G: the payment date and the credit date, the barcode, and `received` and `tariff` in centavos. */
 typedef struct hollytrot_payment {
     hollytrot_date paid;
     hollytrot_date credited;
@@ -171,7 +173,7 @@ typedef struct hollytrot_payment {
     uint64_t number;
 } hollytrot_payment;
 
-/* The count of all records of the file, header and trailer included, and the centavos of its payments. */
+/* The values of a Z: the count of all records of the file, A and Z included, and the centavos of its payments. */
 typedef struct hollytrot_trailer {
     uint64_t count;
     uint64_t total;
@@ -242,6 +244,7 @@ typedef struct hollytrot_writer {
     hollytrot_file file;
 } hollytrot_writer;
 
+/* The answer of a call, and the writer after it. */
 typedef struct hollytrot_write_result {
     hollytrot_answer answer;
     hollytrot_writer writer;
@@ -265,11 +268,13 @@ hollytrot_write_result hollytrot_writer_trailer(hollytrot_writer writer, uint8_t
 
 /* The board ("Board"): at most 64 lanes, in the order in which issuers first appeared. */
 
+/* The sums of a lane, or of a board. */
 typedef struct hollytrot_tally {
     uint64_t payments;
     uint64_t centavos;
 } hollytrot_tally;
 
+/* An issuer and its sums. */
 typedef struct hollytrot_lane {
     hollytrot_issuer issuer;
     hollytrot_tally tally;
@@ -294,12 +299,13 @@ typedef struct hollytrot_session {
     hollytrot_file file;
 } hollytrot_session;
 
+/* The answer of a call, and the session after it. */
 typedef struct hollytrot_take_result {
     hollytrot_answer answer;
     hollytrot_session session;
 } hollytrot_take_result;
 
-/* How many records and how many files were accepted before the first refusal. */
+/* The answer of a run, the session after it, and how many records and files were accepted before the first refusal. */
 typedef struct hollytrot_run_result {
     hollytrot_answer answer;
     hollytrot_session session;
