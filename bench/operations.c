@@ -1,17 +1,17 @@
-/* operations NAME ROUNDS <DAY: one operation of the engine over all records of a file, so many times.
- * src/bin/operations.rs does the same with the second program, and prints the same sum. */
+/* operations NAME ROUNDS <DAY: one operation of the engine on every record of a file, ROUNDS times. It prints a sum of
+ * decoded numbers. src/bin/operations.rs does the same with the reference program and prints the same sum. */
 #include <hollytrot.h>
 #include <stdio.h>
 #include <stdlib.h>
 #include <string.h>
 
-#define MOST 5000
+#define MOST_RECORDS 5000
 
-/* What the operations are given, made before the rounds. */
-static uint8_t day[MOST * HOLLYTROT_RECORD], written[MOST * HOLLYTROT_RECORD];
-static uint8_t codes[MOST][HOLLYTROT_BARCODE], lines[MOST][HOLLYTROT_LINE];
-static uint8_t header[HOLLYTROT_HEADER_FIELDS], fields[MOST][HOLLYTROT_PAYMENT_FIELDS];
-static uint64_t received[MOST], tariff[MOST];
+/* The operations' inputs, prepared before the rounds. */
+static uint8_t day[MOST_RECORDS * HOLLYTROT_RECORD], written[MOST_RECORDS * HOLLYTROT_RECORD];
+static uint8_t codes[MOST_RECORDS][HOLLYTROT_BARCODE], lines[MOST_RECORDS][HOLLYTROT_LINE];
+static uint8_t header[HOLLYTROT_HEADER_FIELDS], fields[MOST_RECORDS][HOLLYTROT_PAYMENT_FIELDS];
+static uint64_t received[MOST_RECORDS], tariff[MOST_RECORDS];
 static size_t records;
 
 static _Noreturn void fail(const char *why)
@@ -20,7 +20,7 @@ static _Noreturn void fail(const char *why)
     exit(2);
 }
 
-static void accepted(hollytrot_answer answer)
+static void check_accepted(hollytrot_answer answer)
 {
     if (answer.number != HOLLYTROT_ACCEPTED)
         fail("refused");
@@ -29,29 +29,29 @@ static void accepted(hollytrot_answer answer)
 static void prepare(void)
 {
     records = fread(day, 1, sizeof day, stdin) / HOLLYTROT_RECORD;
-    accepted(hollytrot_record_join(day, HOLLYTROT_RECORD, header, sizeof header));
+    check_accepted(hollytrot_record_join(day, HOLLYTROT_RECORD, header, sizeof header));
     for (size_t i = 1; i + 1 < records; i++) {
         const uint8_t *g = day + i * HOLLYTROT_RECORD;
         memcpy(codes[i], g + 37, HOLLYTROT_BARCODE);
-        accepted(hollytrot_line_from_barcode(codes[i], HOLLYTROT_BARCODE, lines[i], HOLLYTROT_LINE));
-        accepted(hollytrot_record_join(g, HOLLYTROT_RECORD, fields[i], HOLLYTROT_PAYMENT_FIELDS));
+        check_accepted(hollytrot_line_from_barcode(codes[i], HOLLYTROT_BARCODE, lines[i], HOLLYTROT_LINE));
+        check_accepted(hollytrot_record_join(g, HOLLYTROT_RECORD, fields[i], HOLLYTROT_PAYMENT_FIELDS));
         hollytrot_record decoded = hollytrot_record_decode(g, HOLLYTROT_RECORD);
         received[i] = decoded.payment.received;
         tariff[i] = decoded.payment.tariff;
     }
 }
 
-static uint64_t said(hollytrot_read read)
+static uint64_t sum_of_fields(hollytrot_decoded decoded)
 {
-    accepted(read.answer);
-    return read.fields.value + read.fields.issuer.number + read.fields.due.day;
+    check_accepted(decoded.answer);
+    return decoded.fields.value + decoded.fields.issuer.number + decoded.fields.due.day;
 }
 
 static uint64_t barcode(void)
 {
     uint64_t sum = 0;
     for (size_t i = 1; i + 1 < records; i++)
-        sum += said(hollytrot_barcode_decode(codes[i], HOLLYTROT_BARCODE));
+        sum += sum_of_fields(hollytrot_barcode_decode(codes[i], HOLLYTROT_BARCODE));
     return sum;
 }
 
@@ -59,60 +59,63 @@ static uint64_t line(void)
 {
     uint64_t sum = 0;
     for (size_t i = 1; i + 1 < records; i++)
-        sum += said(hollytrot_line_decode(lines[i], HOLLYTROT_LINE));
+        sum += sum_of_fields(hollytrot_line_decode(lines[i], HOLLYTROT_LINE));
     return sum;
 }
 
-/* The members of the letters that the record has not are 0. */
+/* The members for the other two letters are 0. */
 static uint64_t record(void)
 {
     uint64_t sum = 0;
     for (size_t i = 0; i < records; i++) {
         hollytrot_record r = hollytrot_record_decode(day + i * HOLLYTROT_RECORD, HOLLYTROT_RECORD);
-        accepted(r.answer);
-        sum += r.header.sequence + r.payment.received + r.payment.tariff + r.payment.number + r.trailer.count + r.trailer.total;
+        check_accepted(r.answer);
+        sum += r.header.sequence + r.payment.received + r.payment.tariff + r.payment.number;
+        sum += r.trailer.count + r.trailer.total;
     }
     return sum;
 }
 
 static uint64_t take(void)
 {
-    hollytrot_took took;
-    took.session = hollytrot_session_new();
+    hollytrot_take_result result;
+    result.session = hollytrot_session_new();
     for (size_t i = 0; i < records; i++) {
-        took = hollytrot_session_take(took.session, day + i * HOLLYTROT_RECORD, HOLLYTROT_RECORD);
-        accepted(took.answer);
+        result = hollytrot_session_take(result.session, day + i * HOLLYTROT_RECORD, HOLLYTROT_RECORD);
+        check_accepted(result.answer);
     }
-    return took.session.shown.total.centavos;
+    return result.session.shown.total.centavos;
 }
 
 static uint64_t run(void)
 {
-    hollytrot_ran ran = hollytrot_session_run(hollytrot_session_new(), day, records * HOLLYTROT_RECORD);
-    accepted(ran.answer);
-    return ran.session.shown.total.centavos;
+    hollytrot_run_result result = hollytrot_session_run(hollytrot_session_new(), day, records * HOLLYTROT_RECORD);
+    check_accepted(result.answer);
+    return result.session.shown.total.centavos;
 }
 
 static uint64_t write_file(void)
 {
     uint8_t *out = written;
-    hollytrot_wrote w;
-    w = hollytrot_writer_header(hollytrot_writer_new(), header, sizeof header, out, HOLLYTROT_RECORD);
-    accepted(w.answer);
+    hollytrot_write_result result =
+        hollytrot_writer_header(hollytrot_writer_new(), header, sizeof header, out, HOLLYTROT_RECORD);
+    check_accepted(result.answer);
     for (size_t i = 1; i + 1 < records; i++) {
         out += HOLLYTROT_RECORD;
-        w = hollytrot_writer_payment(w.writer, fields[i], HOLLYTROT_PAYMENT_FIELDS, received[i], tariff[i], out, HOLLYTROT_RECORD);
-        accepted(w.answer);
+        result = hollytrot_writer_payment(result.writer, fields[i], HOLLYTROT_PAYMENT_FIELDS, received[i], tariff[i],
+                                          out, HOLLYTROT_RECORD);
+        check_accepted(result.answer);
     }
-    w = hollytrot_writer_trailer(w.writer, out + HOLLYTROT_RECORD, HOLLYTROT_RECORD);
-    accepted(w.answer);
-    return w.writer.file.total;
+    result = hollytrot_writer_trailer(result.writer, out + HOLLYTROT_RECORD, HOLLYTROT_RECORD);
+    check_accepted(result.answer);
+    return result.writer.file.total;
 }
 
 static const struct {
     const char *name;
     uint64_t (*round)(void);
-} operations[] = {{"barcode", barcode}, {"line", line}, {"record", record}, {"take", take}, {"run", run}, {"write", write_file}};
+} operations[] = {{"barcode", barcode}, {"line", line}, {"record", record},
+                  {"take", take},       {"run", run},   {"write", write_file}};
 
 int main(int count, char **words)
 {

@@ -1,13 +1,13 @@
-/* A return file, taken by a session: prints the board, as quadro does.
+/* Takes the return files of standard input and prints the page, as quadro does.
  *
  *   day < FILE
  *
- * Exit status: 0 where the whole input was accepted, 1 where it was refused, 2 where reading or writing failed.
+ * Exit status: 0 if all of the input was accepted, 1 if some of it was refused, 2 if reading or writing failed.
  */
 #include <hollytrot.h>
 #include <stdio.h>
 
-/* Whole records, so that only the last piece can be short. */
+/* A multiple of the record length, so that only the last piece can end inside a record. */
 #define PIECE (400 * HOLLYTROT_RECORD)
 
 static uint8_t piece[PIECE];
@@ -22,11 +22,11 @@ int main(void)
 
     do {
         length = fread(piece, 1, PIECE, stdin);
-        hollytrot_ran ran = hollytrot_session_run(session, piece, length);
-        answer = ran.answer;
-        session = ran.session;
-        records += ran.records;
-        files += ran.files;
+        hollytrot_run_result run = hollytrot_session_run(session, piece, length);
+        answer = run.answer;
+        session = run.session;
+        records += run.records;
+        files += run.files;
     } while (length == PIECE && answer.number == HOLLYTROT_ACCEPTED);
     if (ferror(stdin)) {
         perror("day: standard input");
@@ -35,8 +35,8 @@ int main(void)
     if (answer.number == HOLLYTROT_ACCEPTED)
         answer = hollytrot_session_finish(session).answer;
 
-    hollytrot_page_printed printed = hollytrot_page(answer, records, files, session.shown, page, HOLLYTROT_PAGE);
-    if (fwrite(page, 1, printed.length, stdout) != printed.length || fflush(stdout) != 0) {
+    length = hollytrot_page(answer, records, files, session.shown, page, HOLLYTROT_PAGE).length;
+    if (fwrite(page, 1, length, stdout) != length || fflush(stdout) != 0) {
         perror("day: standard output");
         return 2;
     }

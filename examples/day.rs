@@ -1,8 +1,8 @@
-//! A return file, taken by a session: prints the board, as quadro does.
+//! Takes the return files of standard input and prints the page, as quadro does.
 //!
-//!     cargo run --manifest-path rust/Cargo.toml --example day < FILE
+//!     cargo run -p hollytrot --example day < FILE
 //!
-//! It fails where the input is refused, and says why.
+//! If the input is refused, it says why on standard error and fails.
 
 use std::error::Error;
 use std::io::{self, Read, Write};
@@ -25,11 +25,11 @@ fn run() -> Result<(), Box<dyn Error>> {
     io::stdin().lock().read_to_end(&mut input)?;
 
     let mut session = Session::new();
-    let run = session.run(&input);
-    let answer = run.answer.and_then(|()| session.finish());
+    let result = session.run(&input);
+    let answer = result.answer.and_then(|()| session.finish());
 
     let mut out = io::stdout().lock();
-    out.write_all(&page(answer, run.records, run.files, session.board()))?;
+    out.write_all(&page(answer, result.records, result.files, session.board()))?;
     out.flush()?;
     Ok(answer?)
 }

@@ -1,22 +1,23 @@
 /* Hollytrot, the engine of a premium collector, for C.
  *
- * Collection barcodes (44 digits), typed lines (48 digits), return files of 150-byte A, G and Z records, and
- * the board of each insurer's payments and centavos. The specification's rules are not repeated here.
+ * Collection barcodes (44 digits), typed lines (48 digits), return files of 150-byte A, G and Z records, and the
+ * board of each insurer's payments and centavos. The rules are those of docs/SPEC.md and are not repeated here: each
+ * part below names its section.
  *
- * Every function takes every input: a bad line, record or call gets one refusal, a number and a place, and then
- * the session, the writer and the bytes you lent are what they were. Only hollytrot_session_run, which takes
- * many records, keeps those before the refused one. Nothing is allocated, nothing is kept between calls, and no
- * function calls back, so all of them may be called from any thread.
+ * Every function accepts every input. A bad line, record or call gets one refusal, a number and a place, and leaves the
+ * session, the writer and your buffers unchanged. Only hollytrot_session_run, which takes many records, keeps those
+ * before the refused one. Nothing is allocated, nothing is kept between calls, and no function calls back, so all of
+ * them may be called from any thread.
  *
- * What a caller owes:
- *   - `bytes` points to `length` bytes that stay as they are during the call. It is never NULL, not even with
- *     length 0: an empty string will do.
- *   - `out` points to `out_length` bytes that the call may write and that nothing else touches meanwhile. It
- *     overlaps no other argument of the same call.
- *   - A `bool` holds 0 or 1, as C's own do: do not fill a session from bytes of unknown origin.
- * Nothing else: each value of each number, session and writer has its defined outcome.
+ * What the caller guarantees:
+ *   - `bytes` points to `length` bytes that do not change during the call. It is never NULL, even if the length is 0:
+ *     pass an empty string.
+ *   - `out` points to `out_length` bytes that only this call writes and reads. It overlaps no other argument of the
+ *     same call.
+ *   - A `bool` is 0 or 1, as in every C program: do not copy a session from bytes of unknown origin.
+ * Nothing else: the outcome is defined for every number, every session and every writer.
  *
- * Link libengine.a, for x86-64 Linux; it needs no other library.
+ * Link with libhollytrot.a, for x86-64 Linux. It needs no other library.
  */
 #ifndef HOLLYTROT_H
 #define HOLLYTROT_H
@@ -29,55 +30,59 @@
 extern "C" {
 #endif
 
-/* Lengths that are asked for exactly. */
+/* The version of this header and of its library. */
+#define HOLLYTROT_VERSION "0.1.0"
+
+/* The lengths that buffers must have, exactly ("Limits"). */
 #define HOLLYTROT_BARCODE 44
 #define HOLLYTROT_LINE 48
 #define HOLLYTROT_RECORD 150
 #define HOLLYTROT_HEADER_FIELDS 78
 #define HOLLYTROT_PAYMENT_FIELDS 121
 #define HOLLYTROT_PAGE 8837
-/* The most lanes of a board. */
+/* How many lanes a board has. */
 #define HOLLYTROT_LANES 64
 
-/* An answer: number 0 and place 0 where it is accepted, else the refusal's number and its place, which counts
- * from 1 in what was read; place 0 where a refusal has none. */
+/* An answer ("Refusals"): number 0 and place 0 if accepted, else the number of the refusal and its place. Places count
+ * from 1; place 0 means that the refusal has none. */
 typedef struct hollytrot_answer {
     uint64_t number;
     size_t place;
 } hollytrot_answer;
 
+/* The numbers of answers. Later versions may add numbers, in any order and with gaps. */
 enum {
     HOLLYTROT_ACCEPTED = 0,
-    HOLLYTROT_WRONG_LENGTH = 1,        /* a length is not exactly the one called for */
-    HOLLYTROT_NO_DIGIT = 2,            /* a byte is no digit */
+    HOLLYTROT_WRONG_LENGTH = 1,        /* a length is not the required one */
+    HOLLYTROT_NO_DIGIT = 2,            /* a byte is not a digit */
     HOLLYTROT_WRONG_PRODUCT = 3,       /* product not 8 */
     HOLLYTROT_UNKNOWN_SEGMENT = 4,     /* segment not 1 to 7 or 9 */
     HOLLYTROT_UNKNOWN_KIND = 5,        /* value kind not 6 to 9 */
     HOLLYTROT_WRONG_BOX_CHECK = 6,     /* the check of a box is wrong */
     HOLLYTROT_WRONG_GENERAL_CHECK = 7, /* the general check is wrong */
-    HOLLYTROT_NO_TEXT = 8,             /* a byte is no text byte */
+    HOLLYTROT_NO_TEXT = 8,             /* a byte is not a text byte */
     HOLLYTROT_NOT_EXPECTED = 9,        /* the first byte names no record expected now */
-    HOLLYTROT_FIXED_DIFFERS = 10,      /* a fixed field differs */
-    HOLLYTROT_NO_DATE = 11,            /* eight digits, no date */
-    HOLLYTROT_UNKNOWN_CODE = 12,       /* capture or payment form unknown */
+    HOLLYTROT_FIXED_DIFFERS = 10,      /* a fixed field has other bytes */
+    HOLLYTROT_NO_DATE = 11,            /* eight digits are not a date */
+    HOLLYTROT_UNKNOWN_CODE = 12,       /* unknown capture or payment form */
     HOLLYTROT_COUNT_DIFFERS = 13,      /* the trailer's count is not the file's */
     HOLLYTROT_TOTAL_DIFFERS = 14,      /* the trailer's total is not the file's */
-    HOLLYTROT_FILE_FULL = 15,          /* a payment when 999,997 were taken */
-    HOLLYTROT_FILE_TOTAL_PASSED = 16,  /* a payment takes the file past 99,999,999,999,999,999 centavos */
-    HOLLYTROT_BOARD_FULL = 17,         /* a new issuer when 64 lanes are taken */
-    HOLLYTROT_BOARD_TOTAL_PASSED = 18, /* a payment takes a total of the board past 10^18 */
-    HOLLYTROT_FILE_OPEN = 19,          /* the end with a file open */
-    HOLLYTROT_CHECK_TWO_PLACES = 20,   /* a computed check needs two places */
+    HOLLYTROT_FILE_FULL = 15,          /* a payment after 999,997 in the same file */
+    HOLLYTROT_FILE_TOTAL_PASSED = 16,  /* the file's total would pass 99,999,999,999,999,999 centavos */
+    HOLLYTROT_BOARD_FULL = 17,         /* a new issuer when all 64 lanes are in use */
+    HOLLYTROT_BOARD_TOTAL_PASSED = 18, /* a total of the board would pass 10^18 */
+    HOLLYTROT_FILE_OPEN = 19,          /* the end of the input while a file is open */
+    HOLLYTROT_CHECK_TWO_PLACES = 20,   /* a computed check digit needs two places */
     HOLLYTROT_TOO_WIDE = 21            /* a number is too wide for its field */
 };
 
-/* A part of the bytes that were lent: `length` bytes from `bytes + from` on. The empty part is 0 and 0. */
+/* A part of the caller's bytes: `length` bytes from `bytes + from` on. The empty part is 0 and 0. */
 typedef struct hollytrot_part {
     size_t from;
     size_t length;
 } hollytrot_part;
 
-/* A date of the years 1900 to 2199. Where there is none, all three are 0. */
+/* A date of the years 1900 to 2199 ("Dates"). If there is none, all three are 0. */
 typedef struct hollytrot_date {
     uint64_t year;
     uint64_t month;
@@ -90,7 +95,7 @@ typedef struct hollytrot_issuer {
     uint64_t number;
 } hollytrot_issuer;
 
-/* What a barcode or a typed line says. The value is in centavos for kinds 6 and 8, else a reference quantity.
+/* The fields of a barcode or a typed line. The value is in centavos for kinds 6 and 8, else a reference quantity.
  * `due` is the due date, if the free field starts with one. */
 typedef struct hollytrot_fields {
     uint64_t kind;
@@ -99,35 +104,35 @@ typedef struct hollytrot_fields {
     hollytrot_date due;
 } hollytrot_fields;
 
-/* The fields are all 0 where the answer is a refusal. */
-typedef struct hollytrot_read {
+/* A decoded barcode or typed line. The fields are all 0 if the answer is a refusal. */
+typedef struct hollytrot_decoded {
     hollytrot_answer answer;
     hollytrot_fields fields;
-} hollytrot_read;
+} hollytrot_decoded;
 
-/* Barcodes. */
+/* Barcodes ("Barcode", "Builder"). */
 
 /* Accepted, or the barcode's first refusal. */
 hollytrot_answer hollytrot_barcode_check(const uint8_t *bytes, size_t length);
 
-/* The same, with the fields of an accepted barcode. */
-hollytrot_read hollytrot_barcode_decode(const uint8_t *bytes, size_t length);
+/* The same answer, with the fields of an accepted barcode. */
+hollytrot_decoded hollytrot_barcode_decode(const uint8_t *bytes, size_t length);
 
-/* Where the free field stands in the barcode: 25 bytes, in segment 6 21. The empty part of a refused one. */
+/* The free field as a part of the barcode: 25 bytes, in segment 6 21. The empty part if the barcode is refused. */
 hollytrot_part hollytrot_barcode_free_field(const uint8_t *bytes, size_t length);
 
-/* Builds a barcode into `out`, 44 bytes, from its fields and the free field's digits: 25, in segment 6 21. */
+/* Writes a barcode into `out`, 44 bytes, from its fields and the digits of the free field: 25, in segment 6 21. */
 hollytrot_answer hollytrot_barcode_build(hollytrot_issuer issuer, uint64_t kind, uint64_t value,
                                          const uint8_t *free_field, size_t free_length, uint8_t *out,
                                          size_t out_length);
 
-/* Typed lines: 48 digits, without blanks. */
+/* Typed lines: 48 digits, without blanks ("Typed line"). */
 
 /* Accepted, or the line's first refusal. */
 hollytrot_answer hollytrot_line_check(const uint8_t *bytes, size_t length);
 
-/* The same, with the fields of an accepted line. Its free field is read from the barcode. */
-hollytrot_read hollytrot_line_decode(const uint8_t *bytes, size_t length);
+/* The same answer, with the fields of an accepted line. For the free field, convert the line to its barcode. */
+hollytrot_decoded hollytrot_line_decode(const uint8_t *bytes, size_t length);
 
 /* Writes the barcode of a line into `out`, 44 bytes. */
 hollytrot_answer hollytrot_line_to_barcode(const uint8_t *bytes, size_t length, uint8_t *out, size_t out_length);
@@ -136,28 +141,29 @@ hollytrot_answer hollytrot_line_to_barcode(const uint8_t *bytes, size_t length, 
 hollytrot_answer hollytrot_line_from_barcode(const uint8_t *bytes, size_t length, uint8_t *out,
                                              size_t out_length);
 
-/* Dates and check digits. */
+/* Dates and check digits ("Dates", "Check digits"). */
 
-/* The date that eight digits, YYYYMMDD, are; three zeros where they are none. */
+/* The date of eight digits, YYYYMMDD; three zeros if they are not a date. */
 hollytrot_date hollytrot_date_read(const uint8_t *bytes, size_t length);
 
-/* Whether there is such a date. */
+/* Whether the three numbers are a date. */
 bool hollytrot_date_check(hollytrot_date date);
 
-/* The check digit, 0 to 9, of any number of digits under modulo 10 and under modulo 11. A byte that is no digit
- * counts as 0: test the bytes first. */
+/* The check digit, 0 to 9, of any number of digits under modulo 10 and under modulo 11. A byte that is not a digit
+ * counts as 0: check the bytes first. */
 uint64_t hollytrot_check_ten(const uint8_t *bytes, size_t length);
 uint64_t hollytrot_check_eleven(const uint8_t *bytes, size_t length);
 
-/* Records, each alone. */
+/* Single records ("Records", "Field bytes"). */
 
+/* The values of an A. */
 typedef struct hollytrot_header {
     uint64_t bank;
     hollytrot_date date;
     uint64_t sequence;
 } hollytrot_header;
 
-/* `received` and `tariff` are centavos. */
+/* The values of a G: the payment date and the credit date, the barcode, and `received` and `tariff` in centavos. */
 typedef struct hollytrot_payment {
     hollytrot_date paid;
     hollytrot_date credited;
@@ -167,14 +173,14 @@ typedef struct hollytrot_payment {
     uint64_t number;
 } hollytrot_payment;
 
-/* The count of all records, header and trailer included. */
+/* The values of a Z: the count of all records of the file, A and Z included, and the centavos of its payments. */
 typedef struct hollytrot_trailer {
     uint64_t count;
     uint64_t total;
 } hollytrot_trailer;
 
-/* `letter` is 'A', 'G' or 'Z' and says which of the three holds the record's values; the others are all 0.
- * It is 0 where the answer is a refusal. */
+/* A decoded record. `letter` is 'A', 'G' or 'Z' and says which of the three members has the record's values; the
+ * others are all 0. If the answer is a refusal, `letter` is 0 too. */
 typedef struct hollytrot_record {
     hollytrot_answer answer;
     uint64_t letter;
@@ -183,7 +189,7 @@ typedef struct hollytrot_record {
     hollytrot_trailer trailer;
 } hollytrot_record;
 
-/* Rows of the one table of fields: 0 to 10 are A's, 11 to 23 G's, 24 to 27 Z's, in the order of their places. */
+/* Rows of the table of fields: 0 to 10 are those of A, 11 to 23 of G, 24 to 27 of Z, in the order of their places. */
 enum {
     HOLLYTROT_A_AGREEMENT = 2,
     HOLLYTROT_A_COMPANY = 3,
@@ -209,78 +215,83 @@ enum {
     HOLLYTROT_ROWS = 28
 };
 
-/* Accepted, or the record's first refusal: what a record alone can be asked, no order and no sums. */
+/* Accepted, or the record's first refusal. Neither the order of records nor any sum is checked. */
 hollytrot_answer hollytrot_record_check(const uint8_t *bytes, size_t length);
 
-/* The same, with the values of an accepted record. */
+/* The same answer, with the values of an accepted record. */
 hollytrot_record hollytrot_record_decode(const uint8_t *bytes, size_t length);
 
-/* Where a field of an accepted record stands, by its row; the empty part of a refused record, for a row of
- * another record and for a row past the table. */
+/* The field of a row, as a part of an accepted record. The empty part if the record is refused, and for a row of
+ * another letter or past the table. */
 hollytrot_part hollytrot_record_field(const uint8_t *bytes, size_t length, size_t row);
 
-/* Joins the fields of an accepted A (into 78 bytes) or G (into 121), exactly as the writer takes them. */
+/* Writes the field bytes of an accepted A (78) or G (121) into `out`: what the writer takes for the same record. A Z
+ * has none and is refused 9 at 1. */
 hollytrot_answer hollytrot_record_join(const uint8_t *bytes, size_t length, uint8_t *out, size_t out_length);
 
-/* The writer of one return file: a value that you hold. Each call hands back the writer that follows, which is
- * the given one where the call is refused. */
+/* The writer of one return file ("Writer"): a value that you keep. Each call returns the next writer, which is equal to
+ * the given one if the call is refused. */
 
-/* What an open file has: its payments, and the centavos they received. */
+/* The figures of an open file: its payments, and the centavos they received. */
 typedef struct hollytrot_file {
     uint64_t taken;
     uint64_t total;
 } hollytrot_file;
 
-/* `stage` is 0 before the header and 1 in an open file; every other number is a closed file. */
+/* `stage` is 0 before the header and 1 while the file is open; every other number means that it is closed. */
 typedef struct hollytrot_writer {
     uint64_t stage;
     hollytrot_file file;
 } hollytrot_writer;
 
-typedef struct hollytrot_wrote {
+/* The answer of a call, and the writer after it. */
+typedef struct hollytrot_write_result {
     hollytrot_answer answer;
     hollytrot_writer writer;
-} hollytrot_wrote;
+} hollytrot_write_result;
 
-/* A writer that has written nothing. */
+/* A new writer, which expects a header. */
 hollytrot_writer hollytrot_writer_new(void);
 
-/* Writes the A into `out`, 150 bytes, from its 78 field bytes: places 3 to 79, and the service field's second
- * byte, 79 or 211. */
-hollytrot_wrote hollytrot_writer_header(hollytrot_writer writer, const uint8_t *fields, size_t fields_length,
-                                        uint8_t *out, size_t out_length);
+/* Writes the A into `out`, 150 bytes, from its 78 field bytes: those of places 3 to 79, and the second byte of the
+ * service field, 79 or 211. */
+hollytrot_write_result hollytrot_writer_header(hollytrot_writer writer, const uint8_t *fields, size_t fields_length,
+                                               uint8_t *out, size_t out_length);
 
-/* Writes a G into `out`, 150 bytes, from its 121 field bytes, places 2 to 81 and 101 to 141, and two amounts. */
-hollytrot_wrote hollytrot_writer_payment(hollytrot_writer writer, const uint8_t *fields, size_t fields_length,
-                                         uint64_t received, uint64_t tariff, uint8_t *out, size_t out_length);
+/* Writes a G into `out`, 150 bytes, from its 121 field bytes, those of places 2 to 81 and 101 to 141, and the two
+ * amounts in centavos. */
+hollytrot_write_result hollytrot_writer_payment(hollytrot_writer writer, const uint8_t *fields, size_t fields_length,
+                                                uint64_t received, uint64_t tariff, uint8_t *out, size_t out_length);
 
-/* Writes the Z into `out`, 150 bytes, with the file's true count and total. Then the writer is closed. */
-hollytrot_wrote hollytrot_writer_trailer(hollytrot_writer writer, uint8_t *out, size_t out_length);
+/* Writes the Z into `out`, 150 bytes, with the file's own count and total, and closes the writer. */
+hollytrot_write_result hollytrot_writer_trailer(hollytrot_writer writer, uint8_t *out, size_t out_length);
 
-/* The board: at most 64 lanes, in the order in which issuers first appeared. */
+/* The board ("Board"): at most 64 lanes, in the order in which issuers first appeared. */
 
+/* The sums of a lane, or of a board. */
 typedef struct hollytrot_tally {
     uint64_t payments;
     uint64_t centavos;
 } hollytrot_tally;
 
+/* An issuer and its sums. */
 typedef struct hollytrot_lane {
     hollytrot_issuer issuer;
     hollytrot_tally tally;
 } hollytrot_lane;
 
-/* The first `used` lanes are in use; `total` is their sum. */
+/* The first `used` lanes are in use; `total` is the sum over them. */
 typedef struct hollytrot_board {
     hollytrot_lane lanes[HOLLYTROT_LANES];
     size_t used;
     hollytrot_tally total;
 } hollytrot_board;
 
-/* Sessions: a value of some 4 KB that you hold. Each call hands back the session that follows, which is the
- * given one where a record is refused; after a run it is the one behind the records that were accepted. */
+/* Sessions ("Sessions"): a value of some 4 KB that you keep. Each call returns the next session, which is equal to the
+ * given one if the call is refused; after a run it is the one after the accepted records. */
 
-/* The board shown, of accepted files only; the working board, with what an open file adds; whether a file is
- * open, and what it has. */
+/* The board shown, which has accepted files only; the working board, which has the open file's payments too; whether a
+ * file is open, and its figures. */
 typedef struct hollytrot_session {
     hollytrot_board shown;
     hollytrot_board work;
@@ -288,51 +299,52 @@ typedef struct hollytrot_session {
     hollytrot_file file;
 } hollytrot_session;
 
-typedef struct hollytrot_took {
+/* The answer of a call, and the session after it. */
+typedef struct hollytrot_take_result {
     hollytrot_answer answer;
     hollytrot_session session;
-} hollytrot_took;
+} hollytrot_take_result;
 
-/* How many records were accepted and how many files were closed before the first refusal. */
-typedef struct hollytrot_ran {
+/* The answer of a run, the session after it, and how many records and files were accepted before the first refusal. */
+typedef struct hollytrot_run_result {
     hollytrot_answer answer;
     hollytrot_session session;
     uint64_t records;
     uint64_t files;
-} hollytrot_ran;
+} hollytrot_run_result;
 
 /* A session with no file open and an empty board. */
 hollytrot_session hollytrot_session_new(void);
 
-/* Takes one record, of any bytes and any length. */
-hollytrot_took hollytrot_session_take(hollytrot_session session, const uint8_t *bytes, size_t length);
+/* Takes one record: any bytes of any length. */
+hollytrot_take_result hollytrot_session_take(hollytrot_session session, const uint8_t *bytes, size_t length);
 
-/* Takes records that follow each other, until the first that is refused; those before it stand. A rest shorter
- * than 150 bytes is a record of wrong length: hand over whole records until the input ends. This is the fast
- * way, for it copies no board for a payment. */
-hollytrot_ran hollytrot_session_run(hollytrot_session session, const uint8_t *bytes, size_t length);
+/* Takes consecutive records up to the first that is refused; those before it remain accepted. A rest shorter than 150
+ * bytes is a record of the wrong length, so pass whole records until the input ends. This is the fast way to take many
+ * records: it does not copy the session for each of them. */
+hollytrot_run_result hollytrot_session_run(hollytrot_session session, const uint8_t *bytes, size_t length);
 
-/* Drops an open file, and does nothing otherwise. */
+/* Drops the open file; the same session if none is open. */
 hollytrot_session hollytrot_session_abandon(hollytrot_session session);
 
-/* The end of the input: refused 19 while a file is open. The session stays as it is. */
-hollytrot_took hollytrot_session_finish(hollytrot_session session);
+/* The end of the input: 19 if a file is open. The session does not change. */
+hollytrot_take_result hollytrot_session_finish(hollytrot_session session);
 
-/* The board shown. It is also the session's member `shown`. */
+/* The board shown, which is the session's member `shown`. */
 hollytrot_board hollytrot_session_board(hollytrot_session session);
 
-/* The board on paper. */
+/* The page ("Page"). */
 
-/* How many bytes of the buffer are the page; 0 where it is refused. */
-typedef struct hollytrot_page_printed {
+/* How many bytes of the buffer are the page; 0 if the call is refused. */
+typedef struct hollytrot_page_result {
     hollytrot_answer answer;
     size_t length;
-} hollytrot_page_printed;
+} hollytrot_page_result;
 
-/* Writes the page of a board into `out`, HOLLYTROT_PAGE bytes: an answer, the records and files accepted, then
- * the board. What stands behind the page stays. An answer's number past 21 is refused 21 at place 0. */
-hollytrot_page_printed hollytrot_page(hollytrot_answer answer, uint64_t records, uint64_t files,
-                                      hollytrot_board board, uint8_t *out, size_t out_length);
+/* Writes the page into `out`, HOLLYTROT_PAGE bytes: an answer, the records and files accepted, then the board. Bytes
+ * after the page do not change. The answer may have any number and any place: the page has whatever they are. */
+hollytrot_page_result hollytrot_page(hollytrot_answer answer, uint64_t records, uint64_t files, hollytrot_board board,
+                                     uint8_t *out, size_t out_length);
 
 #ifdef __cplusplus
 }

@@ -13,7 +13,7 @@ pub struct Issuer {
     pub number: u64,
 }
 
-/// A date of the years 1900 to 2199; there is no other.
+/// A date of the years 1900 to 2199. A value of this type is always a date of the calendar.
 #[derive(Clone, Copy, Debug, PartialEq, Eq, Hash, PartialOrd, Ord)]
 pub struct Date {
     year: u16,
@@ -22,25 +22,26 @@ pub struct Date {
 }
 
 impl Date {
-    /// The date of these numbers, if there is one.
+    /// The date of these numbers; `None` if they are not a date.
     pub fn new(year: u16, month: u8, day: u8) -> Option<Date> {
         let date = raw::Date {
             year: year.into(),
             month: month.into(),
             day: day.into(),
         };
-        // SAFETY: the engine takes every date.
+        // SAFETY: the engine accepts any three numbers.
         unsafe { raw::hollytrot_date_check(date) }.then_some(Date { year, month, day })
     }
 
-    /// The date that eight digits are, YYYYMMDD.
+    /// The date of eight digits, YYYYMMDD; `None` if they are not a date.
     pub fn read(digits: &[u8]) -> Option<Date> {
-        // SAFETY: the slice is what the engine is lent.
-        Date::of(unsafe { raw::hollytrot_date_read(digits.as_ptr(), digits.len()) })
+        // SAFETY: pointer and length are those of a slice.
+        Date::from_raw(unsafe { raw::hollytrot_date_read(digits.as_ptr(), digits.len()) })
     }
 
-    /// The engine's date: three zeros are none. Its numbers are those of a date, so the casts keep them whole.
-    pub(crate) fn of(date: raw::Date) -> Option<Date> {
+    /// The engine's date; `None` for its three zeros. Every other date of the engine is one of the calendar, so the
+    /// casts lose nothing.
+    pub(crate) fn from_raw(date: raw::Date) -> Option<Date> {
         (date.year != 0).then_some(Date {
             year: date.year as u16,
             month: date.month as u8,
@@ -62,12 +63,13 @@ impl Date {
 }
 
 impl fmt::Display for Date {
+    /// As `2000-02-29`.
     fn fmt(&self, f: &mut fmt::Formatter<'_>) -> fmt::Result {
         write!(f, "{:04}-{:02}-{:02}", self.year, self.month, self.day)
     }
 }
 
-/// What a barcode or a typed line says. The value is in centavos for kinds 6 and 8, else a reference quantity.
+/// The fields of a barcode or a typed line. The value is in centavos for kinds 6 and 8, else a reference quantity.
 #[derive(Clone, Copy, Debug, PartialEq, Eq, Hash)]
 pub struct Fields {
     pub kind: u64,
@@ -78,18 +80,18 @@ pub struct Fields {
 }
 
 impl Fields {
-    pub(crate) fn of(fields: raw::Fields) -> Fields {
+    pub(crate) fn from_raw(fields: raw::Fields) -> Fields {
         Fields {
             kind: fields.kind,
             value: fields.value,
             issuer: fields.issuer,
-            due: Date::of(fields.due),
+            due: Date::from_raw(fields.due),
         }
     }
 
-    fn read(read: raw::Read) -> Result<Fields, Refusal> {
-        read.answer.result()?;
-        Ok(Fields::of(read.fields))
+    fn from_decoded(decoded: raw::Decoded) -> Result<Fields, Refusal> {
+        decoded.answer.to_result()?;
+        Ok(Fields::from_raw(decoded.fields))
     }
 }
 
@@ -100,10 +102,10 @@ pub enum Modulus {
     Eleven,
 }
 
-/// The check digit, 0 to 9, of any number of digits. A byte that is no digit counts as 0.
+/// The check digit, 0 to 9, of any number of digits. A byte that is not a digit counts as 0.
 pub fn check_digit(modulus: Modulus, digits: &[u8]) -> u8 {
     let (bytes, length) = (digits.as_ptr(), digits.len());
-    // SAFETY: the slice is what the engine is lent.
+    // SAFETY: pointer and length are those of a slice.
     let check = unsafe {
         match modulus {
             Modulus::Ten => raw::hollytrot_check_ten(bytes, length),
@@ -113,7 +115,7 @@ pub fn check_digit(modulus: Modulus, digits: &[u8]) -> u8 {
     check as u8
 }
 
-/// The barcode of 44 digits.
+/// The barcode of 44 digits: docs/SPEC.md, "Barcode" and "Builder".
 pub mod barcode {
     use super::{Fields, Issuer};
     use crate::raw;
@@ -121,28 +123,28 @@ pub mod barcode {
 
     /// Accepted, or the barcode's first refusal.
     pub fn check(code: &[u8]) -> Result<(), Refusal> {
-        // SAFETY: the slice is what the engine is lent.
-        unsafe { raw::hollytrot_barcode_check(code.as_ptr(), code.len()) }.result()
+        // SAFETY: pointer and length are those of a slice.
+        unsafe { raw::hollytrot_barcode_check(code.as_ptr(), code.len()) }.to_result()
     }
 
     /// The fields of an accepted barcode.
     pub fn decode(code: &[u8]) -> Result<Fields, Refusal> {
-        // SAFETY: the slice is what the engine is lent.
-        Fields::read(unsafe { raw::hollytrot_barcode_decode(code.as_ptr(), code.len()) })
+        // SAFETY: pointer and length are those of a slice.
+        Fields::from_decoded(unsafe { raw::hollytrot_barcode_decode(code.as_ptr(), code.len()) })
     }
 
-    /// The free field as a part of the barcode, 25 or 21 bytes; the empty part of a refused one.
+    /// The free field as a part of the barcode, 25 bytes or 21; the empty slice if the barcode is refused.
     pub fn free_field(code: &[u8]) -> &[u8] {
-        // SAFETY: the slice is what the engine is lent.
+        // SAFETY: pointer and length are those of a slice.
         let part = unsafe { raw::hollytrot_barcode_free_field(code.as_ptr(), code.len()) };
         &code[part.from..part.from + part.length]
     }
 
-    /// Builds a barcode from its fields and the free field's digits: 25, in segment 6 21.
+    /// Builds a barcode from its fields and the digits of the free field: 25, in segment 6 21.
     pub fn build(issuer: Issuer, kind: u64, value: u64, free: &[u8]) -> Result<[u8; 44], Refusal> {
         let mut out = [0; 44];
         let (bytes, length) = (free.as_ptr(), free.len());
-        // SAFETY: both slices are what the engine is lent, and `out` is ours alone.
+        // SAFETY: pointers and lengths are those of slices, and `out` overlaps no other.
         let answer = unsafe {
             raw::hollytrot_barcode_build(
                 issuer,
@@ -154,12 +156,12 @@ pub mod barcode {
                 out.len(),
             )
         };
-        answer.result()?;
+        answer.to_result()?;
         Ok(out)
     }
 }
 
-/// The typed line of 48 digits, without blanks.
+/// The typed line of 48 digits, without blanks: docs/SPEC.md, "Typed line".
 pub mod line {
     use super::Fields;
     use crate::raw;
@@ -167,23 +169,23 @@ pub mod line {
 
     /// Accepted, or the line's first refusal.
     pub fn check(typed: &[u8]) -> Result<(), Refusal> {
-        // SAFETY: the slice is what the engine is lent.
-        unsafe { raw::hollytrot_line_check(typed.as_ptr(), typed.len()) }.result()
+        // SAFETY: pointer and length are those of a slice.
+        unsafe { raw::hollytrot_line_check(typed.as_ptr(), typed.len()) }.to_result()
     }
 
-    /// The fields of an accepted line. Its free field is read from the barcode.
+    /// The fields of an accepted line. For its free field, convert it to a barcode.
     pub fn decode(typed: &[u8]) -> Result<Fields, Refusal> {
-        // SAFETY: the slice is what the engine is lent.
-        Fields::read(unsafe { raw::hollytrot_line_decode(typed.as_ptr(), typed.len()) })
+        // SAFETY: pointer and length are those of a slice.
+        Fields::from_decoded(unsafe { raw::hollytrot_line_decode(typed.as_ptr(), typed.len()) })
     }
 
     /// The barcode of a line.
     pub fn to_barcode(typed: &[u8]) -> Result<[u8; 44], Refusal> {
         let mut out = [0; 44];
         let (bytes, length) = (typed.as_ptr(), typed.len());
-        // SAFETY: both slices are what the engine is lent, and `out` is ours alone.
+        // SAFETY: pointers and lengths are those of slices, and `out` overlaps no other.
         unsafe { raw::hollytrot_line_to_barcode(bytes, length, out.as_mut_ptr(), out.len()) }
-            .result()?;
+            .to_result()?;
         Ok(out)
     }
 
@@ -191,9 +193,9 @@ pub mod line {
     pub fn from_barcode(code: &[u8]) -> Result<[u8; 48], Refusal> {
         let mut out = [0; 48];
         let (bytes, length) = (code.as_ptr(), code.len());
-        // SAFETY: both slices are what the engine is lent, and `out` is ours alone.
+        // SAFETY: pointers and lengths are those of slices, and `out` overlaps no other.
         unsafe { raw::hollytrot_line_from_barcode(bytes, length, out.as_mut_ptr(), out.len()) }
-            .result()?;
+            .to_result()?;
         Ok(out)
     }
 }

@@ -1,5 +1,5 @@
-//! The declarations of include/hollytrot.h. Sizes and offsets are asserted here, and held/abi.c holds the same ones to
-//! the library.
+//! The declarations of include/hollytrot.h. Sizes and offsets are asserted here; tests/conformance/abi.c compares the
+//! same ones with the library.
 
 use std::mem::{offset_of, size_of};
 
@@ -36,7 +36,7 @@ pub struct Fields {
 
 #[repr(C)]
 #[derive(Clone, Copy)]
-pub struct Read {
+pub struct Decoded {
     pub answer: Answer,
     pub fields: Fields,
 }
@@ -93,7 +93,7 @@ pub struct Writer {
 
 #[repr(C)]
 #[derive(Clone, Copy)]
-pub struct Wrote {
+pub struct WriteResult {
     pub answer: Answer,
     pub writer: Writer,
 }
@@ -109,14 +109,14 @@ pub struct Session {
 
 #[repr(C)]
 #[derive(Clone, Copy)]
-pub struct Took {
+pub struct TakeResult {
     pub answer: Answer,
     pub session: Session,
 }
 
 #[repr(C)]
 #[derive(Clone, Copy)]
-pub struct Ran {
+pub struct RunResult {
     pub answer: Answer,
     pub session: Session,
     pub records: u64,
@@ -125,7 +125,7 @@ pub struct Ran {
 
 #[repr(C)]
 #[derive(Clone, Copy)]
-pub struct Printed {
+pub struct PageResult {
     pub answer: Answer,
     pub length: usize,
 }
@@ -141,7 +141,7 @@ const _: () = {
             && offset_of!(Fields, issuer) == 16
             && offset_of!(Fields, due) == 32
     );
-    assert!(size_of::<Read>() == 72 && offset_of!(Read, fields) == 16);
+    assert!(size_of::<Decoded>() == 72 && offset_of!(Decoded, fields) == 16);
     assert!(
         size_of::<Header>() == 40
             && offset_of!(Header, date) == 8
@@ -157,23 +157,23 @@ const _: () = {
     );
     assert!(offset_of!(Record, payment) == 64 && offset_of!(Record, trailer) == 192);
     assert!(size_of::<Writer>() == 24 && offset_of!(Writer, file) == 8);
-    assert!(size_of::<Wrote>() == 40 && offset_of!(Wrote, writer) == 16);
+    assert!(size_of::<WriteResult>() == 40 && offset_of!(WriteResult, writer) == 16);
     assert!(size_of::<Tally>() == 16 && size_of::<Lane>() == 32);
     assert!(size_of::<Board>() == 2072);
     assert!(size_of::<Session>() == 4168 && offset_of!(Session, work) == 2072);
     assert!(offset_of!(Session, opened) == 4144 && offset_of!(Session, file) == 4152);
-    assert!(size_of::<Took>() == 4184 && offset_of!(Took, session) == 16);
+    assert!(size_of::<TakeResult>() == 4184 && offset_of!(TakeResult, session) == 16);
     assert!(
-        size_of::<Ran>() == 4200
-            && offset_of!(Ran, records) == 4184
-            && offset_of!(Ran, files) == 4192
+        size_of::<RunResult>() == 4200
+            && offset_of!(RunResult, records) == 4184
+            && offset_of!(RunResult, files) == 4192
     );
-    assert!(size_of::<Printed>() == 24 && offset_of!(Printed, length) == 16);
+    assert!(size_of::<PageResult>() == 24 && offset_of!(PageResult, length) == 16);
 };
 
 extern "C" {
     pub fn hollytrot_barcode_check(bytes: *const u8, length: usize) -> Answer;
-    pub fn hollytrot_barcode_decode(bytes: *const u8, length: usize) -> Read;
+    pub fn hollytrot_barcode_decode(bytes: *const u8, length: usize) -> Decoded;
     pub fn hollytrot_barcode_free_field(bytes: *const u8, length: usize) -> Part;
     pub fn hollytrot_barcode_build(
         issuer: crate::Issuer,
@@ -185,7 +185,7 @@ extern "C" {
         out_length: usize,
     ) -> Answer;
     pub fn hollytrot_line_check(bytes: *const u8, length: usize) -> Answer;
-    pub fn hollytrot_line_decode(bytes: *const u8, length: usize) -> Read;
+    pub fn hollytrot_line_decode(bytes: *const u8, length: usize) -> Decoded;
     pub fn hollytrot_line_to_barcode(
         bytes: *const u8,
         length: usize,
@@ -218,7 +218,7 @@ extern "C" {
         fields_length: usize,
         out: *mut u8,
         out_length: usize,
-    ) -> Wrote;
+    ) -> WriteResult;
     pub fn hollytrot_writer_payment(
         writer: Writer,
         fields: *const u8,
@@ -227,13 +227,14 @@ extern "C" {
         tariff: u64,
         out: *mut u8,
         out_length: usize,
-    ) -> Wrote;
-    pub fn hollytrot_writer_trailer(writer: Writer, out: *mut u8, out_length: usize) -> Wrote;
+    ) -> WriteResult;
+    pub fn hollytrot_writer_trailer(writer: Writer, out: *mut u8, out_length: usize)
+        -> WriteResult;
     pub fn hollytrot_session_new() -> Session;
-    pub fn hollytrot_session_take(session: Session, bytes: *const u8, length: usize) -> Took;
-    pub fn hollytrot_session_run(session: Session, bytes: *const u8, length: usize) -> Ran;
+    pub fn hollytrot_session_take(session: Session, bytes: *const u8, length: usize) -> TakeResult;
+    pub fn hollytrot_session_run(session: Session, bytes: *const u8, length: usize) -> RunResult;
     pub fn hollytrot_session_abandon(session: Session) -> Session;
-    pub fn hollytrot_session_finish(session: Session) -> Took;
+    pub fn hollytrot_session_finish(session: Session) -> TakeResult;
     pub fn hollytrot_page(
         answer: Answer,
         records: u64,
@@ -241,5 +242,5 @@ extern "C" {
         board: crate::Board,
         out: *mut u8,
         out_length: usize,
-    ) -> Printed;
+    ) -> PageResult;
 }

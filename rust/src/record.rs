@@ -1,4 +1,4 @@
-//! The three records of a return file, each alone.
+//! Single records of a return file: docs/SPEC.md, "Records" and "Field bytes".
 
 use crate::raw;
 use crate::{Date, Fields, Refusal};
@@ -11,7 +11,7 @@ pub struct Header {
     pub sequence: u64,
 }
 
-/// The values of a G; received and tariff are centavos.
+/// The values of a G: the payment date and the credit date, the barcode, and `received` and `tariff` in centavos.
 #[derive(Clone, Copy, Debug, PartialEq, Eq, Hash)]
 pub struct Payment {
     pub paid: Date,
@@ -22,14 +22,15 @@ pub struct Payment {
     pub number: u64,
 }
 
-/// The values of a Z: the count of all records, header and trailer included, and the centavos received.
+/// The values of a Z: the count of all records of the file, header and trailer included, and the centavos of its
+/// payments.
 #[derive(Clone, Copy, Debug, PartialEq, Eq, Hash)]
 pub struct Trailer {
     pub count: u64,
     pub total: u64,
 }
 
-/// A record decoded alone.
+/// A decoded record.
 #[derive(Clone, Copy, Debug, PartialEq, Eq, Hash)]
 pub enum Record {
     Header(Header),
@@ -37,7 +38,8 @@ pub enum Record {
     Trailer(Trailer),
 }
 
-/// A field of the one table, by its row.
+/// A row of the table of fields, which names a field of an A, G or Z. Rows 0 to 10 are those of A, 11 to 23 of G, 24 to
+/// 27 of Z.
 #[derive(Clone, Copy, Debug, PartialEq, Eq, Hash)]
 pub struct Row(pub usize);
 
@@ -65,65 +67,65 @@ impl Row {
     pub const TOTAL: Row = Row(26);
 }
 
-/// Accepted, or the record's first refusal: what a record alone can be asked, no order and no sums.
+/// Accepted, or the record's first refusal. Neither the order of records nor any sum is checked.
 pub fn check(bytes: &[u8]) -> Result<(), Refusal> {
-    // SAFETY: the slice is what the engine is lent.
-    unsafe { raw::hollytrot_record_check(bytes.as_ptr(), bytes.len()) }.result()
+    // SAFETY: pointer and length are those of a slice.
+    unsafe { raw::hollytrot_record_check(bytes.as_ptr(), bytes.len()) }.to_result()
 }
 
 /// The values of an accepted record.
 pub fn decode(bytes: &[u8]) -> Result<Record, Refusal> {
-    // SAFETY: the slice is what the engine is lent.
-    let said = unsafe { raw::hollytrot_record_decode(bytes.as_ptr(), bytes.len()) };
-    said.answer.result()?;
-    Ok(match said.letter as u8 {
+    // SAFETY: pointer and length are those of a slice.
+    let decoded = unsafe { raw::hollytrot_record_decode(bytes.as_ptr(), bytes.len()) };
+    decoded.answer.to_result()?;
+    Ok(match decoded.letter as u8 {
         b'A' => Record::Header(Header {
-            bank: said.header.bank,
-            date: dated(said.header.date),
-            sequence: said.header.sequence,
+            bank: decoded.header.bank,
+            date: date(decoded.header.date),
+            sequence: decoded.header.sequence,
         }),
         b'G' => Record::Payment(Payment {
-            paid: dated(said.payment.paid),
-            credited: dated(said.payment.credited),
-            barcode: Fields::of(said.payment.barcode),
-            received: said.payment.received,
-            tariff: said.payment.tariff,
-            number: said.payment.number,
+            paid: date(decoded.payment.paid),
+            credited: date(decoded.payment.credited),
+            barcode: Fields::from_raw(decoded.payment.barcode),
+            received: decoded.payment.received,
+            tariff: decoded.payment.tariff,
+            number: decoded.payment.number,
         }),
         _ => Record::Trailer(Trailer {
-            count: said.trailer.count,
-            total: said.trailer.total,
+            count: decoded.trailer.count,
+            total: decoded.trailer.total,
         }),
     })
 }
 
-/// A date of an accepted record: there is one.
-fn dated(date: raw::Date) -> Date {
-    Date::of(date).expect("an accepted record has its dates")
+/// A date of an accepted record, which always has its dates.
+fn date(date: raw::Date) -> Date {
+    Date::from_raw(date).expect("a date in an accepted record")
 }
 
-/// A field of an accepted record, as a part of it; the empty part of a refused record, for a row of another record and
-/// for a row past the table.
+/// The field of a row, as a part of an accepted record. The empty slice if the record is refused, and for a row of
+/// another letter or past the table.
 pub fn field(bytes: &[u8], row: Row) -> &[u8] {
-    // SAFETY: the slice is what the engine is lent.
+    // SAFETY: pointer and length are those of a slice.
     let part = unsafe { raw::hollytrot_record_field(bytes.as_ptr(), bytes.len(), row.0) };
     &bytes[part.from..part.from + part.length]
 }
 
-/// The joined fields of an accepted A, as the writer takes them.
+/// The field bytes of an accepted A: what [`Writer::header`](crate::Writer::header) takes for the same record.
 pub fn header_fields(bytes: &[u8]) -> Result<[u8; 78], Refusal> {
-    joined(bytes)
+    join(bytes)
 }
 
-/// The joined fields of an accepted G, as the writer takes them.
+/// The field bytes of an accepted G: what [`Writer::payment`](crate::Writer::payment) takes for the same record.
 pub fn payment_fields(bytes: &[u8]) -> Result<[u8; 121], Refusal> {
-    joined(bytes)
+    join(bytes)
 }
 
-fn joined<const N: usize>(bytes: &[u8]) -> Result<[u8; N], Refusal> {
+fn join<const N: usize>(bytes: &[u8]) -> Result<[u8; N], Refusal> {
     let mut out = [0; N];
-    // SAFETY: both slices are what the engine is lent, and `out` is ours alone.
+    // SAFETY: pointers and lengths are those of slices, and `out` overlaps no other.
     unsafe { raw::hollytrot_record_join(bytes.as_ptr(), bytes.len(), out.as_mut_ptr(), N) }
-        .result()?;
+        .to_result()?;
     Ok(out)
 }

@@ -1,95 +1,72 @@
-//! Refusals: a number of the specification's table, with a place.
+//! Refusals: a number of docs/SPEC.md, "Refusals", with a place.
 
 use std::fmt;
 
 use crate::raw;
 
-/// Why something was refused, in the order of the specification's numbers.
-#[derive(Clone, Copy, Debug, PartialEq, Eq, Hash)]
-#[repr(u8)]
-pub enum Reason {
-    WrongLength = 1,
-    NoDigit,
-    WrongProduct,
-    UnknownSegment,
-    UnknownKind,
-    WrongBoxCheck,
-    WrongGeneralCheck,
-    NoText,
-    NotExpected,
-    FixedDiffers,
-    NoDate,
-    UnknownCode,
-    CountDiffers,
-    TotalDiffers,
-    FileFull,
-    FileTotalPassed,
-    BoardFull,
-    BoardTotalPassed,
-    FileOpen,
-    CheckTwoPlaces,
-    TooWide,
+/// Defines [`Reason`] from one list: the name, the number and the words of each reason. The numbers need not be
+/// consecutive, and nothing depends on the order.
+macro_rules! reasons {
+    ($($name:ident = $number:literal, $words:literal;)*) => {
+        /// Why something was refused. Later versions of the specification may add reasons.
+        #[derive(Clone, Copy, Debug, PartialEq, Eq, Hash)]
+        #[non_exhaustive]
+        pub enum Reason {
+            $(#[doc = concat!(stringify!($number), ": ", $words, ".")] $name = $number,)*
+        }
+
+        impl Reason {
+            /// Every reason.
+            pub const ALL: &'static [Reason] = &[$(Reason::$name),*];
+
+            /// What is wrong, in words.
+            pub const fn words(self) -> &'static str {
+                match self {
+                    $(Reason::$name => $words,)*
+                }
+            }
+        }
+    };
 }
 
-/// The reasons, each with the table's words.
-const REASONS: [(Reason, &str); 21] = [
-    (Reason::WrongLength, "the length is not the one called for"),
-    (Reason::NoDigit, "a byte is no digit"),
-    (Reason::WrongProduct, "the product is not 8"),
-    (Reason::UnknownSegment, "the segment is not 1 to 7 or 9"),
-    (Reason::UnknownKind, "the value kind is not 6 to 9"),
-    (Reason::WrongBoxCheck, "the check of a box is wrong"),
-    (Reason::WrongGeneralCheck, "the general check is wrong"),
-    (Reason::NoText, "a byte is no text"),
-    (
-        Reason::NotExpected,
-        "the first byte names no record expected now",
-    ),
-    (Reason::FixedDiffers, "a fixed field differs"),
-    (Reason::NoDate, "eight digits are no date"),
-    (
-        Reason::UnknownCode,
-        "the capture or the payment form is unknown",
-    ),
-    (
-        Reason::CountDiffers,
-        "the trailer's count is not the file's",
-    ),
-    (
-        Reason::TotalDiffers,
-        "the trailer's total is not the file's",
-    ),
-    (
-        Reason::FileFull,
-        "the file has all the payments it can have",
-    ),
-    (
-        Reason::FileTotalPassed,
-        "the file's total would pass its limit",
-    ),
-    (Reason::BoardFull, "a new issuer, and all lanes are taken"),
-    (
-        Reason::BoardTotalPassed,
-        "a total of the board would pass its limit",
-    ),
-    (Reason::FileOpen, "the end with a file open"),
-    (Reason::CheckTwoPlaces, "a computed check needs two places"),
-    (Reason::TooWide, "a number is too wide for its field"),
-];
+reasons! {
+    WrongLength = 1, "the length is not the required one";
+    NoDigit = 2, "a byte is not a digit";
+    WrongProduct = 3, "the product is not 8";
+    UnknownSegment = 4, "the segment is not 1 to 7 or 9";
+    UnknownKind = 5, "the value kind is not 6 to 9";
+    WrongBoxCheck = 6, "the check of a box is wrong";
+    WrongGeneralCheck = 7, "the general check is wrong";
+    NoText = 8, "a byte is not a text byte";
+    NotExpected = 9, "the first byte names no record expected now";
+    FixedDiffers = 10, "a fixed field has other bytes";
+    NoDate = 11, "eight digits are not a date";
+    UnknownCode = 12, "the capture or the payment form is unknown";
+    CountDiffers = 13, "the trailer's count is not the file's";
+    TotalDiffers = 14, "the trailer's total is not the file's";
+    FileFull = 15, "the file has as many payments as a file can have";
+    FileTotalPassed = 16, "the file's total would pass its limit";
+    BoardFull = 17, "a new issuer when all lanes are in use";
+    BoardTotalPassed = 18, "a total of the board would pass its limit";
+    FileOpen = 19, "the end of the input while a file is open";
+    CheckTwoPlaces = 20, "a computed check digit needs two places";
+    TooWide = 21, "a number is too wide for its field";
+}
 
 impl Reason {
-    /// The number in the specification's table, 1 to 21.
-    pub const fn number(self) -> u8 {
-        self as u8
+    /// The number in docs/SPEC.md, "Refusals".
+    pub const fn number(self) -> u64 {
+        self as u64
     }
 
-    /// What is wrong, in words.
-    pub const fn words(self) -> &'static str {
-        REASONS[self as usize - 1].1
+    /// The reason with this number; `None` if there is none.
+    pub fn from_number(number: u64) -> Option<Reason> {
+        let mut all = Reason::ALL.iter().copied();
+        all.find(|reason| reason.number() == number)
     }
 }
 
-/// A refusal. Places count from 1 in what was read; 0 where a refusal has none.
+/// A refusal. Places count from 1; place 0 means that the refusal has none.
 #[derive(Clone, Copy, Debug, PartialEq, Eq, Hash)]
 pub struct Refusal {
     pub reason: Reason,
@@ -109,26 +86,63 @@ impl fmt::Display for Refusal {
 impl std::error::Error for Refusal {}
 
 impl raw::Answer {
-    pub(crate) fn result(self) -> Result<(), Refusal> {
-        let Some(before) = self.number.checked_sub(1) else {
+    /// The answer as a result. Panics at a number that is not in [`Reason`], which only a library of another version
+    /// can answer.
+    pub(crate) fn to_result(self) -> Result<(), Refusal> {
+        if self.number == 0 {
             return Ok(());
+        }
+        let Some(reason) = Reason::from_number(self.number) else {
+            panic!(
+                "the library answered {}, which hollytrot {} does not know: link the libhollytrot.a of this version",
+                self.number,
+                crate::VERSION
+            )
         };
-        // The engine has no number past 21.
-        let (reason, _) = REASONS[before as usize];
         Err(Refusal {
             reason,
             place: self.place,
         })
     }
 
-    pub(crate) fn of(answer: Result<(), Refusal>) -> raw::Answer {
-        let (number, place) = match answer {
-            Ok(()) => (0, 0),
-            Err(refusal) => (refusal.reason.number(), refusal.place),
-        };
-        raw::Answer {
-            number: number.into(),
-            place,
+    pub(crate) fn from_result(answer: Result<(), Refusal>) -> raw::Answer {
+        match answer {
+            Ok(()) => raw::Answer {
+                number: 0,
+                place: 0,
+            },
+            Err(refusal) => raw::Answer {
+                number: refusal.reason.number(),
+                place: refusal.place,
+            },
         }
+    }
+}
+
+#[cfg(test)]
+mod tests {
+    use super::*;
+
+    fn answer(number: u64) -> raw::Answer {
+        raw::Answer { number, place: 5 }
+    }
+
+    #[test]
+    fn every_reason_is_found_by_its_number() {
+        for &reason in Reason::ALL {
+            assert_eq!(Reason::from_number(reason.number()), Some(reason));
+            assert_eq!(
+                answer(reason.number()).to_result(),
+                Err(Refusal { reason, place: 5 })
+            );
+        }
+        assert_eq!(Reason::from_number(0), None);
+        assert_eq!(Reason::from_number(u64::MAX), None);
+    }
+
+    #[test]
+    #[should_panic(expected = "the library answered 1000, which hollytrot")]
+    fn an_unknown_number_panics() {
+        let _ = answer(1000).to_result();
     }
 }

@@ -1,15 +1,15 @@
-//! Sessions, the board, and the board on paper.
+//! Sessions, the board and the page: docs/SPEC.md, "Sessions", "Board" and "Page".
 
 use crate::raw;
 use crate::{Issuer, Refusal};
 
-/// The most lanes of a board.
+/// How many lanes a board has.
 pub const LANES: usize = 64;
 
-/// The page's buffer: no page is longer.
+/// The length of the page's buffer; no page is longer.
 const PAGE: usize = 8837;
 
-/// What a lane, or a board, adds up.
+/// The sums of a lane, or of a board.
 #[repr(C)]
 #[derive(Clone, Copy, Debug, PartialEq, Eq, Hash)]
 pub struct Tally {
@@ -51,13 +51,15 @@ impl Board {
     }
 }
 
-/// Takes the records of return files. A file's payments appear on the board together, when its trailer is accepted.
+/// Takes the records of return files. The payments of a file appear on the board together, when its trailer is
+/// accepted.
 #[derive(Clone, Debug, PartialEq, Eq)]
 pub struct Session(Box<raw::Session>);
 
-/// What a run over many records did before its end or its first refusal.
+/// The result of taking many records, up to the first refusal.
 #[derive(Clone, Copy, Debug, PartialEq, Eq)]
-pub struct Run {
+pub struct RunResult {
+    /// The first refusal, if there is one.
     pub answer: Result<(), Refusal>,
     /// Records accepted.
     pub records: u64,
@@ -72,60 +74,61 @@ impl Default for Session {
 }
 
 impl Session {
-    /// No file open, and an empty board.
+    /// A session with no file open and an empty board.
     pub fn new() -> Session {
-        // SAFETY: the engine asks nothing.
+        // SAFETY: the call has no arguments.
         Session(Box::new(unsafe { raw::hollytrot_session_new() }))
     }
 
-    /// Takes one record; a refusal leaves the session as it was.
+    /// Takes one record; a refusal does not change the session.
     pub fn take(&mut self, record: &[u8]) -> Result<(), Refusal> {
-        // SAFETY: the slice is what the engine is lent, and the session is one of its own.
-        let took = unsafe { raw::hollytrot_session_take(*self.0, record.as_ptr(), record.len()) };
-        *self.0 = took.session;
-        took.answer.result()
+        // SAFETY: pointer and length are those of a slice, and the session came from the engine.
+        let result = unsafe { raw::hollytrot_session_take(*self.0, record.as_ptr(), record.len()) };
+        *self.0 = result.session;
+        result.answer.to_result()
     }
 
-    /// Takes records that follow each other, until the first that is refused; those before it stand. A rest shorter
-    /// than a record is a record of wrong length: hand over whole records until the input ends.
-    pub fn run(&mut self, records: &[u8]) -> Run {
-        // SAFETY: the slice is what the engine is lent, and the session is one of its own.
-        let ran = unsafe { raw::hollytrot_session_run(*self.0, records.as_ptr(), records.len()) };
-        *self.0 = ran.session;
-        Run {
-            answer: ran.answer.result(),
-            records: ran.records,
-            files: ran.files,
+    /// Takes consecutive records up to the first that is refused; those before it remain accepted. A rest shorter than
+    /// a record is a record of the wrong length, so pass whole records until the input ends.
+    pub fn run(&mut self, records: &[u8]) -> RunResult {
+        // SAFETY: pointer and length are those of a slice, and the session came from the engine.
+        let result =
+            unsafe { raw::hollytrot_session_run(*self.0, records.as_ptr(), records.len()) };
+        *self.0 = result.session;
+        RunResult {
+            answer: result.answer.to_result(),
+            records: result.records,
+            files: result.files,
         }
     }
 
-    /// Drops an open file, and does nothing otherwise.
+    /// Drops the open file; does nothing if none is open.
     pub fn abandon(&mut self) {
-        // SAFETY: the session is one of the engine's own.
+        // SAFETY: the session came from the engine.
         *self.0 = unsafe { raw::hollytrot_session_abandon(*self.0) };
     }
 
-    /// The end of the input: refused while a file is open.
+    /// The end of the input: refused if a file is open.
     pub fn finish(&self) -> Result<(), Refusal> {
-        // SAFETY: the session is one of the engine's own.
+        // SAFETY: the session came from the engine.
         unsafe { raw::hollytrot_session_finish(*self.0) }
             .answer
-            .result()
+            .to_result()
     }
 
-    /// The board shown: accepted files only.
+    /// The board shown, which has accepted files only.
     pub fn board(&self) -> &Board {
         &self.0.shown
     }
 }
 
-/// The board on paper: an answer, the records and files accepted, then the board.
+/// The page: an answer, the records and files accepted, then the board.
 pub fn page(answer: Result<(), Refusal>, records: u64, files: u64, board: &Board) -> Vec<u8> {
     let mut out = vec![0; PAGE];
-    let answer = raw::Answer::of(answer);
-    // SAFETY: `out` is ours alone.
-    let printed =
+    let answer = raw::Answer::from_result(answer);
+    // SAFETY: pointer and length are those of `out`, which nothing else refers to.
+    let result =
         unsafe { raw::hollytrot_page(answer, records, files, *board, out.as_mut_ptr(), PAGE) };
-    out.truncate(printed.length);
+    out.truncate(result.length);
     out
 }

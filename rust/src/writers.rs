@@ -1,9 +1,9 @@
-//! The writer of one return file.
+//! The writer of one return file: docs/SPEC.md, "Writer".
 
 use crate::raw;
 use crate::{Refusal, RECORD};
 
-/// Makes a file record by record: the header, each payment, then the trailer with the true count and total.
+/// Writes a file record by record: the header, each payment, then the trailer with the file's own count and total.
 #[derive(Clone, Debug, PartialEq, Eq)]
 pub struct Writer(raw::Writer);
 
@@ -14,22 +14,22 @@ impl Default for Writer {
 }
 
 impl Writer {
-    /// A writer that has written nothing.
+    /// A new writer, which expects a header.
     pub fn new() -> Writer {
-        // SAFETY: the engine asks nothing.
+        // SAFETY: the call has no arguments.
         Writer(unsafe { raw::hollytrot_writer_new() })
     }
 
-    /// The A of 78 field bytes: places 3 to 79, and the service field's second byte, 79 or 211.
+    /// The A of 78 field bytes: those of places 3 to 79, and the second byte of the service field, 79 or 211.
     pub fn header(&mut self, fields: &[u8]) -> Result<[u8; RECORD], Refusal> {
         let (bytes, length) = (fields.as_ptr(), fields.len());
-        // SAFETY: both slices are what the engine is lent, and `out` is ours alone.
+        // SAFETY: pointers and lengths are those of slices, and `out` overlaps no other.
         self.write(|writer, out| unsafe {
             raw::hollytrot_writer_header(writer, bytes, length, out, RECORD)
         })
     }
 
-    /// The G of 121 field bytes, places 2 to 81 and 101 to 141, and two amounts in centavos.
+    /// The G of 121 field bytes, those of places 2 to 81 and 101 to 141, and the two amounts in centavos.
     pub fn payment(
         &mut self,
         fields: &[u8],
@@ -37,27 +37,27 @@ impl Writer {
         tariff: u64,
     ) -> Result<[u8; RECORD], Refusal> {
         let (bytes, length) = (fields.as_ptr(), fields.len());
-        // SAFETY: both slices are what the engine is lent, and `out` is ours alone.
+        // SAFETY: pointers and lengths are those of slices, and `out` overlaps no other.
         self.write(|writer, out| unsafe {
             raw::hollytrot_writer_payment(writer, bytes, length, received, tariff, out, RECORD)
         })
     }
 
-    /// The Z. Then the writer is closed.
+    /// The Z; the writer is closed then.
     pub fn trailer(&mut self) -> Result<[u8; RECORD], Refusal> {
-        // SAFETY: `out` is ours alone.
+        // SAFETY: pointer and length are those of `out`, which nothing else refers to.
         self.write(|writer, out| unsafe { raw::hollytrot_writer_trailer(writer, out, RECORD) })
     }
 
-    /// A record of a call that writes `RECORD` bytes; a refusal leaves the writer as it was.
+    /// The record that `call` writes into `RECORD` bytes; a refusal does not change the writer.
     fn write(
         &mut self,
-        call: impl FnOnce(raw::Writer, *mut u8) -> raw::Wrote,
+        call: impl FnOnce(raw::Writer, *mut u8) -> raw::WriteResult,
     ) -> Result<[u8; RECORD], Refusal> {
         let mut out = [0; RECORD];
-        let wrote = call(self.0, out.as_mut_ptr());
-        wrote.answer.result()?;
-        self.0 = wrote.writer;
+        let result = call(self.0, out.as_mut_ptr());
+        result.answer.to_result()?;
+        self.0 = result.writer;
         Ok(out)
     }
 }

@@ -1,4 +1,4 @@
-/* What the C programs here use of the C library's own stdio.h, for machines that have none for x86-64. */
+/* The declarations of <stdio.h> that the C programs here use, for machines that have no x86-64 headers. */
 #include <stddef.h>
 
 typedef struct _IO_FILE FILE;

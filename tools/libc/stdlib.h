@@ -1,4 +1,4 @@
-/* What the C programs here use of the C library's own stdlib.h, for machines that have none for x86-64. */
+/* The declarations of <stdlib.h> that the C programs here use, for machines that have no x86-64 headers. */
 #include <stddef.h>
 
 void *malloc(size_t);

@@ -1,17 +1,17 @@
-//! `days ISSUERS PAYMENTS`: so many payments on standard output, in files of at most 50,000, each of an issuer chosen at
-//! random. A longer day of as many issuers starts with the same payments.
+//! `days ISSUERS PAYMENTS`: writes a day of PAYMENTS payments to standard output, in files of at most 50,000, each of a
+//! random one of ISSUERS issuers. A longer day of as many issuers starts with the same payments.
 
 use std::error::Error;
 use std::io::{self, BufWriter, Write};
 
-use second::days;
-use second::random::Random;
-use second::Writer;
+use reference::days;
+use reference::random::Random;
+use reference::Writer;
 
-/// The board's and the files' sums have room for any number of such amounts that a day here has.
+/// Small enough that no day here passes the limit of a file or of the board.
 const AMOUNT_DIGITS: u32 = 10;
 
-const FILE: u64 = 50_000;
+const PAYMENTS_IN_FILE: u64 = 50_000;
 
 fn main() -> Result<(), Box<dyn Error>> {
     let arguments: Vec<u64> = std::env::args()
@@ -30,7 +30,7 @@ fn main() -> Result<(), Box<dyn Error>> {
         let mut writer = Writer::new();
         writer.header(&days::header_fields(random), &mut record)?;
         out.write_all(&record)?;
-        for _ in 0..left.min(FILE) {
+        for _ in 0..left.min(PAYMENTS_IN_FILE) {
             let issuer = issuers[random.index(issuers.len())];
             let code = days::barcode_of(random, issuer)?;
             let fields = days::payment_fields(random, &code);
@@ -40,7 +40,7 @@ fn main() -> Result<(), Box<dyn Error>> {
         }
         writer.trailer(&mut record)?;
         out.write_all(&record)?;
-        left -= left.min(FILE);
+        left -= left.min(PAYMENTS_IN_FILE);
     }
     Ok(out.flush()?)
 }

@@ -1,13 +1,13 @@
-//! `operations NAME ROUNDS <DAY`: one operation of the second program over all records of a file, so many times.
-//! operations.c does the same with the engine, and prints the same sum.
+//! `operations NAME ROUNDS <DAY`: one operation of the reference program on every record of a file, ROUNDS times. It
+//! prints a sum of decoded numbers. operations.c does the same with the engine and prints the same sum.
 
 use std::error::Error;
 use std::hint::black_box;
 use std::io::{self, Read};
 
-use second::{barcode, digits, line, records, Record, Refusal, Session, Writer};
+use reference::{barcode, digits, line, records, Record, Refusal, Session, Writer};
 
-/// What the operations are given, made before the rounds.
+/// The operations' inputs, prepared before the rounds.
 struct Inputs {
     day: Vec<u8>,
     codes: Vec<[u8; 44]>,
@@ -27,14 +27,14 @@ fn inputs(day: Vec<u8>) -> Result<Inputs, Refusal> {
         payments: Vec::new(),
     };
     let count = inputs.day.len() / 150;
-    records::joined(&inputs.day[..150], &mut inputs.header)?;
+    records::join(&inputs.day[..150], &mut inputs.header)?;
     for g in inputs.day.chunks(150).take(count - 1).skip(1) {
         let mut code = [0; 44];
         code.copy_from_slice(&g[37..81]);
         let mut typed = [0; 48];
         line::line_from_barcode(&code, &mut typed)?;
         let mut fields = [0; 121];
-        records::joined(g, &mut fields)?;
+        records::join(g, &mut fields)?;
         let amount = |part| digits::number(part).unwrap_or(0);
         inputs.codes.push(code);
         inputs.lines.push(typed);
@@ -46,19 +46,19 @@ fn inputs(day: Vec<u8>) -> Result<Inputs, Refusal> {
 }
 
 fn round(name: &str, inputs: &mut Inputs) -> Result<u64, Box<dyn Error>> {
-    let said = |code: barcode::Barcode| {
-        code.value + code.issuer + code.due.map_or(0, |due| due.day().into())
+    let sum_of_fields = |fields: barcode::Barcode| {
+        fields.value + fields.issuer + fields.due.map_or(0, |due| due.day().into())
     };
     let mut sum = 0;
     match name {
         "barcode" => {
             for code in &inputs.codes {
-                sum += said(barcode::decode(black_box(code))?);
+                sum += sum_of_fields(barcode::decode(black_box(code))?);
             }
         }
         "line" => {
             for typed in &inputs.lines {
-                sum += said(line::decode(black_box(typed))?);
+                sum += sum_of_fields(line::decode(black_box(typed))?);
             }
         }
         "record" => {
@@ -79,13 +79,13 @@ fn round(name: &str, inputs: &mut Inputs) -> Result<u64, Box<dyn Error>> {
         }
         "run" => {
             let mut session = Session::new();
-            session.take_many(black_box(&inputs.day)).answer?;
+            session.run(black_box(&inputs.day)).answer?;
             sum += session.board().centavos;
         }
         "write" => {
             let mut writer = Writer::new();
             let mut out = inputs.written.chunks_mut(150);
-            let mut next = || out.next().ok_or("too short a room");
+            let mut next = || out.next().ok_or("the buffer is too short");
             writer.header(black_box(&inputs.header), next()?)?;
             for (fields, received, tariff) in &inputs.payments {
                 writer.payment(black_box(fields), *received, *tariff, next()?)?;

@@ -1,6 +1,6 @@
-//! `race ROUNDS INPUT PROGRAM..`: runs the programs in turn, so many rounds, each with INPUT as standard input and its
-//! output to nowhere. One line for each program: its least time in nanoseconds and its peak memory in KiB, which is at
-//! least this program's own. A PROGRAM is one word of the shell; blanks part its own words.
+//! `race ROUNDS INPUT PROGRAM..`: runs the programs in turn, ROUNDS times, with INPUT as standard input and without
+//! output. It prints one line for each program: the least time in nanoseconds and the peak memory in KiB, which is at
+//! least that of this program. A PROGRAM may have arguments, separated by blanks.
 
 use std::error::Error;
 use std::fs::File;
@@ -25,15 +25,15 @@ fn main() -> Result<(), Box<dyn Error>> {
     let [rounds, input, programs @ ..] = &words[..] else {
         return Err("race ROUNDS INPUT PROGRAM..".into());
     };
-    let mut found = vec![(u128::MAX, 0); programs.len()];
+    let mut least_and_peak = vec![(u128::MAX, 0); programs.len()];
     for _ in 0..rounds.parse()? {
-        for (program, (least, peak)) in programs.iter().zip(&mut found) {
+        for (program, (least, peak)) in programs.iter().zip(&mut least_and_peak) {
             let (time, memory) = run(program, File::open(input)?)?;
             *least = time.min(*least);
             *peak = memory.max(*peak);
         }
     }
-    for (time, memory) in found {
+    for (time, memory) in least_and_peak {
         println!("{time} {memory}");
     }
     Ok(())
@@ -49,7 +49,7 @@ fn run(program: &str, input: File) -> Result<(u128, i64), Box<dyn Error>> {
         .spawn()?;
     let mut usage = Usage::default();
     let mut status = 0;
-    // The standard library's own wait does not tell the memory.
+    // The standard library's wait does not return the memory.
     let waited = unsafe { wait4(child.id() as i32, &mut status, 0, &mut usage) };
     let time = start.elapsed().as_nanos();
     if waited < 0 || status != 0 {

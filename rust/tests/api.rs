@@ -1,0 +1,174 @@
+//! Known values through every type of the crate, with some of docs/SPEC.md, "Samples".
+
+use hollytrot::record::{self, Row};
+use hollytrot::{
+    barcode, check_digit, line, page, Date, Fields, Issuer, Modulus, Reason, Record, Refusal,
+    Session, Writer,
+};
+
+const P4: &[u8] = b"817700000000010936599702411310797039001433708318";
+
+const HEADER: &[u8; 78] =
+    b"AGREEMENT           COMPANY             237BANK                20231231004321O";
+
+fn refused(reason: Reason, place: usize) -> Refusal {
+    Refusal { reason, place }
+}
+
+/// A barcode of segment 6, where issuer and free field have other widths than elsewhere.
+fn code() -> [u8; 44] {
+    let issuer = Issuer {
+        segment: 6,
+        number: 12_345_678,
+    };
+    barcode::build(issuer, 8, 98_765_432_109, b"202402291234567890123").expect("good fields")
+}
+
+fn payment_of(code: &[u8]) -> [u8; 121] {
+    let mut fields = [b' '; 121];
+    fields[20..36].copy_from_slice(b"2024010220240304");
+    fields[36..80].copy_from_slice(code);
+    fields[80..88].copy_from_slice(b"00056789");
+    fields[96] = b'a';
+    fields[120] = b'2';
+    fields
+}
+
+#[test]
+fn refusals_say_number_place_and_reason() {
+    let refusal = line::check(&P4[..47]).unwrap_err();
+    assert_eq!(
+        refusal.to_string(),
+        "refused 1: the length is not the required one"
+    );
+    let mut p6 = P4.to_vec();
+    p6[47] = b'9';
+    assert_eq!(line::decode(&p6), Err(refused(Reason::WrongBoxCheck, 48)));
+    assert_eq!(
+        line::to_barcode(&p6).unwrap_err().to_string(),
+        "refused 6 at place 48: the check of a box is wrong"
+    );
+}
+
+#[test]
+fn lines_and_barcodes() {
+    let fields = line::decode(P4).expect("accepted");
+    let issuer = Issuer {
+        segment: 1,
+        number: 3659,
+    };
+    assert_eq!(
+        fields,
+        Fields {
+            kind: 7,
+            value: 109,
+            issuer,
+            due: None
+        }
+    );
+    let code44 = line::to_barcode(P4).expect("accepted");
+    assert_eq!(line::from_barcode(&code44).expect("accepted"), P4);
+    assert_eq!(barcode::decode(&code44), Ok(fields));
+    assert_eq!(barcode::free_field(&code44), &code44[19..]);
+    assert_eq!(barcode::free_field(&code44[..43]), b"");
+
+    let fields = barcode::decode(&code()).expect("accepted");
+    assert_eq!((fields.kind, fields.value), (8, 98_765_432_109));
+    assert_eq!(fields.due, Date::new(2024, 2, 29));
+    assert_eq!(barcode::free_field(&code()), b"202402291234567890123");
+    assert_eq!(
+        barcode::build(issuer, 7, 0, b""),
+        Err(refused(Reason::WrongLength, 0))
+    );
+}
+
+#[test]
+fn dates_and_check_digits() {
+    let date = Date::read(b"20000229").expect("P10");
+    assert_eq!((date.year(), date.month(), date.day()), (2000, 2, 29));
+    assert_eq!(date.to_string(), "2000-02-29");
+    assert_eq!(Date::read(b"19000229"), None);
+    assert_eq!(Date::new(2100, 2, 29), None);
+    assert_eq!(check_digit(Modulus::Ten, b"01230067896"), 3);
+    assert_eq!(check_digit(Modulus::Eleven, b"01230067896"), 0);
+}
+
+#[test]
+fn a_file_written_and_taken() {
+    let mut writer = Writer::new();
+    assert_eq!(writer.trailer(), Err(refused(Reason::NotExpected, 1)));
+    let a = writer.header(HEADER).expect("a good header");
+    let g = writer
+        .payment(&payment_of(&code()), 4_294_967_296, 789)
+        .expect("a good payment");
+    let wide = writer.payment(&payment_of(&code()), 1_000_000_000_000, 0);
+    assert_eq!(wide, Err(refused(Reason::TooWide, 82)));
+    let z = writer.trailer().expect("an open file");
+    assert_eq!(writer.trailer(), Err(refused(Reason::NotExpected, 1)));
+
+    let Ok(Record::Header(header)) = record::decode(&a) else {
+        panic!("an A")
+    };
+    assert_eq!((header.bank, header.sequence), (237, 4321));
+    assert_eq!(header.date, Date::new(2023, 12, 31).unwrap());
+    assert_eq!(record::header_fields(&a).unwrap(), *HEADER);
+    let Ok(Record::Payment(payment)) = record::decode(&g) else {
+        panic!("a G")
+    };
+    assert_eq!(
+        (payment.received, payment.tariff, payment.number),
+        (4_294_967_296, 789, 56_789)
+    );
+    assert_eq!(payment.paid, Date::new(2024, 1, 2).unwrap());
+    assert_eq!(payment.credited, Date::new(2024, 3, 4).unwrap());
+    assert_eq!(Ok(payment.barcode), barcode::decode(&code()));
+    assert_eq!(record::payment_fields(&g).unwrap(), payment_of(&code()));
+    assert_eq!(
+        record::payment_fields(&a),
+        Err(refused(Reason::WrongLength, 0))
+    );
+    assert_eq!(record::check(&g), Ok(()));
+    assert_eq!(record::check(&g[1..]), Err(refused(Reason::WrongLength, 0)));
+    assert_eq!(record::field(&g, Row::RECEIVED), b"004294967296");
+    assert_eq!(record::field(&g, Row::BANK), b"");
+    let Ok(Record::Trailer(trailer)) = record::decode(&z) else {
+        panic!("a Z")
+    };
+    assert_eq!((trailer.count, trailer.total), (3, 4_294_967_296));
+
+    let mut session = Session::new();
+    assert_eq!(session.take(&g), Err(refused(Reason::NotExpected, 1)));
+    session.take(&a).expect("expected now");
+    session.take(&g).expect("expected now");
+    assert_eq!(session.finish(), Err(refused(Reason::FileOpen, 0)));
+    assert_eq!(session.board().lanes(), []);
+    let result = session.run(&z);
+    assert_eq!(
+        (result.answer, result.records, result.files),
+        (Ok(()), 1, 1)
+    );
+    let issuer = Issuer {
+        segment: 6,
+        number: 12_345_678,
+    };
+    let lane = session.board().lane(issuer).expect("its lane");
+    assert_eq!(
+        (lane.tally.payments, lane.tally.centavos),
+        (1, 4_294_967_296)
+    );
+    assert_eq!(session.board().total(), lane.tally);
+
+    session.take(&a).expect("another file");
+    session.abandon();
+    assert_eq!(session.finish(), Ok(()));
+    let text = "answer=0\nplace=0\nrecord=3\nfiles=1\nlanes=1\npayments=1\ncentavos=4294967296\n\
+                lane=1\nissuer=6-12345678\npayments=1\ncentavos=4294967296\n";
+    assert_eq!(page(Ok(()), 3, 1, session.board()), text.as_bytes());
+    let text = page(
+        Err(refused(Reason::TotalDiffers, 8)),
+        2,
+        0,
+        Session::new().board(),
+    );
+    assert_eq!(&text[..18], b"answer=14\nplace=8\n");
+}

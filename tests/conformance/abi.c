@@ -1,0 +1,336 @@
+/* Compares the declarations of hollytrot.h with the library: sizes and offsets, and a known value through every field
+ * of every struct, as an argument and as a result. */
+#include <hollytrot.h>
+#include <stdio.h>
+#include <string.h>
+
+#define AT(type, field, offset) _Static_assert(offsetof(type, field) == (offset), #type "." #field)
+#define SIZE(type, size) _Static_assert(sizeof(type) == (size), #type)
+
+SIZE(hollytrot_answer, 16);
+AT(hollytrot_answer, place, 8);
+SIZE(hollytrot_part, 16);
+AT(hollytrot_part, length, 8);
+SIZE(hollytrot_date, 24);
+AT(hollytrot_date, month, 8);
+AT(hollytrot_date, day, 16);
+SIZE(hollytrot_issuer, 16);
+AT(hollytrot_issuer, number, 8);
+SIZE(hollytrot_fields, 56);
+AT(hollytrot_fields, value, 8);
+AT(hollytrot_fields, issuer, 16);
+AT(hollytrot_fields, due, 32);
+SIZE(hollytrot_decoded, 72);
+AT(hollytrot_decoded, fields, 16);
+SIZE(hollytrot_header, 40);
+AT(hollytrot_header, date, 8);
+AT(hollytrot_header, sequence, 32);
+SIZE(hollytrot_payment, 128);
+AT(hollytrot_payment, credited, 24);
+AT(hollytrot_payment, barcode, 48);
+AT(hollytrot_payment, received, 104);
+AT(hollytrot_payment, tariff, 112);
+AT(hollytrot_payment, number, 120);
+SIZE(hollytrot_trailer, 16);
+AT(hollytrot_trailer, total, 8);
+SIZE(hollytrot_record, 208);
+AT(hollytrot_record, letter, 16);
+AT(hollytrot_record, header, 24);
+AT(hollytrot_record, payment, 64);
+AT(hollytrot_record, trailer, 192);
+SIZE(hollytrot_file, 16);
+AT(hollytrot_file, total, 8);
+SIZE(hollytrot_writer, 24);
+AT(hollytrot_writer, file, 8);
+SIZE(hollytrot_write_result, 40);
+AT(hollytrot_write_result, writer, 16);
+SIZE(hollytrot_tally, 16);
+AT(hollytrot_tally, centavos, 8);
+SIZE(hollytrot_lane, 32);
+AT(hollytrot_lane, tally, 16);
+SIZE(hollytrot_board, 2072);
+AT(hollytrot_board, used, 2048);
+AT(hollytrot_board, total, 2056);
+SIZE(hollytrot_session, 4168);
+AT(hollytrot_session, work, 2072);
+AT(hollytrot_session, opened, 4144);
+AT(hollytrot_session, file, 4152);
+SIZE(hollytrot_take_result, 4184);
+AT(hollytrot_take_result, session, 16);
+SIZE(hollytrot_run_result, 4200);
+AT(hollytrot_run_result, session, 16);
+AT(hollytrot_run_result, records, 4184);
+AT(hollytrot_run_result, files, 4192);
+SIZE(hollytrot_page_result, 24);
+AT(hollytrot_page_result, length, 16);
+
+static int checks, failures;
+
+#define SAME(found, wanted) same(__LINE__, #found, (found), (wanted))
+
+static void same(int line, const char *what, uint64_t found, uint64_t wanted)
+{
+    checks++;
+    if (found != wanted) {
+        failures++;
+        fprintf(stderr, "abi.c:%d: %s is %lu, not %lu\n", line, what, (unsigned long)found, (unsigned long)wanted);
+    }
+}
+
+static void same_bytes(int line, const void *found, const void *wanted, size_t length)
+{
+    checks++;
+    if (memcmp(found, wanted, length) != 0) {
+        failures++;
+        fprintf(stderr, "abi.c:%d: bytes differ\n", line);
+    }
+}
+
+static const uint8_t *text(const char *s) { return (const uint8_t *)s; }
+
+static void same_answer(hollytrot_answer found, uint64_t number, size_t place)
+{
+    SAME(found.number, number);
+    SAME(found.place, place);
+}
+
+/* A barcode of segment 6, where issuer and free field have other widths than elsewhere. */
+static uint8_t code[44];
+
+static void barcodes(void)
+{
+    hollytrot_issuer issuer = {6, 12345678};
+    same_answer(hollytrot_barcode_build(issuer, 8, 98765432109, text("202402291234567890123"), 21, code, 44), 0, 0);
+    same_bytes(__LINE__, code, "868", 3);
+    same_bytes(__LINE__, code + 4, "98765432109" "12345678" "202402291234567890123", 40);
+    issuer.segment = 1;
+    same_answer(hollytrot_barcode_build(issuer, 8, 1, text("2024022912345678901230000"), 25, code, 44), 21, 16);
+
+    hollytrot_decoded decoded = hollytrot_barcode_decode(code, 44);
+    same_answer(decoded.answer, 0, 0);
+    SAME(decoded.fields.kind, 8);
+    SAME(decoded.fields.value, 98765432109);
+    SAME(decoded.fields.issuer.segment, 6);
+    SAME(decoded.fields.issuer.number, 12345678);
+    SAME(decoded.fields.due.year, 2024);
+    SAME(decoded.fields.due.month, 2);
+    SAME(decoded.fields.due.day, 29);
+
+    hollytrot_part part = hollytrot_barcode_free_field(code, 44);
+    SAME(part.from, 23);
+    SAME(part.length, 21);
+}
+
+static void dates(void)
+{
+    hollytrot_date date = hollytrot_date_read(text("19991130"), 8);
+    SAME(date.year, 1999);
+    SAME(date.month, 11);
+    SAME(date.day, 30);
+    SAME(hollytrot_date_check((hollytrot_date){2000, 2, 29}), true);
+    SAME(hollytrot_date_check((hollytrot_date){2001, 2, 29}), false);
+    SAME(hollytrot_date_check((hollytrot_date){2000, 13, 29}), false);
+    SAME(hollytrot_date_check((hollytrot_date){2000, 2, 30}), false);
+    SAME(hollytrot_check_ten(text("01230067896"), 11), 3);
+    SAME(hollytrot_check_eleven(text("01230067896"), 11), 0);
+}
+
+static uint8_t a[150], g[150], z[150];
+
+/* The three records, written by a writer with a value in each of its fields. */
+static void writers(void)
+{
+    hollytrot_writer writer = hollytrot_writer_new();
+    SAME(writer.stage, 0);
+    SAME(writer.file.taken, 0);
+    SAME(writer.file.total, 0);
+    const char *header = "AGREEMENT           COMPANY             237BANK                20231231004321O";
+    hollytrot_write_result result = hollytrot_writer_header(writer, text(header), 78, a, 150);
+    same_answer(result.answer, 0, 0);
+    SAME(result.writer.stage, 1);
+
+    uint8_t fields[121];
+    memset(fields, ' ', 121);
+    memcpy(fields + 20, "2024010220240304", 16);
+    memcpy(fields + 36, code, 44);
+    memcpy(fields + 80, "00056789", 8);
+    fields[96] = 'a';
+    fields[120] = '2';
+    writer = (hollytrot_writer){1, {7, 1000}};
+    result = hollytrot_writer_payment(writer, fields, 121, 123456, 789, g, 150);
+    same_answer(result.answer, 0, 0);
+    SAME(result.writer.stage, 1);
+    SAME(result.writer.file.taken, 8);
+    SAME(result.writer.file.total, 124456);
+
+    result = hollytrot_writer_trailer(result.writer, z, 150);
+    same_answer(result.answer, 0, 0);
+    SAME(result.writer.stage, 2);
+    same_bytes(__LINE__, z, "Z00001000000000000124456 ", 25);
+    /* a closed writer with another stage number is returned unchanged */
+    writer = (hollytrot_writer){77, {8, 9}};
+    result = hollytrot_writer_trailer(writer, z, 150);
+    same_answer(result.answer, 9, 1);
+    SAME(result.writer.stage, 77);
+    SAME(result.writer.file.taken, 8);
+    SAME(result.writer.file.total, 9);
+}
+
+static void records(void)
+{
+    hollytrot_record record = hollytrot_record_decode(a, 150);
+    same_answer(record.answer, 0, 0);
+    SAME(record.letter, 'A');
+    SAME(record.header.bank, 237);
+    SAME(record.header.date.year, 2023);
+    SAME(record.header.date.month, 12);
+    SAME(record.header.date.day, 31);
+    SAME(record.header.sequence, 4321);
+
+    record = hollytrot_record_decode(g, 150);
+    SAME(record.letter, 'G');
+    SAME(record.payment.paid.year, 2024);
+    SAME(record.payment.paid.month, 1);
+    SAME(record.payment.paid.day, 2);
+    SAME(record.payment.credited.year, 2024);
+    SAME(record.payment.credited.month, 3);
+    SAME(record.payment.credited.day, 4);
+    SAME(record.payment.barcode.kind, 8);
+    SAME(record.payment.barcode.value, 98765432109);
+    SAME(record.payment.barcode.issuer.segment, 6);
+    SAME(record.payment.barcode.issuer.number, 12345678);
+    SAME(record.payment.barcode.due.year, 2024);
+    SAME(record.payment.barcode.due.month, 2);
+    SAME(record.payment.barcode.due.day, 29);
+    SAME(record.payment.received, 123456);
+    SAME(record.payment.tariff, 789);
+    SAME(record.payment.number, 56789);
+
+    record = hollytrot_record_decode(z, 150);
+    SAME(record.letter, 'Z');
+    SAME(record.trailer.count, 10);
+    SAME(record.trailer.total, 124456);
+    record = hollytrot_record_decode(z, 149);
+    same_answer(record.answer, 1, 0);
+    SAME(record.letter, 0);
+
+    hollytrot_part part = hollytrot_record_field(g, 150, HOLLYTROT_G_RECEIVED);
+    SAME(part.from, 81);
+    SAME(part.length, 12);
+}
+
+/* A board with a different number in each of its fields. */
+static hollytrot_board numbered_board(uint64_t from)
+{
+    hollytrot_board board;
+    for (size_t i = 0; i < HOLLYTROT_LANES; i++) {
+        board.lanes[i].issuer.segment = from + 10 * i;
+        board.lanes[i].issuer.number = from + 10 * i + 1;
+        board.lanes[i].tally.payments = from + 10 * i + 2;
+        board.lanes[i].tally.centavos = from + 10 * i + 3;
+    }
+    board.used = 3;
+    board.total.payments = from + 4;
+    board.total.centavos = from + 5;
+    return board;
+}
+
+static void same_session(int line, const hollytrot_session *found, const hollytrot_session *wanted)
+{
+    same_bytes(line, &found->shown, &wanted->shown, sizeof(hollytrot_board));
+    same_bytes(line, &found->work, &wanted->work, sizeof(hollytrot_board));
+    SAME(found->opened, wanted->opened);
+    SAME(found->file.taken, wanted->file.taken);
+    SAME(found->file.total, wanted->file.total);
+}
+
+static void sessions(void)
+{
+    hollytrot_session session = {numbered_board(100000), numbered_board(200000), true, {8, 1000}};
+    hollytrot_take_result result = hollytrot_session_finish(session);
+    same_answer(result.answer, 19, 0);
+    same_session(__LINE__, &result.session, &session);
+
+    hollytrot_board board = hollytrot_session_board(session);
+    same_bytes(__LINE__, &board, &session.shown, sizeof board);
+
+    /* a payment of the issuer in the second lane of the working board */
+    session.work.lanes[1].issuer = (hollytrot_issuer){6, 12345678};
+    hollytrot_session after = session;
+    after.work.lanes[1].tally.payments += 1;
+    after.work.lanes[1].tally.centavos += 123456;
+    after.work.total.payments += 1;
+    after.work.total.centavos += 123456;
+    after.file = (hollytrot_file){9, 124456};
+    result = hollytrot_session_take(session, g, 150);
+    same_answer(result.answer, 0, 0);
+    same_session(__LINE__, &result.session, &after);
+
+    /* two payments, and a trailer whose count is wrong */
+    uint8_t three[450];
+    memcpy(three, g, 150);
+    memcpy(three + 150, g, 150);
+    memcpy(three + 300, z, 150);
+    hollytrot_run_result run = hollytrot_session_run(session, three, 450);
+    same_answer(run.answer, 13, 2);
+    SAME(run.records, 2);
+    SAME(run.files, 0);
+    SAME(run.session.file.taken, 10);
+    SAME(run.session.file.total, 247912);
+    SAME(run.session.work.lanes[1].tally.payments, session.work.lanes[1].tally.payments + 2);
+    /* the right trailer closes the file, and the board shown is then the working board */
+    session.file = (hollytrot_file){7, 1000};
+    memcpy(three + 150, z, 150);
+    run = hollytrot_session_run(session, three, 300);
+    same_answer(run.answer, 0, 0);
+    SAME(run.records, 2);
+    SAME(run.files, 1);
+    SAME(run.session.opened, false);
+    SAME(run.session.shown.lanes[1].tally.centavos, session.work.lanes[1].tally.centavos + 123456);
+
+    after = hollytrot_session_abandon(session);
+    session.work = session.shown;
+    session.opened = false;
+    session.file = (hollytrot_file){0, 0};
+    same_session(__LINE__, &after, &session);
+    after = hollytrot_session_new();
+    SAME(after.opened, false);
+    SAME(after.shown.used, 0);
+}
+
+static void pages(void)
+{
+    static uint8_t page[HOLLYTROT_PAGE];
+    const char wanted[] = "answer=14\nplace=8\nrecord=11\nfiles=12\nlanes=3\npayments=54\ncentavos=55\n"
+                          "lane=1\nissuer=50-0051\npayments=52\ncentavos=53\n"
+                          "lane=2\nissuer=60-0061\npayments=62\ncentavos=63\n"
+                          "lane=3\nissuer=70-0071\npayments=72\ncentavos=73\n";
+    size_t length = sizeof wanted - 1;
+    hollytrot_board board = numbered_board(50);
+    hollytrot_page_result result = hollytrot_page((hollytrot_answer){14, 8}, 11, 12, board, page, HOLLYTROT_PAGE);
+    same_answer(result.answer, 0, 0);
+    SAME(result.length, length);
+    same_bytes(__LINE__, page, wanted, length);
+    /* an answer of any number and any place */
+    const char largest[] = "answer=18446744073709551615\nplace=18446744073709551614\nrecord=11\n";
+    hollytrot_answer answer = {UINT64_MAX, SIZE_MAX - 1};
+    result = hollytrot_page(answer, 11, 12, board, page, HOLLYTROT_PAGE);
+    same_answer(result.answer, 0, 0);
+    SAME(result.length, length + 18 + 19);
+    same_bytes(__LINE__, page, largest, sizeof largest - 1);
+    result = hollytrot_page(answer, 11, 12, board, page, HOLLYTROT_PAGE - 1);
+    same_answer(result.answer, 1, 0);
+    SAME(result.length, 0);
+}
+
+int main(void)
+{
+    barcodes();
+    dates();
+    writers();
+    records();
+    sessions();
+    pages();
+    printf("abi: %d values compared, %d wrong\n", checks, failures);
+    return failures != 0;
+}

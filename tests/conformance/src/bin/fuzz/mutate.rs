@@ -1,0 +1,221 @@
+//! Mutations of an input: of bytes, of ranges of bytes, and of the records and fields in it.
+
+use conformance::inputs::Kind;
+use reference::digits;
+use reference::random::Random;
+use reference::records::{LENGTH, TABLE};
+
+use crate::places;
+use crate::repair::repair;
+
+/// The length of the longest input.
+const MOST_BYTES: usize = 1 << 14;
+
+/// Bytes at the edges of their classes.
+const BYTES: &[u8] = b"\0\x01\x1f /09:@AGOZ[`az~\x7f\x80\x9f\xa0\xd3\xff";
+
+/// Numbers at the edges of their widths and limits.
+pub const EDGES: [u64; 34] = [
+    0,
+    1,
+    2,
+    6,
+    9,
+    10,
+    12,
+    28,
+    29,
+    30,
+    31,
+    63,
+    64,
+    65,
+    150,
+    1899,
+    1900,
+    2000,
+    2100,
+    2199,
+    2200,
+    9_999,
+    10_000,
+    999_997,
+    999_998,
+    9_999_999,
+    99_999_999,
+    1 << 32,
+    99_999_999_999,
+    999_999_999_999,
+    99_999_999_999_999_999,
+    1_000_000_000_000_000_000,
+    u64::MAX - 1,
+    u64::MAX,
+];
+
+/// A number at an edge, next to one, somewhat below one, or any.
+fn edge(random: &mut Random) -> u64 {
+    let edge = EDGES[random.index(EDGES.len())];
+    match random.below(8) {
+        0 => random.bits(),
+        1 => edge.wrapping_add(1),
+        2 => edge.wrapping_sub(1),
+        3 => edge.wrapping_sub(random.number(12)),
+        _ => edge,
+    }
+}
+
+/// A new input of a kind, from one input without its first byte and parts of another.
+pub fn mutate(random: &mut Random, kind: Kind, one: &[u8], other: &[u8]) -> Vec<u8> {
+    let mut bytes = one.to_vec();
+    for _ in 0..1 << random.below(4) {
+        match random.below(12) {
+            0 => records(random, kind, &mut bytes, other),
+            1 | 2 => field(random, kind, &mut bytes, other),
+            3 | 4 => range(random, &mut bytes, other),
+            5 | 6 => number(random, kind, &mut bytes),
+            7 => date(random, kind, &mut bytes),
+            _ => byte(random, &mut bytes),
+        }
+    }
+    if random.once_in(2) {
+        repair(kind, &mut bytes);
+    }
+    bytes.truncate(MOST_BYTES);
+    bytes.insert(0, kind as u8);
+    bytes
+}
+
+/// Changes one byte, or swaps two.
+fn byte(random: &mut Random, bytes: &mut [u8]) {
+    let i = random.index(bytes.len());
+    let j = random.index(bytes.len());
+    let Some(here) = bytes.get_mut(i) else {
+        return;
+    };
+    match random.below(8) {
+        0 => *here = random.byte(),
+        1 | 2 => *here = random.one_of(BYTES),
+        3 => *here = here.wrapping_add(1),
+        4 => *here = here.wrapping_sub(1),
+        5 => bytes.swap(i, j),
+        6 => bytes[i.saturating_sub(1)..=i].rotate_left(1),
+        _ => *here = random.digit(),
+    }
+}
+
+/// A range of the bytes, mostly short.
+fn part(random: &mut Random, bytes: &[u8]) -> std::ops::Range<usize> {
+    let from = random.index(bytes.len());
+    let most = [4, 16, 200][random.index(3)];
+    from..bytes.len().min(from + 1 + random.index(most))
+}
+
+/// Drops, inserts, replaces, doubles or fills a range of bytes, or takes over the end of the other input.
+fn range(random: &mut Random, bytes: &mut Vec<u8>, other: &[u8]) {
+    let here = part(random, bytes);
+    match random.below(6) {
+        0 => drop(bytes.drain(here)),
+        1 => drop(bytes.splice(here.start..here.start, other[part(random, other)].to_vec())),
+        2 => drop(bytes.splice(here, other[part(random, other)].to_vec())),
+        3 => {
+            let again = bytes[here.clone()].to_vec();
+            bytes.splice(here.start..here.start, again);
+        }
+        4 => {
+            let rest = other.get(here.start..).unwrap_or_default();
+            bytes.truncate(here.start);
+            bytes.extend_from_slice(rest);
+        }
+        _ => bytes[here].fill(random.one_of(b"0099 \xff")),
+    }
+}
+
+/// Replaces a number by one at an edge.
+fn number(random: &mut Random, kind: Kind, bytes: &mut [u8]) {
+    let places = places::numbers(kind, bytes);
+    let place = places.get(random.index(places.len()));
+    match place.and_then(|&place| bytes.get_mut(place..place + 8)) {
+        Some(number) => number.copy_from_slice(&edge(random).to_le_bytes()),
+        None => byte(random, bytes),
+    }
+}
+
+/// Replaces a date by one at the end of a month, of a century or of the calendar, or just past it.
+fn date(random: &mut Random, kind: Kind, bytes: &mut [u8]) {
+    let mut one_of = |edges: &[u64]| edges[random.index(edges.len())];
+    let year = one_of(&[1899, 1900, 2000, 2023, 2024, 2100, 2199, 2200]);
+    let day = one_of(&[1, 100, 101, 131, 132, 228, 229, 230, 430, 431, 1231, 1301]);
+    if kind == Kind::DateNumbers {
+        let numbers = [year, day / 100, day % 100];
+        for (to, number) in bytes.chunks_exact_mut(8).zip(numbers) {
+            to.copy_from_slice(&number.to_le_bytes());
+        }
+        return;
+    }
+    let places = places::dates(kind, bytes);
+    let place = places.get(random.index(places.len()));
+    match place.and_then(|&place| bytes.get_mut(place..place + 8)) {
+        Some(date) => drop(digits::write(year * 10_000 + day, date)),
+        None => byte(random, bytes),
+    }
+}
+
+/// The index of one of the records, if there are any.
+fn place(random: &mut Random, kind: Kind, length: usize) -> Option<usize> {
+    let count = places::records(kind, length).count();
+    places::records(kind, length).nth(random.index(count))
+}
+
+/// Drops, doubles or moves a record, or inserts one of the other input.
+fn records(random: &mut Random, kind: Kind, bytes: &mut Vec<u8>, other: &[u8]) {
+    let step = match kind {
+        Kind::Run => LENGTH,
+        Kind::Take | Kind::ArbitrarySession => LENGTH + 1,
+        _ => return range(random, bytes, other),
+    };
+    let record = |bytes: &[u8], place: usize| {
+        let end = bytes.len().min(place + step);
+        bytes[place..end].to_vec()
+    };
+    let (Some(here), Some(there)) = (
+        place(random, kind, bytes.len()),
+        place(random, kind, other.len()),
+    ) else {
+        return;
+    };
+    let end = bytes.len().min(here + step);
+    match random.below(4) {
+        0 => drop(bytes.drain(here..end)),
+        1 => drop(bytes.splice(here..here, record(bytes, here))),
+        2 => drop(bytes.splice(here..here, record(other, there))),
+        _ => bytes[here..].rotate_left(end - here),
+    }
+}
+
+/// Replaces a field of a record by that of another record, by a number at an edge, or by one repeated byte.
+fn field(random: &mut Random, kind: Kind, bytes: &mut [u8], other: &[u8]) {
+    let (Some(here), Some(there)) = (
+        place(random, kind, bytes.len()),
+        place(random, kind, other.len()),
+    ) else {
+        return byte(random, bytes);
+    };
+    let rows: Vec<_> = TABLE
+        .iter()
+        .filter(|row| row.letter == bytes[here])
+        .collect();
+    let Some(row) = rows.get(random.index(rows.len())) else {
+        return byte(random, bytes);
+    };
+    let Some(field) = bytes.get_mut(here + row.first - 1..here + row.last) else {
+        return;
+    };
+    match (
+        random.below(4),
+        other.get(there + row.first - 1..there + row.last),
+    ) {
+        (0 | 1, Some(others)) => field.copy_from_slice(others),
+        (2, _) => field.fill(random.one_of(BYTES)),
+        _ => drop(digits::write(edge(random), field)),
+    }
+}

@@ -1,0 +1,65 @@
+//! Repairs check digits and trailers after a mutation, so that inputs get past those checks.
+
+use conformance::inputs::Kind;
+use reference::records::{
+    Row, G_BARCODE, G_LETTER, G_RECEIVED, LENGTH, TABLE, Z_COUNT, Z_LETTER, Z_TOTAL,
+};
+use reference::{digits, line, Modulus};
+
+use crate::places;
+
+pub fn repair(kind: Kind, rest: &mut [u8]) {
+    match kind {
+        Kind::Line => repair_line(rest),
+        Kind::Barcode => repair_barcode(rest),
+        _ => repair_records(kind, rest),
+    }
+}
+
+/// Repairs the general check.
+fn repair_barcode(code: &mut [u8]) {
+    if code.len() != reference::barcode::LENGTH {
+        return;
+    }
+    let kind = u64::from(code[2].wrapping_sub(b'0'));
+    let rest = [&code[..3], &code[4..]].concat();
+    if let Some(Ok(digit)) = Modulus::from_kind(kind).map(|modulus| modulus.check_digit(&rest)) {
+        code[3] = b'0' + digit as u8;
+    }
+}
+
+/// Repairs the general check and the checks of the four boxes.
+fn repair_line(typed: &mut [u8]) {
+    if typed.len() != line::LENGTH {
+        return;
+    }
+    let mut code: Vec<u8> = typed.chunks(12).flat_map(|of| &of[..11]).copied().collect();
+    repair_barcode(&mut code);
+    // A barcode with other faults is not converted.
+    let _ = line::line_from_barcode(&code, typed);
+}
+
+/// Repairs the barcodes of payments, and the counts and totals of trailers.
+fn repair_records(kind: Kind, rest: &mut [u8]) {
+    let (mut taken, mut total) = (0, 0u64);
+    for place in places::records(kind, rest.len()) {
+        let Some(record) = rest.get_mut(place..place + LENGTH) else {
+            return;
+        };
+        if record[0] == TABLE[G_LETTER].letter {
+            repair_barcode(field(record, G_BARCODE));
+            let received = digits::number(field(record, G_RECEIVED)).unwrap_or(0);
+            (taken, total) = (taken + 1, total.saturating_add(received));
+        } else if record[0] == TABLE[Z_LETTER].letter {
+            digits::write(taken + 2, field(record, Z_COUNT));
+            digits::write(total, field(record, Z_TOTAL));
+        } else {
+            (taken, total) = (0, 0);
+        }
+    }
+}
+
+fn field(record: &mut [u8], row: usize) -> &mut [u8] {
+    let Row { first, last, .. } = TABLE[row];
+    &mut record[first - 1..last]
+}

@@ -1,0 +1,147 @@
+//! The first inputs of each kind: the samples, and random valid ones.
+
+use std::{fs, io};
+
+use conformance::engine::root;
+use conformance::inputs::Kind;
+use reference::random::Random;
+use reference::{days, Board, Issuer, Refusal};
+
+use crate::mutate::EDGES;
+
+/// How many random inputs of each kind there are.
+const EACH: usize = 8;
+
+/// Every sample, in one run and record by record, and random inputs of each kind.
+pub fn seeds(random: &mut Random) -> io::Result<Vec<Vec<u8>>> {
+    let mut seeds = Vec::new();
+    for entry in fs::read_dir(root().join("samples"))? {
+        let path = entry?.path();
+        if path.extension().is_some_and(|name| name == "ret") {
+            let day = fs::read(path)?;
+            seeds.push(input(Kind::Run, [vec![0], day.clone()].concat()));
+            seeds.push(input(Kind::Take, steps(&day)));
+        }
+    }
+    // A folder has no order of its own.
+    seeds.sort();
+    for kind in Kind::ALL {
+        for turn in 0..EACH {
+            // Where the reference program refuses to build the input, there is none.
+            let rest = valid(random, kind, turn).ok();
+            seeds.extend(rest.map(|rest| input(kind, rest)));
+        }
+    }
+    Ok(seeds)
+}
+
+fn input(kind: Kind, mut rest: Vec<u8>) -> Vec<u8> {
+    rest.insert(0, kind as u8);
+    rest
+}
+
+/// A valid input of a kind, without its first byte. The turn chooses among records, conversions and writers.
+fn valid(random: &mut Random, kind: Kind, turn: usize) -> Result<Vec<u8>, Refusal> {
+    Ok(match kind {
+        Kind::Line => days::line(random)?.to_vec(),
+        Kind::Barcode => days::barcode(random)?.to_vec(),
+        Kind::Date => days::date(random).digits().to_vec(),
+        Kind::DateNumbers => {
+            let date = days::date(random);
+            numbers([date.year().into(), date.month().into(), date.day().into()])
+        }
+        Kind::CheckDigits => days::line(random)?.to_vec(),
+        Kind::Build => {
+            let issuer = days::issuer(random);
+            let kind = random.between(6, 9);
+            let free = reference::barcode::free_length(issuer.segment);
+            let mut rest = numbers([issuer.segment, issuer.number, kind, random.number(11)]);
+            rest.push(44);
+            rest.extend((0..free).map(|_| random.digit()));
+            rest
+        }
+        Kind::Record => match turn % 3 {
+            0 => days::header(random)?.to_vec(),
+            1 => days::payment(random)?.to_vec(),
+            _ => days::trailer(random).to_vec(),
+        },
+        Kind::Convert => match turn % 4 {
+            0 => [&[0, 44], days::line(random)?.as_slice()].concat(),
+            1 => [&[1, 48], days::barcode(random)?.as_slice()].concat(),
+            2 => [&[2, 78], days::header(random)?.as_slice()].concat(),
+            _ => [&[2, 121], days::payment(random)?.as_slice()].concat(),
+        },
+        Kind::Run => [vec![random.below(4) as u8], day(random)?].concat(),
+        Kind::Take => steps(&day(random)?),
+        Kind::ArbitrarySession => {
+            let mut rest = vec![1];
+            rest.extend(numbers([random.number(6), random.number(17)]));
+            rest.push(2);
+            let issuer = days::issuer(random);
+            let mut payment = days::payment(random)?;
+            payment[37..81].copy_from_slice(&days::barcode_of(random, issuer)?);
+            rest.extend(steps(&payment));
+            rest.extend(steps(&days::trailer(random)));
+            rest.extend(board(random, issuer));
+            rest.extend(board(random, issuer));
+            rest
+        }
+        Kind::Page => {
+            let mut rest = numbers([random.number(2), random.number(3)]);
+            rest.extend(numbers([random.number(19), random.number(19), 0]));
+            let issuer = days::issuer(random);
+            rest.extend(board(random, issuer));
+            rest
+        }
+        Kind::Write => file(random, turn.is_multiple_of(2))?,
+    })
+}
+
+fn numbers<const N: usize>(numbers: [u64; N]) -> Vec<u8> {
+    numbers.iter().flat_map(|n| n.to_le_bytes()).collect()
+}
+
+fn day(random: &mut Random) -> Result<Vec<u8>, Refusal> {
+    let (issuers, files) = (random.index(8), random.index(4));
+    Ok(days::day(random, issuers, files, 4)?.bytes)
+}
+
+/// Records to be taken one by one, with no other call between them.
+fn steps(records: &[u8]) -> Vec<u8> {
+    let step = |record: &[u8]| [&[0], record].concat();
+    records.chunks(150).flat_map(step).collect()
+}
+
+/// A board with numbers at the edges; its first lane has this issuer.
+fn board(random: &mut Random, first: Issuer) -> Vec<u8> {
+    let lanes = [0, 1, 3, Board::new().lanes.len()][random.index(4)];
+    let mut edge = || EDGES[random.index(EDGES.len())];
+    let mut board = numbers([lanes as u64, edge(), edge()]);
+    board.push(lanes as u8);
+    for lane in 0..lanes as u64 {
+        let number = first.number + lane;
+        board.extend(numbers([first.segment, number, edge(), edge()]));
+    }
+    board
+}
+
+/// The calls that write a file, by a new writer or by one whose file is open already, which refuses the header.
+fn file(random: &mut Random, new: bool) -> Result<Vec<u8>, Refusal> {
+    let mut rest = vec![u8::from(!new)];
+    if !new {
+        rest.extend(numbers([1, random.number(6), random.number(17)]));
+    }
+    let header = days::header_fields(random);
+    rest.extend([0, 150, header.len() as u8]);
+    rest.extend(header);
+    for _ in 0..random.index(3) {
+        let code = days::barcode(random)?;
+        let fields = days::payment_fields(random, &code);
+        rest.extend([1, 150]);
+        rest.extend(numbers([random.number(12), random.number(7)]));
+        rest.push(fields.len() as u8);
+        rest.extend(fields);
+    }
+    rest.extend([2, 150]);
+    Ok(rest)
+}

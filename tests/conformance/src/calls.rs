@@ -1,0 +1,232 @@
+//! Each call goes to the engine as a request, and to the reference program, whose outcome is the expected reply.
+
+mod states;
+
+use std::collections::BTreeMap;
+
+use reference::{barcode, line, records, Date, Modulus, Refusal, Session, Writer};
+
+use crate::engine::{Batch, Engine};
+use crate::wire;
+
+/// A batch is sent when it has this many bytes of requests and replies.
+const BATCH: usize = 1 << 18;
+
+/// Every byte of a call's output buffer before the call.
+const FILL: u8 = 0xA5;
+
+/// The length of the page's buffer.
+pub const PAGE: usize = 8837;
+
+/// The rows of a record that are compared: those of the table, and two past it.
+const ROWS: [usize; 30] = {
+    let mut rows = [usize::MAX; 30];
+    let mut i = 0;
+    while i < 29 {
+        rows[i] = i;
+        i += 1;
+    }
+    rows
+};
+
+/// The letters of requests whose reply starts with an answer.
+const ANSWERED: &[u8] = b"blrcutRehgzp";
+
+/// How many inputs were compared, and how often each number was answered.
+#[derive(Clone, Default)]
+pub struct Counts {
+    pub inputs: u64,
+    pub answers: BTreeMap<u64, u64>,
+}
+
+impl Counts {
+    /// Counts the answers that a batch expects.
+    fn count(&mut self, batch: &Batch) {
+        for &(request, reply) in &batch.starts {
+            if ANSWERED.contains(&batch.requests[request]) {
+                let number = wire::number_at(&batch.expected, reply);
+                *self.answers.entry(number).or_insert(0) += 1;
+            }
+        }
+    }
+
+    pub fn add(&mut self, more: &Counts) {
+        self.inputs += more.inputs;
+        for (&number, &count) in &more.answers {
+            *self.answers.entry(number).or_insert(0) += count;
+        }
+    }
+}
+
+/// A conversion of bytes into an output buffer.
+#[derive(Clone, Copy)]
+pub enum Conversion {
+    LineToBarcode,
+    LineFromBarcode,
+    Join,
+}
+
+/// The engine and the reference program, called with the same inputs.
+pub struct Calls {
+    engine: Engine,
+    batch: Batch,
+    session: Session,
+    writer: Writer,
+    /// The number of the writer's stage in the engine, where every number past 1 means closed.
+    stage: u64,
+    counts: Counts,
+}
+
+impl Default for Calls {
+    fn default() -> Self {
+        Calls::new()
+    }
+}
+
+impl Calls {
+    pub fn new() -> Calls {
+        Calls {
+            engine: Engine::start(),
+            batch: Batch::default(),
+            session: Session::new(),
+            writer: Writer::new(),
+            stage: 0,
+            counts: Counts::default(),
+        }
+    }
+
+    /// Waits for all replies: how many inputs were equal, or the first difference.
+    pub fn finish(mut self) -> Result<Counts, String> {
+        self.send();
+        self.engine.finish()?;
+        Ok(self.counts)
+    }
+
+    fn send(&mut self) {
+        let batch = std::mem::take(&mut self.batch);
+        self.counts.count(&batch);
+        self.engine.send(batch);
+    }
+
+    /// Starts a request with its letter. The caller adds the rest of the request, and the expected reply.
+    fn call(&mut self, letter: u8) -> (&mut Vec<u8>, &mut Vec<u8>) {
+        if self.batch.requests.len() + self.batch.expected.len() > BATCH {
+            self.send();
+        }
+        self.counts.inputs += 1;
+        let batch = &mut self.batch;
+        batch
+            .starts
+            .push((batch.requests.len(), batch.expected.len()));
+        batch.requests.push(letter);
+        (&mut batch.requests, &mut batch.expected)
+    }
+
+    pub fn barcode(&mut self, code: &[u8]) {
+        let (request, reply) = self.call(b'b');
+        put(request, code);
+        let decoded = barcode::decode(code);
+        wire::answer(reply, &decoded);
+        wire::decoded(reply, &decoded);
+        wire::part(reply, code, barcode::free_field(code));
+        answer_and_buffer(reply, 48, |out| line::line_from_barcode(code, out));
+    }
+
+    pub fn line(&mut self, typed: &[u8]) {
+        let (request, reply) = self.call(b'l');
+        put(request, typed);
+        let decoded = line::decode(typed);
+        wire::answer(reply, &decoded);
+        wire::decoded(reply, &decoded);
+        answer_and_buffer(reply, 44, |out| line::barcode_from_line(typed, out));
+    }
+
+    pub fn record(&mut self, record: &[u8]) {
+        let (request, reply) = self.call(b'r');
+        put(request, record);
+        let decoded = records::decode(record);
+        wire::answer(reply, &decoded);
+        wire::record(reply, &decoded);
+        let is_header = record.first() == Some(&b'A');
+        let out_length = if is_header { 78 } else { 121 };
+        answer_and_buffer(reply, out_length, |out| records::join(record, out));
+    }
+
+    /// The field of every row of [`ROWS`].
+    pub fn fields(&mut self, record: &[u8]) {
+        let (request, reply) = self.call(b'f');
+        put(request, record);
+        for row in ROWS {
+            wire::part(reply, record, records::field(record, row));
+        }
+    }
+
+    pub fn convert(&mut self, conversion: Conversion, bytes: &[u8], out_length: u8) {
+        let (request, reply) = self.call(b'c');
+        request.extend_from_slice(&[conversion as u8, out_length]);
+        put(request, bytes);
+        answer_and_buffer(reply, out_length.into(), |out| match conversion {
+            Conversion::LineToBarcode => line::barcode_from_line(bytes, out),
+            Conversion::LineFromBarcode => line::line_from_barcode(bytes, out),
+            Conversion::Join => records::join(bytes, out),
+        });
+    }
+
+    pub fn build(&mut self, [segment, issuer, kind, value]: [u64; 4], free: &[u8], out_length: u8) {
+        let (request, reply) = self.call(b'u');
+        wire::numbers(request, &[segment, issuer, kind, value]);
+        request.push(out_length);
+        put(request, free);
+        answer_and_buffer(reply, out_length.into(), |out| {
+            barcode::build(segment, kind, value, issuer, free, out)
+        });
+    }
+
+    pub fn date(&mut self, bytes: &[u8]) {
+        let (request, reply) = self.call(b'd');
+        put(request, bytes);
+        wire::date(reply, Date::read(bytes).ok());
+    }
+
+    /// Whether three numbers are a date. In the reference program a year has 16 bits, a month and a day 8.
+    pub fn is_date(&mut self, year: u64, month: u64, day: u64) {
+        let (request, reply) = self.call(b'D');
+        wire::numbers(request, &[year, month, day]);
+        let date = (|| {
+            Date::new(
+                year.try_into().ok()?,
+                month.try_into().ok()?,
+                day.try_into().ok()?,
+            )
+        })();
+        wire::number(reply, u64::from(date.is_some()));
+    }
+
+    /// The check digits of digits under both moduli.
+    pub fn check_digits(&mut self, digits: &[u8]) {
+        let (request, reply) = self.call(b'm');
+        put(request, digits);
+        for modulus in [Modulus::Ten, Modulus::Eleven] {
+            wire::number(reply, modulus.check_digit(digits).expect("digits"));
+        }
+    }
+}
+
+/// Adds a length of one byte, then the bytes.
+fn put(request: &mut Vec<u8>, bytes: &[u8]) {
+    request.push(bytes.len().try_into().expect("at most 255 bytes"));
+    request.extend_from_slice(bytes);
+}
+
+/// Adds the answer of a call that has an output buffer, then the buffer after the call.
+fn answer_and_buffer(
+    reply: &mut Vec<u8>,
+    out_length: usize,
+    call: impl FnOnce(&mut [u8]) -> Result<(), Refusal>,
+) {
+    let mut buffer = [FILL; 256];
+    let out = &mut buffer[..out_length];
+    let outcome = call(out);
+    wire::answer(reply, &outcome);
+    reply.extend_from_slice(out);
+}

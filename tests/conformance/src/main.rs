@@ -1,0 +1,98 @@
+//! Compares the engine with the reference program on every family of inputs, and prints how many were equal.
+//!
+//! `CONFORMANCE_TIMES=20` compares twenty times as many random inputs, `CONFORMANCE_SEED=7` other ones.
+
+use std::env;
+use std::process::ExitCode;
+use std::sync::Mutex;
+use std::thread;
+use std::time::Instant;
+
+use conformance::calls::{Calls, Counts};
+use conformance::families::{Family, ALL};
+use reference::random::Random;
+use reference::Reason;
+
+/// Fewer inputs than this are a failure.
+const LEAST_INPUTS: u64 = 5_000_000;
+
+/// The reason that never occurs: no computed check needs two places.
+const NEVER: Reason = Reason::WideCheck;
+
+/// A number of the environment, or the default if it is not set.
+fn variable(name: &str, default: u64) -> u64 {
+    match env::var(name) {
+        Ok(text) => text
+            .parse()
+            .unwrap_or_else(|_| panic!("{name} is not a number: {text}")),
+        Err(_) => default,
+    }
+}
+
+/// Compares the inputs of a family.
+fn compare(family: &Family, seed: u64, times: u64) -> Result<Counts, String> {
+    let start = Instant::now();
+    let mut calls = Calls::new();
+    (family.compare)(&mut calls, &mut Random::new(seed), times);
+    let counts = calls
+        .finish()
+        .map_err(|difference| format!("{}: {difference}", family.name))?;
+    let seconds = start.elapsed().as_secs_f64();
+    println!("{:>9} {} ({seconds:.1} s)", counts.inputs, family.name);
+    Ok(counts)
+}
+
+/// Compares all families, two at a time: the engine takes most of the time, and two of them use two processors.
+fn compare_all(seed: u64, times: u64) -> Result<Counts, String> {
+    let left = Mutex::new(ALL.iter().zip(seed..));
+    let work = || -> Result<Counts, String> {
+        let mut all = Counts::default();
+        loop {
+            let next = left.lock().expect("no family panicked").next();
+            let Some((family, seed)) = next else {
+                return Ok(all);
+            };
+            all.add(&compare(family, seed, times)?);
+        }
+    };
+    thread::scope(|scope| {
+        let mut all = Counts::default();
+        for worker in [scope.spawn(work), scope.spawn(work)] {
+            all.add(&worker.join().expect("a worker ends")?);
+        }
+        Ok(all)
+    })
+}
+
+/// What is missing: inputs, or an answer that no input got.
+fn missing(counts: &Counts) -> Option<String> {
+    if counts.inputs < LEAST_INPUTS {
+        return Some(format!("only {} inputs", counts.inputs));
+    }
+    let expected = Reason::ALL.iter().filter(|&&reason| reason != NEVER);
+    let mut numbers = expected.map(|reason| reason.number()).chain([0]);
+    let unseen = numbers.find(|number| !counts.answers.contains_key(number))?;
+    Some(format!("no input was answered {unseen}"))
+}
+
+fn main() -> ExitCode {
+    let times = variable("CONFORMANCE_TIMES", 1);
+    let seed = variable("CONFORMANCE_SEED", 1);
+    let outcome = compare_all(seed, times).and_then(|counts| match missing(&counts) {
+        Some(missing) => Err(missing),
+        None => Ok(counts),
+    });
+    match outcome {
+        Ok(counts) => {
+            println!(
+                "{:>9} inputs in all: engine and reference program are equal on each. Answers by number: {:?}",
+                counts.inputs, counts.answers
+            );
+            ExitCode::SUCCESS
+        }
+        Err(failure) => {
+            eprintln!("conformance: {failure}");
+            ExitCode::FAILURE
+        }
+    }
+}

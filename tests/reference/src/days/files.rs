@@ -1,0 +1,162 @@
+//! Random days: files of many banks and agreements, one after the other.
+
+use super::{barcode_of, header_fields, issuers, payment_fields, text};
+use crate::barcode::Issuer;
+use crate::digits;
+use crate::random::Random;
+use crate::records::{self, HEADER_FIELDS};
+use crate::refusal::Refusal;
+use crate::session::Lane;
+use crate::writer::Writer;
+
+/// The most pairs of a bank and an agreement in a day.
+const MOST_PAIRS: u64 = 16;
+
+/// The most digits of an amount in a day. A file of 999,997 such payments is below the limit of a file, and a day of a
+/// hundred million below the limit of a board.
+const AMOUNT_DIGITS: u32 = 10;
+
+/// A payment as it was made, before it was written into a record.
+#[derive(Clone, Copy, Debug, PartialEq, Eq)]
+pub struct Posted {
+    pub issuer: Issuer,
+    pub received: u64,
+}
+
+/// A day: its consecutive records, and the payments of each file.
+#[derive(Clone, Debug, Default, PartialEq, Eq)]
+pub struct Day {
+    pub bytes: Vec<u8>,
+    pub files: Vec<Vec<Posted>>,
+}
+
+impl Day {
+    /// The lanes of the first `files` files, summed from the payments as they were made.
+    pub fn lanes(&self, files: usize) -> Vec<Lane> {
+        let mut lanes: Vec<Lane> = Vec::new();
+        for posted in self.files.iter().take(files).flatten() {
+            match lanes.iter_mut().find(|lane| lane.issuer == posted.issuer) {
+                Some(lane) => {
+                    lane.payments = lane.payments.saturating_add(1);
+                    lane.centavos = lane.centavos.saturating_add(posted.received);
+                }
+                None => lanes.push(Lane {
+                    issuer: posted.issuer,
+                    payments: 1,
+                    centavos: posted.received,
+                }),
+            }
+        }
+        lanes
+    }
+}
+
+/// A bank and an agreement, with the sequence number of their last file.
+struct Pair {
+    bank: [u8; 3],
+    agreement: [u8; 20],
+    sequence: u64,
+}
+
+/// One to sixteen pairs, all different.
+fn pairs(random: &mut Random) -> Vec<Pair> {
+    let count = random.between(1, MOST_PAIRS);
+    (0..count)
+        .map(|i| {
+            let mut bank = *b"000";
+            digits::write(random.below(1000), &mut bank);
+            let mut agreement = [b' '; 20];
+            text(random, &mut agreement);
+            // The pair's number makes equal texts different.
+            digits::write(i, &mut agreement[..2]);
+            Pair {
+                bank,
+                agreement,
+                sequence: random.below(1000),
+            }
+        })
+        .collect()
+}
+
+/// The field bytes of the pair's next A, with a higher sequence number.
+fn next_header(random: &mut Random, pair: &mut Pair) -> [u8; HEADER_FIELDS] {
+    // There are numbers for 300,000 files of a pair; after that it keeps the last one.
+    pair.sequence = (pair.sequence + random.between(1, 3)).min(999_999);
+    let mut fields = header_fields(random);
+    fields[..20].copy_from_slice(&pair.agreement);
+    fields[40..43].copy_from_slice(&pair.bank);
+    digits::write(pair.sequence, &mut fields[71..77]);
+    fields
+}
+
+/// A day of `files` files with at most `most` payments in each, of `issuer_count` issuers. If there is a file, every
+/// issuer has a payment; the last file has more than `most` payments if that takes them.
+pub fn day(
+    random: &mut Random,
+    issuer_count: usize,
+    files: usize,
+    most: usize,
+) -> Result<Day, Refusal> {
+    let issuers = issuers(random, issuer_count);
+    let mut pairs = pairs(random);
+    let mut seen = 0;
+    let mut day = Day::default();
+    for i in 0..files {
+        let mut chosen = Vec::new();
+        if !issuers.is_empty() {
+            for _ in 0..random.index(most.saturating_add(1)) {
+                chosen.push(next_issuer(random, &issuers, &mut seen));
+            }
+        }
+        if i + 1 == files {
+            chosen.extend_from_slice(&issuers[seen..]);
+        }
+        let pair = random.index(pairs.len());
+        let fields = next_header(random, &mut pairs[pair]);
+        file(random, &fields, &chosen, &mut day)?;
+    }
+    Ok(day)
+}
+
+/// Sometimes the first issuer that was not chosen yet, else one that was.
+fn next_issuer(random: &mut Random, issuers: &[Issuer], seen: &mut usize) -> Issuer {
+    if *seen == 0 || (*seen < issuers.len() && random.once_in(4)) {
+        *seen += 1;
+        return issuers[*seen - 1];
+    }
+    issuers[random.index(*seen)]
+}
+
+/// Adds a file with one payment for each of these issuers, in this order.
+fn file(
+    random: &mut Random,
+    header: &[u8; HEADER_FIELDS],
+    issuers: &[Issuer],
+    day: &mut Day,
+) -> Result<(), Refusal> {
+    let mut writer = Writer::new();
+    let mut payments = Vec::new();
+    writer.header(header, new_record(&mut day.bytes))?;
+    for &issuer in issuers {
+        let code = barcode_of(random, issuer)?;
+        let fields = payment_fields(random, &code);
+        let received = random.number(AMOUNT_DIGITS);
+        writer.payment(
+            &fields,
+            received,
+            random.number(7),
+            new_record(&mut day.bytes),
+        )?;
+        payments.push(Posted { issuer, received });
+    }
+    writer.trailer(new_record(&mut day.bytes))?;
+    day.files.push(payments);
+    Ok(())
+}
+
+/// Adds one record at the end and returns its bytes.
+fn new_record(bytes: &mut Vec<u8>) -> &mut [u8] {
+    let start = bytes.len();
+    bytes.resize(start + records::LENGTH, b' ');
+    &mut bytes[start..]
+}

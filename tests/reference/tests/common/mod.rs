@@ -1,0 +1,75 @@
+//! What the tests share: records that are spelled out, not made by the writer.
+
+// No test file uses all of this module.
+#![allow(dead_code)]
+
+pub mod naive;
+
+use reference::{answer, line, Refusal};
+
+/// The typed line of P4, without blanks.
+pub const P4: &[u8; 48] = b"817700000000010936599702411310797039001433708318";
+
+pub const DATE: &str = "20240131";
+
+/// The barcode of P4.
+pub fn p4_code() -> [u8; 44] {
+    barcode_of_line(P4)
+}
+
+pub fn barcode_of_line(typed: &[u8]) -> [u8; 44] {
+    let mut code = [0; 44];
+    line::barcode_from_line(typed, &mut code).expect("a good line");
+    code
+}
+
+/// A header, spelled out.
+pub fn a() -> [u8; 150] {
+    let text = format!(
+        "A2{:<20}{:<20}{:03}{:<20}{DATE}{:06}04CODIGO DE BARRAS {:52}",
+        "AGREEMENT", "COMPANY", 341, "BANK", 1, ""
+    );
+    text.as_bytes().try_into().expect("150 bytes")
+}
+
+/// A payment of a barcode, spelled out.
+pub fn g(code: &[u8; 44], received: u64) -> [u8; 150] {
+    let code = String::from_utf8(code.to_vec()).expect("digits");
+    let text = format!(
+        "G{:<20}{DATE}{DATE}{code}{received:012}{:07}{:08}{:<8}a{:<23}2{:9}",
+        "ACCOUNT", 150, 1, "BRANCH", "AUTHENTICATION", ""
+    );
+    text.as_bytes().try_into().expect("150 bytes")
+}
+
+/// A trailer, spelled out.
+pub fn z(count: u64, total: u64) -> [u8; 150] {
+    let text = format!("Z{count:06}{total:017}{:126}", "");
+    text.as_bytes().try_into().expect("150 bytes")
+}
+
+/// The record with other bytes from a place on.
+pub fn with_bytes(mut record: [u8; 150], place: usize, bytes: &[u8]) -> [u8; 150] {
+    record[place - 1..place - 1 + bytes.len()].copy_from_slice(bytes);
+    record
+}
+
+/// The bytes with another byte at a place.
+pub fn with_byte<const N: usize>(mut bytes: [u8; N], place: usize, byte: u8) -> [u8; N] {
+    bytes[place - 1] = byte;
+    bytes
+}
+
+/// The barcode of an issuer in kind 6, without value.
+pub fn code_for(segment: u64, number: u64) -> [u8; 44] {
+    let mut code = [0; 44];
+    let free = vec![b'0'; reference::barcode::free_length(segment)];
+    reference::barcode::build(segment, 6, 0, number, &free, &mut code).expect("good fields");
+    code
+}
+
+/// The outcome must have this answer.
+#[track_caller]
+pub fn assert_answer<T>(outcome: Result<T, Refusal>, number: u64, place: usize) {
+    assert_eq!(answer(&outcome), (number, place));
+}

@@ -1,0 +1,312 @@
+//! A naive version of the same rules, which does nothing for speed: numbers have 128 bits and boards are vectors. The
+//! program is compared with it.
+
+use reference::{Board, Lane, Session};
+
+pub type Answer = (u64, usize);
+type Outcome<T> = Result<T, Answer>;
+
+pub fn is_digit(byte: u8) -> bool {
+    (48..=57).contains(&byte)
+}
+
+pub fn is_text(byte: u8) -> bool {
+    (32..=126).contains(&byte) || (160..=255).contains(&byte)
+}
+
+pub fn number(bytes: &[u8]) -> u128 {
+    bytes.iter().fold(0, |n, b| n * 10 + u128::from(*b) - 48)
+}
+
+pub fn is_date(bytes: &[u8]) -> bool {
+    let (year, month, day) = (
+        number(&bytes[..4]),
+        number(&bytes[4..6]),
+        number(&bytes[6..8]),
+    );
+    let leap = if year % 100 == 0 {
+        year % 400 == 0
+    } else {
+        year % 4 == 0
+    };
+    let last = match month {
+        2 => 28 + u128::from(leap),
+        4 | 6 | 9 | 11 => 30,
+        _ => 31,
+    };
+    (1900..=2199).contains(&year) && (1..=12).contains(&month) && (1..=last).contains(&day)
+}
+
+/// The check of digits under modulo 10 or 11.
+pub fn check(modulus: u128, digits: &[u8]) -> u128 {
+    let mut weight = 2;
+    let mut sum = 0;
+    for byte in digits.iter().rev() {
+        let product = weight * u128::from(*byte - 48);
+        if modulus == 10 {
+            sum += product / 10 + product % 10;
+            weight = if weight == 2 { 1 } else { 2 };
+        } else {
+            sum += product;
+            weight = if weight == 9 { 2 } else { weight + 1 };
+        }
+    }
+    match (modulus, sum % modulus) {
+        (_, 0) => 0,
+        (11, 1) => 0,
+        (_, rest) => modulus - rest,
+    }
+}
+
+fn modulus(kind: u8) -> u128 {
+    if kind == b'6' || kind == b'7' {
+        10
+    } else {
+        11
+    }
+}
+
+fn start(bytes: &[u8]) -> Outcome<()> {
+    for (i, byte) in bytes.iter().enumerate() {
+        if !is_digit(*byte) {
+            return Err((2, i + 1));
+        }
+    }
+    if bytes[0] != b'8' {
+        return Err((3, 1));
+    }
+    if bytes[1] == b'0' || bytes[1] == b'8' {
+        return Err((4, 2));
+    }
+    if bytes[2] < b'6' {
+        return Err((5, 3));
+    }
+    Ok(())
+}
+
+fn general(code: &[u8]) -> Outcome<()> {
+    let rest = [&code[..3], &code[4..]].concat();
+    if number(&code[3..4]) != check(modulus(code[2]), &rest) {
+        return Err((7, 4));
+    }
+    Ok(())
+}
+
+pub fn barcode(code: &[u8]) -> Outcome<()> {
+    if code.len() != 44 {
+        return Err((1, 0));
+    }
+    start(code)?;
+    general(code)
+}
+
+pub fn typed_line(line: &[u8]) -> Outcome<()> {
+    if line.len() != 48 {
+        return Err((1, 0));
+    }
+    start(line)?;
+    let mut code = Vec::new();
+    for typed in line.chunks(12) {
+        code.extend_from_slice(&typed[..11]);
+    }
+    for (i, typed) in line.chunks(12).enumerate() {
+        if number(&typed[11..]) != check(modulus(line[2]), &typed[..11]) {
+            return Err((6, (i + 1) * 12));
+        }
+    }
+    general(&code)
+}
+
+/// First place, last place and content: t text, n number, d date, b barcode, c capture, f payment form, s service,
+/// _ blanks, or a fixed string after =.
+const A: &[(usize, usize, &str)] = &[
+    (2, 2, "=2"),
+    (3, 22, "t"),
+    (23, 42, "t"),
+    (43, 45, "n"),
+    (46, 65, "t"),
+    (66, 73, "d"),
+    (74, 79, "n"),
+    (80, 81, "=04"),
+    (82, 98, "s"),
+    (99, 150, "_"),
+];
+const G: &[(usize, usize, &str)] = &[
+    (2, 21, "t"),
+    (22, 29, "d"),
+    (30, 37, "d"),
+    (38, 81, "b"),
+    (82, 93, "n"),
+    (94, 100, "n"),
+    (101, 108, "n"),
+    (109, 116, "t"),
+    (117, 117, "c"),
+    (118, 140, "t"),
+    (141, 141, "f"),
+    (142, 150, "_"),
+];
+const Z: &[(usize, usize, &str)] = &[(2, 7, "n"), (8, 24, "n"), (25, 150, "_")];
+
+fn field(first: usize, bytes: &[u8], content: &str) -> Outcome<()> {
+    let no = |number: u64, bad: &dyn Fn(u8) -> bool| match bytes.iter().position(|byte| bad(*byte))
+    {
+        Some(i) => Err((number, first + i)),
+        None => Ok(()),
+    };
+    let or = |good: bool, number: u64| if good { Ok(()) } else { Err((number, first)) };
+    match content {
+        "t" => no(8, &|byte| !is_text(byte)),
+        "n" => no(2, &|byte| !is_digit(byte)),
+        "d" => {
+            no(2, &|byte| !is_digit(byte))?;
+            or(is_date(bytes), 11)
+        }
+        "b" => barcode(bytes).map_err(|(number, place)| (number, first + place - 1)),
+        "c" => or(b"123456abcdef".contains(&bytes[0]), 12),
+        "f" => or(b"123".contains(&bytes[0]), 12),
+        "s" => {
+            let rest = bytes[0] == b'C' && &bytes[2..] == b"DIGO DE BARRAS ";
+            or(rest && (bytes[1] == 79 || bytes[1] == 211), 10)
+        }
+        "_" => or(bytes.iter().all(|byte| *byte == 32), 10),
+        fixed => or(bytes == &fixed.as_bytes()[1..], 10),
+    }
+}
+
+/// A single record, whose letter must be one of those allowed.
+pub fn record(bytes: &[u8], allowed: &[u8]) -> Outcome<()> {
+    if bytes.len() != 150 {
+        return Err((1, 0));
+    }
+    if !allowed.contains(&bytes[0]) {
+        return Err((9, 1));
+    }
+    let rows = match bytes[0] {
+        b'A' => A,
+        b'G' => G,
+        _ => Z,
+    };
+    for (first, last, content) in rows {
+        field(*first, &bytes[first - 1..*last], content)?;
+    }
+    Ok(())
+}
+
+/// A lane: segment, number, payments, centavos.
+pub type NaiveLane = (u128, u128, u128, u128);
+
+#[derive(Clone, Debug, Default, PartialEq, Eq)]
+pub struct NaiveBoard {
+    pub lanes: Vec<NaiveLane>,
+    pub payments: u128,
+    pub centavos: u128,
+}
+
+impl NaiveBoard {
+    pub fn of(board: &Board) -> NaiveBoard {
+        let lane = |lane: &Lane| {
+            (
+                u128::from(lane.issuer.segment),
+                u128::from(lane.issuer.number),
+                u128::from(lane.payments),
+                u128::from(lane.centavos),
+            )
+        };
+        NaiveBoard {
+            lanes: board.lanes.iter().take(board.used).map(lane).collect(),
+            payments: u128::from(board.payments),
+            centavos: u128::from(board.centavos),
+        }
+    }
+}
+
+/// A session. Each step makes a new one.
+#[derive(Clone, Debug, Default, PartialEq, Eq)]
+pub struct NaiveSession {
+    pub open: bool,
+    pub taken: u128,
+    pub total: u128,
+    pub shown: NaiveBoard,
+    pub working: NaiveBoard,
+}
+
+const E18: u128 = 1_000_000_000_000_000_000;
+
+impl NaiveSession {
+    pub fn of(session: &Session) -> NaiveSession {
+        NaiveSession {
+            open: session.open,
+            taken: u128::from(session.taken),
+            total: u128::from(session.total),
+            shown: NaiveBoard::of(&session.shown),
+            working: NaiveBoard::of(&session.working),
+        }
+    }
+
+    /// The next session, or the refusal.
+    pub fn take(&self, bytes: &[u8]) -> Outcome<NaiveSession> {
+        record(bytes, if self.open { b"GZ" } else { b"A" })?;
+        let mut next = self.clone();
+        match bytes[0] {
+            b'A' => {
+                next.open = true;
+                next.taken = 0;
+                next.total = 0;
+                next.working = self.shown.clone();
+            }
+            b'G' => next.post(bytes)?,
+            _ => {
+                if number(&bytes[1..7]) != self.taken + 2 {
+                    return Err((13, 2));
+                }
+                if number(&bytes[7..24]) != self.total {
+                    return Err((14, 8));
+                }
+                next = NaiveSession {
+                    shown: self.working.clone(),
+                    working: self.working.clone(),
+                    ..NaiveSession::default()
+                };
+            }
+        }
+        Ok(next)
+    }
+
+    fn post(&mut self, bytes: &[u8]) -> Outcome<()> {
+        let received = number(&bytes[81..93]);
+        let segment = number(&bytes[38..39]);
+        let last = if segment == 6 { 60 } else { 56 };
+        let issuer = number(&bytes[52..last]);
+        self.taken += 1;
+        if self.taken > 999_997 {
+            return Err((15, 1));
+        }
+        self.total += received;
+        if self.total > 99_999_999_999_999_999 {
+            return Err((16, 82));
+        }
+        let lanes = &mut self.working.lanes;
+        if !lanes
+            .iter()
+            .any(|lane| (lane.0, lane.1) == (segment, issuer))
+        {
+            lanes.push((segment, issuer, 0, 0));
+        }
+        if lanes.len() > 64 {
+            return Err((17, 53));
+        }
+        let found = lanes
+            .iter_mut()
+            .find(|lane| (lane.0, lane.1) == (segment, issuer));
+        let lane = found.expect("just put there");
+        lane.2 += 1;
+        lane.3 += received;
+        self.working.payments += 1;
+        self.working.centavos += received;
+        let sums = [lane.2, lane.3, self.working.payments, self.working.centavos];
+        if sums.iter().any(|sum| *sum > E18) {
+            return Err((18, 82));
+        }
+        Ok(())
+    }
+}

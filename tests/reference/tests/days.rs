@@ -1,0 +1,274 @@
+//! Days of random files, written by the writer and taken by a session.
+
+mod common;
+
+use std::collections::BTreeMap;
+
+use common::assert_answer;
+use common::naive::{NaiveBoard, NaiveSession};
+use reference::days::{self, Day};
+use reference::random::Random;
+use reference::records;
+use reference::{answer, Session, Stage, Writer};
+
+/// How many files and records are accepted before a 65th issuer; `None` if there is no such issuer.
+fn refused_at(day: &Day) -> Option<(usize, u64)> {
+    let mut seen = Vec::new();
+    let mut record = 0;
+    for (files, payments) in day.files.iter().enumerate() {
+        record += 1;
+        for posted in payments {
+            if !seen.contains(&posted.issuer) {
+                seen.push(posted.issuer);
+            }
+            if seen.len() > 64 {
+                return Some((files, record));
+            }
+            record += 1;
+        }
+        record += 1;
+    }
+    None
+}
+
+#[test]
+fn days_with_0_to_70_issuers() {
+    for issuers in 0..=70 {
+        let mut random = Random::new(1000 + issuers as u64);
+        for files in [1, 2, 9, 40] {
+            let day = days::day(&mut random, issuers, files, 30).unwrap();
+            let mut session = Session::new();
+            let run = session.run(&day.bytes);
+            let accepted = match refused_at(&day) {
+                Some((accepted, record)) => {
+                    assert!(issuers > 64);
+                    assert_answer(run.answer, 17, 53);
+                    assert_eq!((run.records, run.files), (record, accepted as u64));
+                    session.abandon();
+                    accepted
+                }
+                None => {
+                    assert!(issuers <= 64);
+                    assert_answer(run.answer, 0, 0);
+                    assert_eq!(run.records, (day.bytes.len() / 150) as u64);
+                    assert_eq!(session.board().used, issuers);
+                    files
+                }
+            };
+            assert_answer(session.finish(), 0, 0);
+            let lanes = day.lanes(accepted);
+            assert_eq!(session.board().in_use(), lanes);
+            assert_eq!(
+                session.board().payments,
+                lanes.iter().map(|lane| lane.payments).sum::<u64>()
+            );
+            assert_eq!(
+                session.board().centavos,
+                lanes.iter().map(|lane| lane.centavos).sum::<u64>()
+            );
+        }
+    }
+}
+
+#[test]
+fn no_files_no_bytes() {
+    let day = days::day(&mut Random::new(1), 5, 0, 5).unwrap();
+    assert_eq!(day, Day::default());
+}
+
+#[test]
+fn sequence_numbers_rise_for_each_pair() {
+    for seed in 0..30 {
+        let day = days::day(&mut Random::new(seed), 10, 200, 3).unwrap();
+        let mut last: BTreeMap<(Vec<u8>, Vec<u8>), u64> = BTreeMap::new();
+        for record in day.bytes.chunks(150).filter(|record| record[0] == b'A') {
+            let field = |row| records::field(record, row).to_vec();
+            let pair = (field(records::A_BANK), field(records::A_AGREEMENT));
+            let sequence = reference::digits::number(&field(records::A_SEQUENCE)).unwrap();
+            if let Some(before) = last.insert(pair, sequence) {
+                assert!(before < sequence);
+            }
+        }
+        assert!((1..=16).contains(&last.len()));
+    }
+}
+
+#[test]
+fn equal_seeds_give_equal_days() {
+    let make = |seed| days::day(&mut Random::new(seed), 20, 10, 20).unwrap();
+    assert_eq!(make(7), make(7));
+    assert_ne!(make(7), make(8));
+}
+
+#[test]
+fn damage_changes_one_to_three_places() {
+    let mut random = Random::new(9);
+    for _ in 0..10_000 {
+        let good = days::record(&mut random).unwrap();
+        let mut bad = good;
+        let places = days::damage(&mut random, &mut bad);
+        let changed: Vec<usize> = (1..=150)
+            .filter(|&place| good[place - 1] != bad[place - 1])
+            .collect();
+        assert_eq!(changed, places);
+        assert!((1..=3).contains(&places.len()));
+    }
+    assert!(days::damage(&mut random, &mut []).is_empty());
+    assert_eq!(days::damage(&mut random, &mut [7]), [1]);
+    assert_eq!(days::swap(&mut random, &mut [7, 7, 7]), None);
+    assert_eq!(days::swap(&mut random, &mut []), None);
+    let mut pair = [1, 2];
+    assert_eq!(days::swap(&mut random, &mut pair), Some(1));
+    assert_eq!(pair, [2, 1]);
+}
+
+/// Damaged days against the naive session. Refused records are skipped, and files are abandoned now and then.
+#[test]
+fn damaged_days_against_the_naive_session() {
+    let mut random = Random::new(10);
+    let mut numbers = BTreeMap::new();
+    for round in 0..400 {
+        let issuers = random.index(71);
+        let files = 1 + random.index(8);
+        let mut day = days::day(&mut random, issuers, files, 25).unwrap();
+        if round % 2 == 0 {
+            days::disorder(&mut random, &mut day.bytes);
+        }
+        for _ in 0..random.below(4) {
+            if !day.bytes.is_empty() {
+                let records = day.bytes.len().div_ceil(150);
+                let start = random.index(records) * 150;
+                let end = day.bytes.len().min(start + 150);
+                days::damage(&mut random, &mut day.bytes[start..end]);
+            }
+        }
+        let mut session = Session::new();
+        let mut naive = NaiveSession::default();
+        for record in day.bytes.chunks(150) {
+            let before = session.clone();
+            let outcome = session.take(record);
+            let expected = naive.take(record);
+            assert_eq!(answer(&outcome), expected.clone().err().unwrap_or((0, 0)));
+            *numbers.entry(answer(&outcome).0).or_insert(0) += 1;
+            match expected {
+                Ok(next) => naive = next,
+                Err(_) => assert_eq!(session, before),
+            }
+            assert_eq!(NaiveSession::of(&session), naive);
+            if random.once_in(200) {
+                session.abandon();
+                naive = NaiveSession {
+                    shown: naive.shown.clone(),
+                    working: naive.shown.clone(),
+                    ..NaiveSession::default()
+                };
+                assert_eq!(NaiveSession::of(&session), naive);
+            }
+        }
+        assert_answer(session.finish(), if naive.open { 19 } else { 0 }, 0);
+        assert_eq!(NaiveBoard::of(session.board()), naive.shown);
+    }
+    for number in [0, 1, 2, 7, 8, 9, 10, 11, 12, 13, 14, 17] {
+        assert!(numbers.contains_key(&number), "{number} of {numbers:?}");
+    }
+}
+
+/// Any list of calls of a new writer, refused ones among them: a new session accepts the file that the writer closed.
+#[test]
+fn any_calls_of_a_writer() {
+    let mut random = Random::new(11);
+    let mut closed = 0;
+    for _ in 0..2_000 {
+        let mut writer = Writer::new();
+        let mut bytes = Vec::new();
+        for _ in 0..random.below(60) {
+            let mut out = [7; 150];
+            let length = if random.once_in(20) { 149 } else { 150 };
+            let buffer = &mut out[..length];
+            let before = writer.clone();
+            let outcome = match random.below(30) {
+                0..=5 => {
+                    let mut fields = days::header_fields(&mut random);
+                    if random.once_in(4) {
+                        days::damage(&mut random, &mut fields);
+                    }
+                    writer.header(&fields, buffer)
+                }
+                6 => writer.trailer(buffer),
+                _ => {
+                    let code = days::barcode(&mut random).unwrap();
+                    let mut fields = days::payment_fields(&mut random, &code);
+                    if random.once_in(4) {
+                        days::damage(&mut random, &mut fields);
+                    }
+                    let (received, tariff) = (random.number(13), random.number(8));
+                    writer.payment(&fields, received, tariff, buffer)
+                }
+            };
+            match outcome {
+                Ok(()) => bytes.extend_from_slice(&out),
+                Err(_) => assert_eq!((&writer, out), (&before, [7; 150])),
+            }
+        }
+        let mut session = Session::new();
+        let run = session.run(&bytes);
+        assert_eq!(run.answer, Ok(()));
+        assert_eq!(run.files, u64::from(writer.stage == Stage::Closed));
+        assert_eq!(session.open, writer.stage == Stage::Open);
+        closed += run.files;
+        if session.open {
+            assert_eq!((session.taken, session.total), (writer.taken, writer.total));
+        }
+    }
+    assert!(closed > 100);
+}
+
+/// The writer refuses what the naive check of the record refuses, with 21 in the turn of its field.
+#[test]
+fn writer_refuses_as_the_record_would() {
+    let mut random = Random::new(12);
+    let open = {
+        let mut writer = Writer::new();
+        let fields = days::header_fields(&mut random);
+        writer.header(&fields, &mut [0; 150]).unwrap();
+        writer
+    };
+    for _ in 0..60_000 {
+        let code = days::barcode(&mut random).unwrap();
+        let mut fields = days::payment_fields(&mut random, &code);
+        days::damage(&mut random, &mut fields);
+        let (received, tariff) = (random.number(14), random.number(9));
+        let text = [
+            b"G",
+            &fields[..80],
+            format!("{:012}", received % 1_000_000_000_000).as_bytes(),
+            format!("{:07}", tariff % 10_000_000).as_bytes(),
+            &fields[80..],
+            &[b' '; 9],
+        ]
+        .concat();
+        let mut refusals = Vec::new();
+        if let Err((number, place)) = common::naive::record(&text, b"G") {
+            refusals.push((place, number));
+        }
+        if received >= 1_000_000_000_000 {
+            refusals.push((82, 21));
+        }
+        if tariff >= 10_000_000 {
+            refusals.push((94, 21));
+        }
+        refusals.sort_unstable();
+        let (place, number) = refusals.first().copied().unwrap_or((0, 0));
+        let mut out = [7; 150];
+        let outcome = open.clone().payment(&fields, received, tariff, &mut out);
+        assert_answer(outcome, number, place);
+        assert_eq!(
+            &out[..],
+            if outcome.is_ok() {
+                &text[..]
+            } else {
+                &[7; 150]
+            }
+        );
+    }
+}

@@ -1,0 +1,122 @@
+//! Choices of docs/SPEC.md, "Page" and "The program quadro", each with an input that tells it from another reading.
+
+mod common;
+
+use common::{a, code_for, g, p4_code, with_byte, z};
+use reference::{page, Board};
+
+#[track_caller]
+fn assert_page(input: &[u8], lines: &[&str]) {
+    let text = lines.iter().map(|line| format!("{line}\n"));
+    assert_eq!(
+        String::from_utf8(page::page_of(input)).unwrap(),
+        text.collect::<String>()
+    );
+}
+
+#[test]
+fn records_of_the_open_file_count() {
+    let good = g(&p4_code(), 109);
+    let input = [a(), good, z(3, 109), a(), good, with_byte(good, 1, b'X')].concat();
+    assert_page(
+        &input,
+        &[
+            "answer=9",
+            "place=1",
+            "record=5",
+            "files=1",
+            "lanes=1",
+            "payments=1",
+            "centavos=109",
+            "lane=1",
+            "issuer=1-3659",
+            "payments=1",
+            "centavos=109",
+        ],
+    );
+}
+
+#[test]
+fn an_open_file() {
+    let zeros = ["lanes=0", "payments=0", "centavos=0"];
+    let good = g(&p4_code(), 109);
+    let open = ["answer=19", "place=0", "record=2", "files=0"];
+    assert_page(&[a(), good].concat(), &[&open[..], &zeros[..]].concat());
+    let refused = ["answer=14", "place=8", "record=2", "files=0"];
+    let input = [a(), good, z(3, 1)].concat();
+    assert_page(&input, &[&refused[..], &zeros[..]].concat());
+}
+
+#[test]
+fn an_empty_input() {
+    assert_page(
+        b"",
+        &[
+            "answer=0",
+            "place=0",
+            "record=0",
+            "files=0",
+            "lanes=0",
+            "payments=0",
+            "centavos=0",
+        ],
+    );
+}
+
+#[test]
+fn line_ends_are_refused() {
+    let good = [a(), g(&p4_code(), 109), z(3, 109)];
+    let lane = [
+        "lanes=1",
+        "payments=1",
+        "centavos=109",
+        "lane=1",
+        "issuer=1-3659",
+        "payments=1",
+        "centavos=109",
+    ];
+    let input = [&good.concat()[..], b"\n"].concat();
+    let head = ["answer=1", "place=0", "record=3", "files=1"];
+    assert_page(&input, &[&head[..], &lane[..]].concat());
+    let input: Vec<u8> = good
+        .iter()
+        .flat_map(|record| [&record[..], b"\r\n"].concat())
+        .collect();
+    let head = ["answer=9", "place=1", "record=1", "files=0"];
+    let none = ["lanes=0", "payments=0", "centavos=0"];
+    assert_page(&input, &[&head[..], &none[..]].concat());
+}
+
+#[test]
+fn issuers_keep_their_zeros() {
+    let input = [a(), g(&code_for(6, 12), 7), g(&code_for(1, 12), 0), z(4, 7)].concat();
+    assert_page(
+        &input,
+        &[
+            "answer=0",
+            "place=0",
+            "record=4",
+            "files=1",
+            "lanes=2",
+            "payments=2",
+            "centavos=7",
+            "lane=1",
+            "issuer=6-00000012",
+            "payments=1",
+            "centavos=7",
+            "lane=2",
+            "issuer=1-0012",
+            "payments=1",
+            "centavos=0",
+        ],
+    );
+}
+
+#[test]
+fn number_and_place_may_be_any_numbers() {
+    for (number, place) in [(0, 7), (20, 0), (22, 151), (u64::MAX, u64::MAX)] {
+        let text = String::from_utf8(page::page(number, place, 1, 2, &Board::new())).unwrap();
+        let rest = "record=1\nfiles=2\nlanes=0\npayments=0\ncentavos=0\n";
+        assert_eq!(text, format!("answer={number}\nplace={place}\n{rest}"));
+    }
+}

@@ -1,0 +1,160 @@
+//! Choices of docs/SPEC.md, "Writer", each with an input that tells it from another reading.
+
+mod common;
+
+use common::{a, assert_answer, g, p4_code, with_byte, z};
+use reference::{answer, records, Stage, Writer};
+
+const FILE_LIMIT: u64 = 99_999_999_999_999_999;
+
+fn header_fields() -> [u8; 78] {
+    let mut fields = [0; 78];
+    records::join(&a(), &mut fields).unwrap();
+    fields
+}
+
+fn payment_fields() -> [u8; 121] {
+    let mut fields = [0; 121];
+    records::join(&g(&p4_code(), 0), &mut fields).unwrap();
+    fields
+}
+
+fn open_writer() -> Writer {
+    let mut writer = Writer::new();
+    writer.header(&header_fields(), &mut [0; 150]).unwrap();
+    writer
+}
+
+#[test]
+fn order_of_calls() {
+    let (header, payment) = (header_fields(), payment_fields());
+    let mut out = [7; 150];
+    let mut writer = Writer::new();
+    assert_answer(writer.payment(&payment, 1, 1, &mut out), 9, 1);
+    assert_answer(writer.payment(&[0; 121], 1, 1, &mut out), 9, 1);
+    assert_answer(writer.payment(&payment[..120], 1, 1, &mut out), 1, 0);
+    assert_answer(writer.payment(&payment, 1, 1, &mut out[..149]), 1, 0);
+    assert_answer(writer.trailer(&mut out), 9, 1);
+    assert_answer(writer.trailer(&mut out[..149]), 1, 0);
+    assert_answer(writer.header(&header[..77], &mut out), 1, 0);
+    assert_answer(writer.header(&header, &mut out[..149]), 1, 0);
+    assert_eq!((&writer, out), (&Writer::new(), [7; 150]));
+    assert_answer(writer.header(&header, &mut out), 0, 0);
+    assert_eq!(out, a());
+    assert_answer(writer.header(&header, &mut out), 9, 1);
+    assert_answer(writer.header(&[0; 78], &mut out), 9, 1);
+    assert_eq!(out, a());
+    assert_answer(writer.payment(&payment, 109, 150, &mut out), 0, 0);
+    assert_eq!(out, g(&p4_code(), 109));
+    assert_answer(writer.trailer(&mut out), 0, 0);
+    assert_eq!(out, z(3, 109));
+    let closed = writer.clone();
+    assert_answer(writer.header(&header, &mut out), 9, 1);
+    assert_answer(writer.payment(&payment, u64::MAX, 0, &mut out), 9, 1);
+    assert_answer(writer.trailer(&mut out), 9, 1);
+    assert_answer(writer.header(&header[..77], &mut out), 1, 0);
+    assert_answer(writer.payment(&payment[..9], 1, 1, &mut out), 1, 0);
+    assert_answer(writer.trailer(&mut out[..9]), 1, 0);
+    assert_eq!((writer, out), (closed, z(3, 109)));
+}
+
+#[test]
+fn places_are_those_of_the_record() {
+    let mut out = [7; 150];
+    let fields = with_byte(header_fields(), 78, b'o');
+    assert_answer(Writer::new().header(&fields, &mut out), 10, 82);
+    let fields = with_byte(header_fields(), 41, b'x');
+    assert_answer(Writer::new().header(&fields, &mut out), 2, 43);
+    let fields = with_byte(header_fields(), 1, 10);
+    assert_answer(Writer::new().header(&fields, &mut out), 8, 3);
+    for (byte, value, number, place) in [
+        (1, 10, 8, 2),
+        (21, b'x', 2, 22),
+        (80, b'x', 2, 81),
+        (81, b'x', 2, 101),
+        (89, 10, 8, 109),
+        (97, b'7', 12, 117),
+        (98, 10, 8, 118),
+        (121, b'4', 12, 141),
+    ] {
+        let fields = with_byte(payment_fields(), byte, value);
+        assert_answer(
+            open_writer().payment(&fields, 1, 1, &mut out),
+            number,
+            place,
+        );
+    }
+    assert_eq!(out, [7; 150]);
+}
+
+#[test]
+fn wide_numbers_in_their_turn() {
+    let (e12, e7) = (1_000_000_000_000, 10_000_000);
+    let good = payment_fields();
+    let bad_code = with_byte(good, 37, b'7');
+    let bad_number = with_byte(good, 81, b'x');
+    let bad_date = with_date(good, b"20230229");
+    let mut out = [7; 150];
+    let mut assert_refused = |fields: &[u8; 121], received, tariff, number, place| {
+        let mut writer = open_writer();
+        let outcome = writer.payment(fields, received, tariff, &mut out);
+        assert_eq!(answer(&outcome), (number, place));
+        assert_eq!((&writer, out), (&open_writer(), [7; 150]));
+    };
+    assert_refused(&bad_code, e12, e7, 3, 38);
+    assert_refused(&bad_date, e12, e7, 11, 22);
+    assert_refused(&bad_number, e12, e7, 21, 82);
+    assert_refused(&bad_number, e12, 0, 21, 82);
+    assert_refused(&bad_number, e12 - 1, e7, 21, 94);
+    assert_refused(&bad_number, e12 - 1, e7 - 1, 2, 101);
+    assert_refused(&good, 0, e7, 21, 94);
+    assert_refused(&good, u64::MAX, u64::MAX, 21, 82);
+    assert_refused(&good, 0, u64::MAX, 21, 94);
+    let mut writer = open_writer();
+    common::assert_answer(writer.payment(&good, e12 - 1, e7 - 1, &mut out), 0, 0);
+    assert_eq!(&out[81..100], b"9999999999999999999");
+}
+
+fn with_date(mut fields: [u8; 121], date: &[u8; 8]) -> [u8; 121] {
+    fields[20..28].copy_from_slice(date);
+    fields
+}
+
+#[test]
+fn arbitrary_writers() {
+    let mut out = [7; 150];
+    for (taken, total, number, place) in [
+        (999_998, 0, 15, 1),
+        (u64::MAX, u64::MAX, 15, 1),
+        (999_997, FILE_LIMIT + 1, 16, 82),
+        (0, u64::MAX, 16, 82),
+    ] {
+        let mut writer = Writer {
+            stage: Stage::Open,
+            taken,
+            total,
+        };
+        let before = writer.clone();
+        assert_answer(writer.trailer(&mut out), number, place);
+        assert_eq!((&writer, out), (&before, [7; 150]));
+    }
+    let mut writer = Writer {
+        stage: Stage::Open,
+        taken: u64::MAX,
+        total: u64::MAX,
+    };
+    assert_answer(writer.payment(&payment_fields(), 0, 0, &mut out), 15, 1);
+    writer.taken = 0;
+    assert_answer(writer.payment(&payment_fields(), 0, 0, &mut out), 16, 82);
+    writer.total = FILE_LIMIT;
+    assert_answer(writer.payment(&payment_fields(), 1, 0, &mut out), 16, 82);
+    assert_eq!(out, [7; 150]);
+    assert_answer(writer.payment(&payment_fields(), 0, 0, &mut out), 0, 0);
+    writer.taken = 999_997;
+    let bad = with_byte(payment_fields(), 121, b'4');
+    assert_answer(writer.payment(&bad, 1, 0, &mut out), 12, 141);
+    assert_answer(writer.payment(&payment_fields(), 1, 0, &mut out), 15, 1);
+    assert_answer(writer.trailer(&mut out), 0, 0);
+    assert_eq!(out, z(999_999, FILE_LIMIT));
+    assert_eq!(writer.stage, Stage::Closed);
+}
