@@ -1,3 +1,4 @@
+pub mod Enums
 pub mod Orders
 pub mod Refusals
 pub mod Steps

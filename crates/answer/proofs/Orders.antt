@@ -1,5 +1,5 @@
--- The laws of orders, each by cases on its answers. Assumes nothing.
-use Prim.Native.Nat.{ℕ, _+_, _≤_, min}
+-- The laws of orders of refusals, each by cases on its answers. Assumes nothing.
+use Prim.Native.Nat.{ℕ, _+_, _≤_}
 use mathlib.Core.Bool.{Bool, true, false, cond}
 use mathlib.Core.List.{List, [], _∷_}
 use mathlib.Core.Logic.{inl, inr, ⊎-elim}
@@ -9,8 +9,9 @@ use lib.Dec.{eqb}
 use Rattle.answer.specs.declared.Reason.{Reason}
 use Rattle.answer.specs.declared.Answer.{Answer}
 use Rattle.answer.specs.declared.Answer.the-variants.{Accepted, Refused}
+use Rattle.answer.specs.Limits.{capped}
 use Rattle.answer.specs.Refusals.{answerPlace}
-use Rattle.answer.specs.Orders.{require, _then_, firstRefusal, largestPlace, StopsAt, RequireAccepts, ThenAccepts, ThenRefuses, ThenGroups, FirstAccepts, FirstRefuses, FirstJoins, MovedNumber, MovedAccepts, MovedThen, MovedTwice, BehindIsExact, RefusalKeeps, AcceptedTakes, SeenIfAccepted}
+use Rattle.answer.specs.Orders.{require, _then_, firstRefusal, StopsAt, RequireAccepts, ThenAccepts, ThenRefuses, ThenGroups, FirstAccepts, FirstRefuses, FirstJoins, MovedNumber, MovedAccepts, MovedThen, MovedTwice, BehindIsExact, RefusalKeeps, AcceptedTakes, SeenIfAccepted}
 
 -- an answer is accepted or refused, not both
 pub not-both : {X : Type 0} (a : Answer) {why : Reason} {p : ℕ} → a ≡ Refused why p → a ≡ Accepted → X
@@ -33,37 +34,38 @@ then-groups Accepted b c = refl
 then-groups (Refused why p) b c = refl
 
 pub first-accepts : {A : Type 0} → FirstAccepts A
-first-accepts question [] = (λ e. tt, λ h. refl)
-first-accepts question (x ∷ xs) =
-    let both = then-accepts (question x) (firstRefusal question xs) in
-    let rest = first-accepts question xs in
+first-accepts check [] = (λ e. tt, λ h. refl)
+first-accepts check (x ∷ xs) =
+    let both = then-accepts (check x) (firstRefusal check xs) in
+    let rest = first-accepts check xs in
     (λ e. (both .0 e .0, rest .0 (both .0 e .1)), λ h. both .1 (h .0, rest .1 (h .1)))
 
 pub first-joins : {A : Type 0} → FirstJoins A
-first-joins question [] ys = refl
-first-joins question (x ∷ xs) ys =
-    ap (λ (a : Answer). question x then a) (first-joins question xs ys) ∙ sym (then-groups (question x) (firstRefusal question xs) (firstRefusal question ys))
+first-joins check [] ys = refl
+first-joins check (x ∷ xs) ys =
+    ap (λ (a : Answer). check x then a) (first-joins check xs ys) ∙ sym (then-groups (check x) (firstRefusal check xs) (firstRefusal check ys))
 
-stops : {A : Type 0} (question : A → Answer) (why : Reason) (p : ℕ) (xs : List A) → firstRefusal question xs ≡ Refused why p → StopsAt question why p xs
-stops question why p [] e = not-both Accepted e refl
-stops question why p (x ∷ xs) e =
+stops : {A : Type 0} (check : A → Answer) (why : Reason) (p : ℕ) (xs : List A) → firstRefusal check xs ≡ Refused why p
+    → StopsAt check why p xs
+stops check why p [] e = not-both Accepted e refl
+stops check why p (x ∷ xs) e =
     ⊎-elim (λ r. record { before = []; here = x; after = xs; is = refl; accepts = refl; refuses = r })
     (λ r.
-    let later = stops question why p xs (r .1) in
+    let later = stops check why p xs (r .1) in
     record {
       before = x ∷ later .before;
       here = later .here;
       after = later .after;
       is = ap (λ l. x ∷ l) (later .is);
-      accepts = then-accepts (question x) (firstRefusal question (later .before)) .1 (r .0, later .accepts);
+      accepts = then-accepts (check x) (firstRefusal check (later .before)) .1 (r .0, later .accepts);
       refuses = later .refuses;
     })
-    (then-refuses (question x) (firstRefusal question xs) why p .0 e)
+    (then-refuses (check x) (firstRefusal check xs) why p .0 e)
 
 pub first-refuses : {A : Type 0} → FirstRefuses A
-first-refuses question why p xs = (
-  stops question why p xs,
-  λ s. rw (s .is, first-joins question (s .before) (s .here ∷ s .after), s .accepts, s .refuses),
+first-refuses check why p xs = (
+  stops check why p xs,
+  λ s. rw (s .is, first-joins check (s .before) (s .here ∷ s .after), s .accepts, s .refuses),
 )
 
 pub moved-number : MovedNumber
@@ -85,8 +87,8 @@ moved-twice move on (Refused why p) = refl
 pub behind-is-held : BehindIsExact
 behind-is-held n Accepted h = refl
 behind-is-held n (Refused why p) h =
-    let fits : (t : Bool) → min (cond t 0 (p + n)) largestPlace ≡ cond t 0 (p + n) =
-    λ t. elim t as (λ (b : Bool). min (cond b 0 (p + n)) largestPlace ≡ cond b 0 (p + n)) [ true ↦ omega arith | false ↦ omega arith ] in
+    let fits : (t : Bool) → capped (cond t 0 (p + n)) ≡ cond t 0 (p + n) =
+    λ t. elim t as (λ (b : Bool). capped (cond b 0 (p + n)) ≡ cond b 0 (p + n)) [ true ↦ omega arith | false ↦ omega arith ] in
     ap (Refused why) (fits (eqb p 0))
 
 pub refusal-keeps : {S : Type 0} → RefusalKeeps S
@@ -97,11 +99,11 @@ pub accepted-takes : {S : Type 0} → AcceptedTakes S
 accepted-takes Accepted new old h = refl
 accepted-takes (Refused why p) new old h = not-both _ refl h
 
-pub kept-seen : {S R : Type 0} → SeenIfAccepted S R
-kept-seen see Accepted new old = refl
-kept-seen see (Refused why p) new old = refl
+pub seen-if-accepted : {S R : Type 0} → SeenIfAccepted S R
+seen-if-accepted see Accepted new old = refl
+seen-if-accepted see (Refused why p) new old = refl
 
--- no place is past n where none of the questions' is
+-- no place is past n where no single test has one past n
 pub asked-place : (n : ℕ) (t : Bool) (why : Reason) (p : ℕ) → p ≤ n → answerPlace (require t why p) ≤ n
 asked-place n true why p h = omega arith
 asked-place n false why p h = h

@@ -1,4 +1,5 @@
--- How a row of tests in code meets a row of questions: a test that failed ends the row, one that held goes on. Assumes nothing.
+-- How early returns in code meet an order of refusals: a test that failed ends it, one that held goes on.
+-- Assumes nothing.
 use Prim.Native.Nat.{ℕ}
 use mathlib.Core.Bool.{Bool, true, false}
 use mathlib.Core.Path.{_≡_, refl}
@@ -7,7 +8,7 @@ use Rattle.answer.specs.declared.Answer.{Answer}
 use Rattle.answer.specs.declared.Answer.the-variants.{Accepted, Refused}
 use Rattle.answer.specs.Orders.{require, _then_, movedBy}
 
--- one question
+-- one test
 module _ (t : Bool) (why : Reason) (p : ℕ) where
   pub stop : t ≡ false → Refused why p ≡ require t why p
   stop h = rw h
@@ -21,8 +22,9 @@ module _ (t : Bool) (why : Reason) (p : ℕ) where
   pub goes : {next b : Answer} → t ≡ true → b ≡ next → b ≡ require t why p then next
   goes h e = rw h e
 
--- a row that accepts: its first test held, and the rest accepts
-pub passed : (t : Bool) (why : Reason) (p : ℕ) {next : Answer} → require t why p then next ≡ Accepted → (t ≡ true) × (next ≡ Accepted)
+-- an order that accepts: its first test held, and the rest accepts
+pub passed : (t : Bool) (why : Reason) (p : ℕ) {next : Answer} → require t why p then next ≡ Accepted
+    → (t ≡ true) × (next ≡ Accepted)
 passed true why p h = (refl, h)
 passed false why p h = (cc, cc)
 
@@ -34,5 +36,6 @@ pub onward : {a b next x : Answer} → a ≡ b → a ≡ Accepted → x ≡ next
 onward {a} {b} e f h = let g : b ≡ Accepted = cc in rw g h
 
 -- an answer that is moved
-pub moved-to : {a b : Answer} (move : ℕ → ℕ) {why : Reason} {p q : ℕ} → a ≡ b → a ≡ Refused why p → q ≡ move p → Refused why q ≡ movedBy move b
+pub moved-to : {a b : Answer} (move : ℕ → ℕ) {why : Reason} {p q : ℕ} → a ≡ b → a ≡ Refused why p → q ≡ move p
+    → Refused why q ≡ movedBy move b
 moved-to {a} {b} move {why} {p} e f h = let g : b ≡ Refused why p = cc in rw (g, h)

@@ -1,37 +1,44 @@
--- The refusal numbers of document 01, and the number and the place that an answer shows. Assumes nothing.
+-- The refusals of SPEC.md, "Refusals": their numbers, and the number and place that an answer shows. Assumes nothing.
 use Prim.Native.Nat.{ℕ}
+use mathlib.Core.Bool.{cond}
+use mathlib.Core.List.{List, [], _∷_}
 use mathlib.Core.Logic.{_↔_}
 use mathlib.Core.Path.{_≡_}
+use lib.Dec.{eqb}
 use Rattle.answer.specs.declared.Reason.{Reason}
-use Rattle.answer.specs.declared.Reason.the-variants.{WrongLength, NoDigit, WrongProduct, UnknownSegment, UnknownKind, WrongBoxCheck, WrongGeneralCheck, NoText, NotExpected, FixedDiffers, NoDate, UnknownCode, CountDiffers, TotalDiffers, FileFull, FileTotalPassed, BoardFull, BoardTotalPassed, FileOpen, CheckTwoPlaces, TooWide}
+use Rattle.answer.specs.declared.Reason.the-variants as reason
+use Rattle.answer.specs.declared.MaybeReason.{MaybeReason}
+use Rattle.answer.specs.declared.MaybeReason.the-variants as found
 use Rattle.answer.specs.declared.Answer.{Answer}
 use Rattle.answer.specs.declared.Answer.the-variants.{Accepted, Refused}
+use Rattle.answer.specs.declared.MaybeAnswer.{MaybeAnswer}
+use Rattle.answer.specs.declared.MaybeAnswer.the-variants.{Is, NoAnswer}
 
--- the paper's number of each reason, and when it is given
+-- each reason's number, and when it is given
 abbrev pub reasonNumber : Reason → ℕ
-reasonNumber WrongLength = 1  -- a length is not exactly the one called for
-reasonNumber NoDigit = 2  -- a byte is no digit
-reasonNumber WrongProduct = 3  -- product not 8
-reasonNumber UnknownSegment = 4  -- segment not 1 to 7 or 9
-reasonNumber UnknownKind = 5  -- value kind not 6 to 9
-reasonNumber WrongBoxCheck = 6  -- a box check is wrong
-reasonNumber WrongGeneralCheck = 7  -- general check is wrong
-reasonNumber NoText = 8  -- no text byte
-reasonNumber NotExpected = 9  -- first byte names no record expected now
-reasonNumber FixedDiffers = 10  -- fixed field differs
-reasonNumber NoDate = 11  -- eight digits, no date
-reasonNumber UnknownCode = 12  -- capture or payment form unknown
-reasonNumber CountDiffers = 13  -- trailer count differs
-reasonNumber TotalDiffers = 14  -- trailer total differs
-reasonNumber FileFull = 15  -- a G when as many were taken as a file can have
-reasonNumber FileTotalPassed = 16  -- G takes the file's total past its limit
-reasonNumber BoardFull = 17  -- new issuer, all lanes taken
-reasonNumber BoardTotalPassed = 18  -- G takes a board total past its limit
-reasonNumber FileOpen = 19  -- end with a file open
-reasonNumber CheckTwoPlaces = 20  -- a computed check needs two places
-reasonNumber TooWide = 21  -- builder's or writer's number too wide
+reasonNumber reason.WrongLength = 1  -- a length is not exactly the one called for
+reasonNumber reason.NoDigit = 2  -- a byte is no digit
+reasonNumber reason.WrongProduct = 3  -- product not 8
+reasonNumber reason.UnknownSegment = 4  -- segment not 1 to 7 or 9
+reasonNumber reason.UnknownKind = 5  -- value kind not 6 to 9
+reasonNumber reason.WrongBoxCheck = 6  -- a box check is wrong
+reasonNumber reason.WrongGeneralCheck = 7  -- general check is wrong
+reasonNumber reason.NoText = 8  -- no text byte
+reasonNumber reason.NotExpected = 9  -- first byte names no record expected now
+reasonNumber reason.FixedDiffers = 10  -- fixed field differs
+reasonNumber reason.NoDate = 11  -- eight digits, no date
+reasonNumber reason.UnknownCode = 12  -- capture or payment form unknown
+reasonNumber reason.CountDiffers = 13  -- trailer count differs
+reasonNumber reason.TotalDiffers = 14  -- trailer total differs
+reasonNumber reason.FileFull = 15  -- a payment when as many were taken as a file can have
+reasonNumber reason.FileTotalPassed = 16  -- a payment takes the file's total past its limit
+reasonNumber reason.BoardFull = 17  -- new issuer, all lanes taken
+reasonNumber reason.BoardTotalPassed = 18  -- a payment takes a board total past its limit
+reasonNumber reason.FileOpen = 19  -- end with a file open
+reasonNumber reason.CheckTwoPlaces = 20  -- a computed check needs two places
+reasonNumber reason.TooWide = 21  -- builder's or writer's number too wide
 
--- 0 is accepted, with place 0
+-- accepted is 0, with place 0
 abbrev pub answerNumber : Answer → ℕ
 answerNumber Accepted = 0
 answerNumber (Refused why place) = reasonNumber why
@@ -40,7 +47,32 @@ abbrev pub answerPlace : Answer → ℕ
 answerPlace Accepted = 0
 answerPlace (Refused why place) = place
 
--- The places of a G that refusals 16 to 18 point at: its received centavos, and the issuer in its barcode.
+-- every reason, in any order
+abbrev pub reasons : List Reason
+reasons =
+    reason.WrongLength ∷ reason.NoDigit ∷ reason.WrongProduct ∷ reason.UnknownSegment ∷ reason.UnknownKind
+    ∷ reason.WrongBoxCheck ∷ reason.WrongGeneralCheck ∷ reason.NoText ∷ reason.NotExpected ∷ reason.FixedDiffers
+    ∷ reason.NoDate ∷ reason.UnknownCode ∷ reason.CountDiffers ∷ reason.TotalDiffers ∷ reason.FileFull
+    ∷ reason.FileTotalPassed ∷ reason.BoardFull ∷ reason.BoardTotalPassed ∷ reason.FileOpen ∷ reason.CheckTwoPlaces
+    ∷ reason.TooWide ∷ []
+
+-- the first of some reasons that has the number
+abbrev pub reasonAmong : ℕ → List Reason → MaybeReason
+reasonAmong number [] = found.NoReason
+reasonAmong number (why ∷ rest) = cond (eqb (reasonNumber why) number) (found.Is why) (reasonAmong number rest)
+
+unfoldable pub reasonFrom : ℕ → MaybeReason
+reasonFrom number = reasonAmong number reasons
+
+-- the answer with a number and a place; 0 is accepted, whatever the place
+abbrev pub refusedFor : MaybeReason → ℕ → MaybeAnswer
+refusedFor (found.Is why) place = Is (Refused why place)
+refusedFor found.NoReason place = NoAnswer
+
+abbrev pub answerFrom : ℕ → ℕ → MaybeAnswer
+answerFrom number place = cond (eqb number 0) (Is Accepted) (refusedFor (reasonFrom number) place)
+
+-- The places of a payment record that refusals 16 to 18 point at: its received centavos, and the issuer in its barcode.
 
 abbrev pub receivedPlace : ℕ
 receivedPlace = 82
@@ -57,3 +89,10 @@ NumbersDiffer = (a b : Reason) → reasonNumber a ≡ reasonNumber b → a ≡ b
 -- 0 names acceptance alone
 abbrev pub ZeroIsAccepted : Type 0
 ZeroIsAccepted = (a : Answer) → (answerNumber a ≡ 0) ↔ (a ≡ Accepted)
+
+-- an answer comes back from its number and place, and what comes back has the number
+abbrev pub AnswerComesBack : Type 0
+AnswerComesBack = (a : Answer) → answerFrom (answerNumber a) (answerPlace a) ≡ Is a
+
+abbrev pub FromItsNumber : Type 0
+FromItsNumber = (number place : ℕ) (a : Answer) → answerFrom number place ≡ Is a → answerNumber a ≡ number

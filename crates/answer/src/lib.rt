@@ -1,9 +1,14 @@
 // What a call answers: accepted, or one refusal with its place.
 ghost use mathlib.Core.Path.{_≡_};
-ghost use Rattle.answer.specs.Refusals.{reasonNumber, answerNumber, answerPlace};
+ghost use Rattle.answer.specs.Refusals.{reasonNumber, answerNumber, answerPlace, reasonFrom, answerFrom};
 ghost use Rattle.answer.specs.Orders.{movedBy, cappedBehind};
 
-// What is wrong, in the order of document 01's refusal numbers.
+// Why something is refused (SPEC.md, "Refusals"). The order of the variants means nothing.
+//
+// A new reason changes together: this enum, `Reason::number`, `REASONS` with its count, and in specs/Refusals.antt
+// `reasonNumber` and `reasons`. The proof of `Reason::number` gets a line in each of its two lists. Nothing else
+// lists the reasons: that the numbers differ, and that the list has them all, is computed over the enum as it is
+// declared (proofs/Refusals.antt).
 pub enum Reason {
     WrongLength,
     NoDigit,
@@ -28,18 +33,58 @@ pub enum Reason {
     TooWide,
 }
 
-// The places of a G that refusals 16 to 18 point at.
+const REASON_COUNT: usize = 21;
+
+// Every reason once, in any order: a number is looked up here, never taken for a position.
+const REASONS: [Reason; REASON_COUNT] = [
+    Reason::WrongLength,
+    Reason::NoDigit,
+    Reason::WrongProduct,
+    Reason::UnknownSegment,
+    Reason::UnknownKind,
+    Reason::WrongBoxCheck,
+    Reason::WrongGeneralCheck,
+    Reason::NoText,
+    Reason::NotExpected,
+    Reason::FixedDiffers,
+    Reason::NoDate,
+    Reason::UnknownCode,
+    Reason::CountDiffers,
+    Reason::TotalDiffers,
+    Reason::FileFull,
+    Reason::FileTotalPassed,
+    Reason::BoardFull,
+    Reason::BoardTotalPassed,
+    Reason::FileOpen,
+    Reason::CheckTwoPlaces,
+    Reason::TooWide,
+];
+
+enum MaybeReason {
+    Is(Reason),
+    NoReason,
+}
+
+// The places of a payment record, G, that refusals 16 to 18 point at: its received centavos, and the issuer in its
+// barcode.
 pub const RECEIVED_PLACE: usize = 82;
 
 pub const ISSUER_PLACE: usize = 53;
 
-// A place counts from 1 in what was read; 0 where a refusal has none.
+// A place counts from 1 in what was read; it is 0 where a refusal has none.
 pub enum Answer {
     Accepted,
     Refused(Reason, usize),
 }
 
+// What `Answer::from_number` finds.
+pub enum MaybeAnswer {
+    Is(Answer),
+    NoAnswer,
+}
+
 impl Reason {
+    // The refusal's number in SPEC.md, "Refusals". No two reasons have the same, and none has 0.
     pub fn number(self) -> u8
         ensures { λ r. ⌜ r ≡ reasonNumber self ⌝ }
     {
@@ -69,20 +114,35 @@ impl Reason {
     }
 }
 
+fn reason_from(number: u64) -> MaybeReason
+    ensures { λ r. ⌜ r ≡ reasonFrom number ⌝ }
+{
+    let reasons = REASONS;
+    let mut i = 0;
+    while i < REASON_COUNT {
+        let reason = reasons[i];
+        if reason.number() as u64 == number {
+            return MaybeReason::Is(reason);
+        }
+        i += 1;
+    }
+    MaybeReason::NoReason
+}
+
 fn place_behind(before: usize, place: usize) -> usize
     ensures { λ r. ⌜ r ≡ cappedBehind before place ⌝ }
 {
     if place == 0 {
         return 0;
     }
-    if 18446744073709551615 - before < place {
-        return 18446744073709551615;
+    if usize::MAX - before < place {
+        return usize::MAX;
     }
     place + before
 }
 
 impl Answer {
-    // 0 where it is accepted.
+    // The refusal's number; 0 where it is accepted.
     pub fn number(self) -> u8
         ensures { λ r. ⌜ r ≡ answerNumber self ⌝ }
     {
@@ -92,7 +152,7 @@ impl Answer {
         }
     }
 
-    // 0 where it is accepted.
+    // The refusal's place, 0 where it has none; 0 where it is accepted.
     pub fn place(self) -> usize
         ensures { λ r. ⌜ r ≡ answerPlace self ⌝ }
     {
@@ -101,7 +161,23 @@ impl Answer {
             Answer::Refused(_, place) => place,
         }
     }
-    // The same answer about a part, where the part stands behind so many bytes of the whole.
+
+    // The inverse of `number` and `place`: the answer that has them. Accepted for 0, whatever the place; none for a
+    // number that no refusal has.
+    pub fn from_number(number: u64, place: usize) -> MaybeAnswer
+        ensures { λ r. ⌜ r ≡ answerFrom number place ⌝ }
+    {
+        if number == 0 {
+            return MaybeAnswer::Is(Answer::Accepted);
+        }
+        match reason_from(number) {
+            MaybeReason::Is(why) => MaybeAnswer::Is(Answer::Refused(why, place)),
+            MaybeReason::NoReason => MaybeAnswer::NoAnswer,
+        }
+    }
+
+    // An answer about a part as an answer about the whole, where `before` bytes come before the part: the place is so
+    // much larger. A refusal without a place gets none, and a place past usize::MAX stays there.
     pub fn behind(self, before: usize) -> Answer
         ensures { λ r. ⌜ r ≡ movedBy (cappedBehind before) self ⌝ }
     {

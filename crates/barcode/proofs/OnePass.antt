@@ -19,7 +19,8 @@ use Rattle.answer.proofs.Orders.{asked-accepts, then-accepts}
 use Rattle.answer.proofs.Steps.{passed}
 use Rattle.decimal.specs.declared.Class.the-variants.{Digit}
 use Rattle.decimal.specs.Bytes.{isOf, all, eachIs}
-use Rattle.decimal.specs.Numbers.{valueOf, numberOf, lowNumberOf}
+use Rattle.decimal.specs.LowHalves.{lowNumberOf}
+use Rattle.decimal.specs.Numbers.{valueOf, numberOf}
 use Rattle.decimal.proofs.Bytes.{each-accepts, all-of-part}
 use Rattle.decimal.proofs.Numbers.{value-other, range-digit, low-of-digits, nineteen-are-held}
 use Rattle.modulus.specs.declared.Modulus.{Modulus}

@@ -21,12 +21,13 @@ use Rattle.calendar.specs.declared.MaybeDate.the-variants.{On, NoDate}
 use Rattle.calendar.specs.Dates.{isLeap, months, daysIn, isDate, spelled, dateOf, spelling, DateIsItsSpelling, SpellingIsItsDate}
 use Rattle.calendar.proofs.Months.{no-month}
 
--- what is left to ask of a date whose year and day are in range
-pub by-days : (d : Date) {n : ℕ} → 1900 ≤ d .year → d .year ≤ 2199 → 1 ≤ d .day → n ≡ daysIn (d .year) (d .month) → leb (d .day) n ≡ isDate d
+-- what is left to check of a date whose year and day are in range
+pub by-days : (d : Date) {n : ℕ} → 1900 ≤ d .year → d .year ≤ 2199 → 1 ≤ d .day → n ≡ daysIn (d .year) (d .month)
+    → leb (d .day) n ≡ isDate d
 unfolding isDate
 by-days d lo hi one e = rw (e, le-leb 1900 (d .year) lo, le-leb (d .year) 2199 hi, le-leb 1 (d .day) one)
 
--- digits of a list, and the numbers that they stand for
+-- a digit of a list, and the numbers of two and four
 pub digit-at : (bs : List ℕ) (i : ℕ) → all (isOf Digit) bs ≡ true → i < length bs
     → (48 ≤ getD bs i 0) × (getD bs i 0 ≤ 57) × (valueOf (getD bs i 0) ≡ getD bs i 0 - 48)
 digit-at bs i a h =
@@ -34,7 +35,8 @@ digit-at bs i a h =
     let range = digit-range (getD bs i 0) t in
     (range .0, range .1, value-digit (getD bs i 0) t)
 
-pub two : (bs : List ℕ) (at : ℕ) → at + 2 ≤ length bs → numberOf (take 2 (drop at bs)) ≡ valueOf (getD bs at 0) * 10 + valueOf (getD bs (at + 1) 0)
+pub two : (bs : List ℕ) (at : ℕ) → at + 2 ≤ length bs
+    → numberOf (take 2 (drop at bs)) ≡ valueOf (getD bs at 0) * 10 + valueOf (getD bs (at + 1) 0)
 two bs at h = rw (drop-cons bs at 0 (omega arith), drop-cons bs (suc at) 0 (omega arith), add-one) (omega arith)
 
 four : (bs : List ℕ) → 4 ≤ length bs → 100 * numberOf (take 2 bs) + numberOf (take 2 (drop 2 bs)) ≡ numberOf (take 4 bs)
@@ -54,18 +56,21 @@ module _ (bs : List ℕ) where
   unfolding dateOf
   no-digits n a = rw (eq-eqb (length bs) 8 n, a)
 
-  pub as-spelled : {c y m d : ℕ} → length bs ≡ 8 → c ≡ numberOf (take 2 bs) → y ≡ numberOf (places 3 4 bs) → m ≡ numberOf (places 5 6 bs)
+  pub as-spelled : {c y m d : ℕ} → length bs ≡ 8 → c ≡ numberOf (take 2 bs) → y ≡ numberOf (places 3 4 bs)
+      → m ≡ numberOf (places 5 6 bs)
       → d ≡ numberOf (places 7 8 bs) → _≡_ {A = Date} (record { year = 100 * c + y; month = m; day = d }) (spelled bs)
   as-spelled n ec ey em ed = rw (ec, ey, em, ed, four bs (omega arith))
 
-  pub judged : {d : Date} {t : Bool} → length bs ≡ 8 → all (isOf Digit) bs ≡ true → d ≡ spelled bs → t ≡ isDate d → cond t (On d) NoDate ≡ dateOf bs
+  pub judged : {d : Date} {t : Bool} → length bs ≡ 8 → all (isOf Digit) bs ≡ true → d ≡ spelled bs → t ≡ isDate d
+      → cond t (On d) NoDate ≡ dateOf bs
   unfolding dateOf
   judged n a e f = rw (f, e, eq-eqb (length bs) 8 n, a)
 
 -- Bytes that are a date are its spelling.
 
 module _ (bs : List ℕ) (n : length bs ≡ 8) (a : all (isOf Digit) bs ≡ true) where
-  part-spelled : (from count : ℕ) → from + count ≤ 8 → digitsOf count (numberOf (take count (drop from bs))) ≡ take count (drop from bs)
+  part-spelled : (from count : ℕ) → from + count ≤ 8
+      → digitsOf count (numberOf (take count (drop from bs))) ≡ take count (drop from bs)
   part-spelled from count fits =
       let l : length (take count (drop from bs)) ≡ count = length-take-le count (drop from bs) (omega (arith, length-drop from bs)) in
       rw l at (digits-of-number (take count (drop from bs)) (all-of-part (isOf Digit) from count bs a))
@@ -81,7 +86,8 @@ pub date-is-its-spelling : DateIsItsSpelling
 unfolding dateOf
 date-is-its-spelling bs d e = go (eqb (length bs) 8 && (all (isOf Digit) bs && isDate (spelled bs))) refl e
   where
-    go : (t : Bool) → (eqb (length bs) 8 && (all (isOf Digit) bs && isDate (spelled bs))) ≡ t → cond t (On (spelled bs)) NoDate ≡ On d
+    go : (t : Bool) → (eqb (length bs) 8 && (all (isOf Digit) bs && isDate (spelled bs))) ≡ t
+        → cond t (On (spelled bs)) NoDate ≡ On d
         → (isDate d ≡ true) × (spelling d ≡ bs)
     go true h q =
         let s : spelled bs ≡ d = cc in
@@ -131,7 +137,8 @@ in-range d h =
 
 -- three stretches of digits, read back
 module _ (a b c : List ℕ) (la : length a ≡ 4) (lb : length b ≡ 2) (lc : length c ≡ 2) where
-  all-three : all (isOf Digit) a ≡ true → all (isOf Digit) b ≡ true → all (isOf Digit) c ≡ true → all (isOf Digit) (a ++ (b ++ c)) ≡ true
+  all-three : all (isOf Digit) a ≡ true → all (isOf Digit) b ≡ true → all (isOf Digit) c ≡ true
+      → all (isOf Digit) (a ++ (b ++ c)) ≡ true
   all-three da db dc = rw (all-joins (isOf Digit) a (b ++ c), da, all-joins (isOf Digit) b c, db, dc)
 
   spelled-three : spelled (a ++ (b ++ c)) ≡ record { year = numberOf a; month = numberOf b; day = numberOf c }

@@ -1,4 +1,4 @@
-pub mod Common
+pub mod AnyYear
 pub mod Dates
 pub mod Months
 pub mod Samples

@@ -1,4 +1,4 @@
--- Dates: YYYYMMDD, Gregorian, years 1900 to 2199. Assumes nothing.
+-- Dates (SPEC.md, "Dates"): YYYYMMDD, Gregorian, years 1900 to 2199. Assumes nothing.
 use Prim.Native.Nat.{ℕ, _%_}
 use mathlib.Core.Bool.{Bool, true, false, cond, not, _&&_, _||_}
 use mathlib.Core.List.{List, [], _∷_, _++_}
@@ -13,7 +13,7 @@ use Rattle.calendar.specs.declared.Date.{Date}
 use Rattle.calendar.specs.declared.MaybeDate.{MaybeDate}
 use Rattle.calendar.specs.declared.MaybeDate.the-variants.{On, NoDate}
 
--- every fourth year, of the hundreds every fourth too
+-- every fourth year, but of the years that end a century only every fourth
 unfoldable pub isLeap : ℕ → Bool
 isLeap year = eqb (year % 4) 0 && (not (eqb (year % 100) 0) || eqb (year % 400) 0)
 
@@ -30,9 +30,10 @@ isDate d = within 1900 2199 (d .year) && within 1 (daysIn (d .year) (d .month)) 
 
 -- the year, month and day that the places spell
 abbrev pub spelled : List ℕ → Date
-spelled bs = record { year = numberOf (places 1 4 bs); month = numberOf (places 5 6 bs); day = numberOf (places 7 8 bs) }
+spelled bs =
+    record { year = numberOf (places 1 4 bs); month = numberOf (places 5 6 bs); day = numberOf (places 7 8 bs) }
 
--- the date of eight digits that are one
+-- the date that eight digits spell; none of other bytes, and of digits that are no date
 unfoldable pub dateOf : List ℕ → MaybeDate
 dateOf bs = cond (eqb (length bs) 8 && (all (isOf Digit) bs && isDate (spelled bs))) (On (spelled bs)) NoDate
 

@@ -1,3 +1,3 @@
-pub mod Common
+pub mod AnyYear
 pub mod Dates
 pub mod Samples

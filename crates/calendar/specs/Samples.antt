@@ -29,4 +29,5 @@ edges =
 
 -- Promise: each sample is what it is said to be.
 abbrev pub Hold : List Sample → Type 0
-Hold samples = map (λ (s : Sample). isFound (dateOf (digitsOf 8 (s .digits)))) samples ≡ map (λ (s : Sample). s .date) samples
+Hold samples =
+    map (λ (s : Sample). isFound (dateOf (digitsOf 8 (s .digits)))) samples ≡ map (λ (s : Sample). s .date) samples

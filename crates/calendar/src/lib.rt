@@ -1,14 +1,15 @@
-// Gregorian dates as eight digit bytes, YYYYMMDD.
+// Gregorian dates as eight digit bytes, YYYYMMDD, of the years 1900 to 2199 (SPEC.md, "Dates").
 ghost use mathlib.Core.Bool.{true};
 ghost use mathlib.Core.Path.{_≡_};
 ghost use Prim.Native.Nat.{_+_, _/_, _%_, _≤_};
 ghost use lib.ListN.{length, take, drop};
-ghost use Rattle.decimal.specs.Bytes.{within, isOf, all};
+ghost use Rattle.decimal.specs.Bytes.{isOf, all};
 ghost use Rattle.decimal.specs.Numbers.{numberOf};
 ghost use Rattle.calendar.specs.Dates.{isLeap, daysIn, isDate, dateOf, isFound};
-ghost use Rattle.calendar.specs.Common.{CommonIn};
+ghost use Rattle.calendar.specs.AnyYear.{DateInAnyYear};
 use decimal::Class;
 
+// Three numbers, of which `is_date` says whether they are a date.
 #[repr(C)]
 pub struct Date {
     pub year: u64,
@@ -16,11 +17,13 @@ pub struct Date {
     pub day: u64,
 }
 
+// What `read_date` finds.
 pub enum MaybeDate {
     On(Date),
     NoDate,
 }
 
+// Every fourth year, but of the years that end a century only every fourth.
 fn is_leap(year: u64) -> bool
     ensures { λ r. ⌜ r ≡ isLeap year ⌝ }
 {
@@ -41,6 +44,7 @@ fn month_end(month: u64) -> u64
     30 + (month + month / 8) % 2
 }
 
+// The days of a month; 0 where there is no such month.
 fn days_in(year: u64, month: u64) -> u64
     ensures { λ r. ⌜ r ≡ daysIn year month ⌝ }
 {
@@ -59,6 +63,7 @@ fn days_in(year: u64, month: u64) -> u64
     month_end(month)
 }
 
+// Whether it is a date of the years 1900 to 2199.
 pub fn is_date(date: Date) -> bool
     ensures { λ r. ⌜ r ≡ isDate date ⌝ }
 {
@@ -74,7 +79,7 @@ pub fn is_date(date: Date) -> bool
     date.day <= days_in(date.year, date.month)
 }
 
-// The number of the two digits at an index.
+// The number of the two digits from an index on.
 fn pair(bytes: &[u8], at: usize) -> u64
     requires { ⌜ (at + 2 ≤ length (now bytes)) × (all (isOf Class.Digit) (now bytes) ≡ true) ⌝ }
     ensures { λ r. ⌜ r ≡ numberOf (take 2 (drop at (now (bytes .entry)))) ⌝ }
@@ -83,6 +88,7 @@ fn pair(bytes: &[u8], at: usize) -> u64
     (bytes[at] as u64 - 48) * 10 + (bytes[at + 1] as u64 - 48)
 }
 
+// The date that eight digits spell; none where there are not eight bytes, one is no digit, or they are no date.
 pub fn read_date(bytes: &[u8]) -> MaybeDate
     ensures { λ r. ⌜ r ≡ dateOf (now (bytes .entry)) ⌝ }
 {
@@ -104,20 +110,23 @@ pub fn read_date(bytes: &[u8]) -> MaybeDate
     }
 }
 
-fn in_range(lo: u64, hi: u64, n: u64) -> bool
-    ensures { λ r. ⌜ r ≡ within lo hi n ⌝ }
+// The fast path of `is_date_text`: true only for a day that is a date in every year of its century, so that the year
+// need not be read; false decides nothing. It repeats the limits of `is_date` (the years 1900 to 2199 are the centuries
+// 19 to 21) and the months of `days_in`, without the 29th of February, and must change with them. proofs/AnyYear.antt
+// ties them.
+fn is_date_in_any_year(century: u64, month: u64, day: u64) -> bool
+    ensures { λ r. ⌜ (r ≡ true → DateInAnyYear century month day) ⌝ }
 {
-    lo <= n && n <= hi
-}
-
-// A day that does not wait on its year, in one of the three centuries.
-fn is_common(century: u64, month: u64, day: u64) -> bool
-    ensures { λ r. ⌜ (r ≡ true → CommonIn century month day) ⌝ }
-{
-    if !in_range(19, 21, century) {
+    if century < 19 {
         return false;
     }
-    if !in_range(1, 12, month) {
+    if 21 < century {
+        return false;
+    }
+    if month < 1 {
+        return false;
+    }
+    if 12 < month {
         return false;
     }
     if day < 1 {
@@ -132,7 +141,7 @@ fn is_common(century: u64, month: u64, day: u64) -> bool
     day <= month_end(month)
 }
 
-// Whether the bytes are a date; of a common day the year is not made.
+// Whether the bytes are eight digits that spell a date: `read_date` finds one. False for any other number of bytes.
 pub fn is_date_text(bytes: &[u8]) -> bool
     ensures { λ r. ⌜ r ≡ isFound (dateOf (now (bytes .entry))) ⌝ }
 {
@@ -142,7 +151,7 @@ pub fn is_date_text(bytes: &[u8]) -> bool
     if !decimal::all_of(Class::Digit, bytes) {
         return false;
     }
-    if is_common(pair(bytes, 0), pair(bytes, 4), pair(bytes, 6)) {
+    if is_date_in_any_year(pair(bytes, 0), pair(bytes, 4), pair(bytes, 6)) {
         return true;
     }
     match read_date(bytes) {

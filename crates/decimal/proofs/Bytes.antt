@@ -1,4 +1,4 @@
--- Laws of a part whose bytes are asked a test. They hold for every test. Assumes nothing.
+-- Laws of a part whose bytes must pass a test. They hold for every test. Assumes nothing.
 use Prim.Native.Nat.{ℕ, zero, suc, _+_, _-_, _<_, _≤_}
 use mathlib.Core.Bool.{Bool, true, false, cond, _&&_, and-eq-true-iff, and-assoc, and-true, and-false}
 use mathlib.Core.List.{List, [], _∷_}
@@ -57,16 +57,16 @@ each-refuses ok why p (suc i) (b ∷ bs) h a e =
     let later = each-refuses ok why (suc p) i bs (omega arith) (both .1) e in
     rw (both .0, later, add-suc, suc-add)
 
-asked-moves : (t : Bool) (why : Reason) (p by : ℕ) → require t why (p + by) ≡ movedBy (λ q. q + by) (require t why p)
-asked-moves true why p by = refl
-asked-moves false why p by = refl
+require-moves : (t : Bool) (why : Reason) (p by : ℕ) → require t why (p + by) ≡ movedBy (λ q. q + by) (require t why p)
+require-moves true why p by = refl
+require-moves false why p by = refl
 
 pub each-moves : EachMoves
 each-moves ok why p by [] = refl
 each-moves ok why p by (b ∷ bs) =
     let rest = each-moves ok why (suc p) by bs in
     let e : suc (p + by) ≡ suc p + by = sym (suc-add p by) in
-    rw (e, rest, asked-moves (ok b) why p by) (sym (moved-then (λ q. q + by) (require (ok b) why p) (eachIs ok why (suc p) bs)))
+    rw (e, rest, require-moves (ok b) why p by) (sym (moved-then (λ q. q + by) (require (ok b) why p) (eachIs ok why (suc p) bs)))
 
 pub each-place : (ok : ℕ → Bool) (why : Reason) (p : ℕ) (bs : List ℕ) → answerPlace (eachIs ok why p bs) ≤ p + length bs
 each-place ok why p [] = omega arith
@@ -80,13 +80,14 @@ module _ (ok : ℕ → Bool) (why : Reason) (bs : List ℕ) (i : ℕ) where
       → eachIs ok why (i + 1 + 1) (drop (i + 1) bs) ≡ r
   later h e q = rw (add-one (i + 1), add-one) (rw (add-one, drop-cons bs i 0 h, e) at q)
 
-  pub here : {r : Answer} → i < length bs → ok (getD bs i 0) ≡ false → eachIs ok why (i + 1) (drop i bs) ≡ r → Refused why (i + 1) ≡ r
+  pub here : {r : Answer} → i < length bs → ok (getD bs i 0) ≡ false → eachIs ok why (i + 1) (drop i bs) ≡ r
+      → Refused why (i + 1) ≡ r
   here h e q = rw (drop-cons bs i 0 h, e) at q
 
   pub none : {r : Answer} → length bs ≤ i → eachIs ok why (i + 1) (drop i bs) ≡ r → Accepted ≡ r
   none h q = rw (drop-of-length-le bs h) at q
 
--- The flag of that loop: 0 as long as no byte failed.
+-- The flag of a loop over all bytes: 0 as long as none failed.
 or-one : (n : ℕ) → eqb (bitOr n 1) 0 ≡ false
 or-one n = ne-eqb _ _ (λ (e : bitOr n 1 ≡ 0). omega (arith, or-add-and n 1, and-le-l n 1))
 
@@ -102,14 +103,15 @@ two-flags false true = refl
 two-flags false false = refl
 
 module _ (ok : ℕ → Bool) (bs : List ℕ) (i n : ℕ) where
-  pub flag-step : {f : ℕ} {r : Bool} → i < length bs → f ≡ cond (ok (getD bs i 0)) 0 1 → (eqb n 0 && all ok (drop i bs)) ≡ r
+  pub flag-step : {f : ℕ} {r : Bool} → i < length bs → f ≡ cond (ok (getD bs i 0)) 0 1
+      → (eqb n 0 && all ok (drop i bs)) ≡ r
       → (eqb (bitOr n f) 0 && all ok (drop (i + 1) bs)) ≡ r
   flag-step h e q = rw (e, add-one, flag-on (ok (getD bs i 0)) n (all ok (drop (suc i) bs))) (rw (drop-cons bs i 0 h) at q)
 
   pub flag-end : {r : Bool} → length bs ≤ i → (eqb n 0 && all ok (drop i bs)) ≡ r → eqb n 0 ≡ r
   flag-end h q = rw (drop-of-length-le bs h, and-true) at q
 
--- A part asked in rows: the bytes before i were asked, and the last row may start before it.
+-- A part checked in rows: the bytes before i have passed, and the last row may start before i.
 module _ (ok : ℕ → Bool) (bs : List ℕ) (i : ℕ) where
   pub row-fails : (n : ℕ) {t : Bool} → t ≡ all ok (take n (drop i bs)) → t ≡ false → false ≡ all ok bs
   row-fails n e f = go (all ok bs) refl
@@ -118,7 +120,8 @@ module _ (ok : ℕ → Bool) (bs : List ℕ) (i : ℕ) where
       go true h = sym f ∙ e ∙ all-of-part ok i n bs h ∙ sym h
       go false h = sym h
 
-  pub row-passes : (n : ℕ) {t : Bool} → t ≡ all ok (take n (drop i bs)) → t ≡ true → all ok (take i bs) ≡ true → all ok (take (i + n) bs) ≡ true
+  pub row-passes : (n : ℕ) {t : Bool} → t ≡ all ok (take n (drop i bs)) → t ≡ true → all ok (take i bs) ≡ true
+      → all ok (take (i + n) bs) ≡ true
   row-passes n e f p = rw (take-add i n bs, all-joins ok (take i bs) (take n (drop i bs)), p) (sym e ∙ f)
 
   pub last-row : (w : ℕ) {t : Bool} → w ≤ length bs → length bs - w ≤ i → all ok (take i bs) ≡ true

@@ -1,4 +1,5 @@
--- A fact of every number below a numeral, from a test that antt computes over them all. Assumes nothing.
+-- A fact about every number below a numeral, from a test that antt computes over them all; and facts about tests.
+-- Assumes nothing.
 use Prim.Native.Nat.{ℕ, zero, suc, _≤_, _<_}
 use mathlib.Core.Bool.{Bool, true, false, cond, not, _&&_, _||_, and-eq-true-iff}
 use mathlib.Core.Logic.{_⊎_, inl, inr, ⊎-elim}
@@ -18,14 +19,15 @@ at (suc n) test t k h =
     let both = and-eq-true-iff (test n) (below n test) .0 t in
     ⊎-elim (λ (e : k ≡ n). rw e (both .0)) (λ (l : k < n). at n test (both .1) k l) (eq-or-lt-of-le (le-of-suc-le-suc h))
 
-pub at2 : (n m : ℕ) (test : ℕ → ℕ → Bool) → below n (λ p. below m (test p)) ≡ true → (p q : ℕ) → p < n → q < m → test p q ≡ true
+pub at2 : (n m : ℕ) (test : ℕ → ℕ → Bool) → below n (λ p. below m (test p)) ≡ true → (p q : ℕ) → p < n → q < m
+    → test p q ≡ true
 at2 n m test t p q hp hq = at m (test p) (at n (λ p. below m (test p)) t p hp) q hq
 
 pub at3 : (n m l : ℕ) (test : ℕ → ℕ → ℕ → Bool) → below n (λ p. below m (λ q. below l (test p q))) ≡ true
     → (p q r : ℕ) → p < n → q < m → r < l → test p q r ≡ true
 at3 n m l test t p q r hp hq hr = at l (test p q) (at2 n m (λ p q. below l (test p q)) t p q hp hq) r hr
 
--- tests that say if, and exactly if
+-- tests that compute an implication, and an equivalence
 pub follows : (premise conclusion : Bool) → cond premise conclusion true ≡ true → premise ≡ true → conclusion ≡ true
 follows true conclusion h e = h
 follows false conclusion h e = cc
@@ -35,7 +37,7 @@ agrees true u h = sym h
 agrees false true h = h
 agrees false false h = refl
 
--- a test of two cases
+-- two cases
 pub or-cases : (t u : Bool) → (t || u) ≡ true → (t ≡ true) ⊎ (u ≡ true)
 or-cases true u h = inl refl
 or-cases false u h = inr h
@@ -47,6 +49,6 @@ lt-or-le a b = go (ltb a b) refl
     go true e = inl (ltb-true a b e)
     go false e = inr (ltb-false a b e)
 
--- a test that held and failed
+-- from a test that both held and failed
 pub never : {A : Type 0} → false ≡ true → A
 never e = let z : _≡_ {A = ℕ} 0 1 = cc in absurd (omega arith)

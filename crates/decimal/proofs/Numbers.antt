@@ -13,7 +13,8 @@ use lib.Seq.{take-all, take-suc, length-take-le, drop-length, drop-cons, getD-se
 use Rattle.decimal.specs.declared.Class.the-variants.{Digit}
 use Rattle.decimal.specs.Bytes.{isOf, all}
 use Rattle.decimal.proofs.Bytes.{all-joins}
-use Rattle.decimal.specs.Numbers.{valueOf, numberFrom, numberOf, lowFrom, lowNumberOf, largestNumber, capped, digitsOf, NumberOfDigits, DigitsOfNumber, DigitsFill, NumberFits, LowOfDigits, NineteenFit}
+use Rattle.decimal.specs.Numbers.{valueOf, numberFrom, numberOf, largestNumber, capped, digitsOf, NumberOfDigits, DigitsOfNumber, DigitsFill, NumberFits, NineteenFit}
+use Rattle.decimal.specs.LowHalves.{lowFrom, lowNumberOf, LowOfDigits}
 
 -- Digits.
 
@@ -61,39 +62,40 @@ from-below n (b ∷ bs) =
 pub number-fits : NumberFits
 number-fits bs = let h = from-below 0 bs in let e : (0 + 1) * 10 ^ length bs ≡ 10 ^ length bs = omega arith in rw e at h
 
-held-small : (n : ℕ) → n ≤ largestNumber → capped n ≡ n
-held-small n h = omega arith
+capped-small : (n : ℕ) → n ≤ largestNumber → capped n ≡ n
+capped-small n h = omega arith
 
-held-large : (n : ℕ) → largestNumber ≤ n → capped n ≡ largestNumber
-held-large n h = omega arith
+capped-large : (n : ℕ) → largestNumber ≤ n → capped n ≡ largestNumber
+capped-large n h = omega arith
 
 pub nineteen-are-held : NineteenFit
 nineteen-are-held bs h =
     let p : 10 ^ length bs ≤ 10 ^ 19 = pow-le-pow-right (lit< tt) h in
-    held-small (numberOf bs) (omega (arith, number-fits bs))
+    capped-small (numberOf bs) (omega (arith, number-fits bs))
 
--- what is held of a number that goes on is what is held of the whole
-held-on : (n : ℕ) (bs : List ℕ) → capped (numberFrom (capped n) bs) ≡ capped (numberFrom n bs)
-held-on n bs = go (leb n largestNumber) refl
+-- a number that is capped on the way is capped to the same in the end
+capped-on : (n : ℕ) (bs : List ℕ) → capped (numberFrom (capped n) bs) ≡ capped (numberFrom n bs)
+capped-on n bs = go (leb n largestNumber) refl
   where
     go : (t : Bool) → leb n largestNumber ≡ t → capped (numberFrom (capped n) bs) ≡ capped (numberFrom n bs)
-    go true e = rw (held-small n (leb-true n largestNumber e))
+    go true e = rw (capped-small n (leb-true n largestNumber e))
     go false e =
         let l : largestNumber < n = leb-false n largestNumber e in
-        let m : capped n ≡ largestNumber = held-large n (omega arith) in
+        let m : capped n ≡ largestNumber = capped-large n (omega arith) in
         let a : largestNumber ≤ numberFrom largestNumber bs = from-grows largestNumber bs in
         let b : n ≤ numberFrom n bs = from-grows n bs in
-        rw m (held-large (numberFrom largestNumber bs) a ∙ sym (held-large (numberFrom n bs) (omega arith)))
+        rw m (capped-large (numberFrom largestNumber bs) a ∙ sym (capped-large (numberFrom n bs) (omega arith)))
 
--- a turn of the loop that reads, and its end
+-- A turn of the loop that reads, and its end.
 module _ (bs : List ℕ) (i n : ℕ) where
-  pub read-step : {m v r : ℕ} → i < length bs → v ≡ valueOf (getD bs i 0) → m ≡ capped (n * 10 + v) → capped (numberFrom n (drop i bs)) ≡ r
+  pub read-step : {m v r : ℕ} → i < length bs → v ≡ valueOf (getD bs i 0) → m ≡ capped (n * 10 + v)
+      → capped (numberFrom n (drop i bs)) ≡ r
       → (m ≤ largestNumber) × (capped (numberFrom m (drop (i + 1) bs)) ≡ r)
   read-step {m} {v} h e f q =
-      rw (f, e, add-one) (min-le-right (n * 10 + valueOf (getD bs i 0)) largestNumber, held-on (n * 10 + valueOf (getD bs i 0)) (drop (suc i) bs) ∙ (rw (drop-cons bs i 0 h) at q))
+      rw (f, e, add-one) (min-le-right (n * 10 + valueOf (getD bs i 0)) largestNumber, capped-on (n * 10 + valueOf (getD bs i 0)) (drop (suc i) bs) ∙ (rw (drop-cons bs i 0 h) at q))
 
   pub read-end : {r : ℕ} → length bs ≤ i → n ≤ largestNumber → capped (numberFrom n (drop i bs)) ≡ r → n ≡ r
-  read-end h l q = sym (held-small n l) ∙ (rw (drop-of-length-le bs h) at q)
+  read-end h l q = sym (capped-small n l) ∙ (rw (drop-of-length-le bs h) at q)
 
 -- Numbers read by low halves.
 
@@ -114,7 +116,7 @@ low-grows : (n : ℕ) (bs : List ℕ) → n ≤ lowFrom n bs
 low-grows n [] = le-refl n
 low-grows n (b ∷ bs) = let h = low-grows (n * 10 + b % 16) bs in omega arith
 
--- a low half is 15 at the most, so that they come to five thirds of a power of ten
+-- a low half is 15 at the most, so that n of them come to at most 5/3 of 10 ^ n
 low-below : (n : ℕ) (bs : List ℕ) → 3 * lowFrom n bs + 5 ≤ (3 * n + 5) * 10 ^ length bs
 low-below n [] = omega arith
 low-below n (b ∷ bs) =
@@ -124,10 +126,12 @@ low-below n (b ∷ bs) =
     rw (pow-succ' 10 (length bs), ← mul-assoc (3 * n + 5) 10 (10 ^ length bs)) (le-trans ih m)
 
 module _ (bs : List ℕ) (i n : ℕ) where
-  pub low-step : i < length bs → lowFrom n (drop i bs) ≡ lowFrom 0 bs → lowFrom (n * 10 + getD bs i 0 % 16) (drop (i + 1) bs) ≡ lowFrom 0 bs
+  pub low-step : i < length bs → lowFrom n (drop i bs) ≡ lowFrom 0 bs
+      → lowFrom (n * 10 + getD bs i 0 % 16) (drop (i + 1) bs) ≡ lowFrom 0 bs
   low-step h q = rw add-one (rw (drop-cons bs i 0 h) at q)
 
-  pub low-fit : length bs ≤ 19 → i < length bs → lowFrom n (drop i bs) ≡ lowFrom 0 bs → n * 10 + getD bs i 0 % 16 ≤ largestNumber
+  pub low-fit : length bs ≤ 19 → i < length bs → lowFrom n (drop i bs) ≡ lowFrom 0 bs
+      → n * 10 + getD bs i 0 % 16 ≤ largestNumber
   low-fit l h q =
       let p : 10 ^ length bs ≤ 10 ^ 19 = pow-le-pow-right (lit< tt) l in
       omega (arith, low-below 0 bs, low-step h q, low-grows (n * 10 + getD bs i 0 % 16) (drop (i + 1) bs))
@@ -140,7 +144,7 @@ pub low-long : (bs : List ℕ) → 19 < length bs → 0 ≡ lowNumberOf bs
 unfolding lowNumberOf
 low-long bs h = rw (lt-leb (length bs) 19 h)
 
--- The loop that counts a number's digits: it has none left, it has more, its places are at an end.
+-- The loop that counts a number's digits: the number has none left, it has more, no place is left.
 module _ (n k : ℕ) where
   pub width-zero : {r : Bool} → n ≡ 0 → ltb n (10 ^ k) ≡ r → true ≡ r
   width-zero e q = sym (lt-ltb n (10 ^ k) (omega (arith, one-le-pow k 10 (lit< tt)))) ∙ q
@@ -168,7 +172,7 @@ drop-set : (out : List ℕ) (j x : ℕ) → j < length out → drop j (set out j
 drop-set out j x h =
     rw (drop-cons (set out j x) j 0 (rw length-set h), getD-set-same out j x 0 h, drop-set-lt (suc j) out j x (le-refl (suc j)))
 
--- the loop that writes from the right: what is still to be written, then what is written
+-- The loop that writes from the right: what is still to be written, then what is written.
 pub write-start : (out : List ℕ) (n : ℕ) → digitsOf (length out) n ++ drop (length out) out ≡ digitsOf (length out) n
 write-start out n = rw drop-length (append-nil (digitsOf (length out) n))
 

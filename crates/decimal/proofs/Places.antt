@@ -10,7 +10,8 @@ use borrow.Rule.Slice.PartMut.{putMid}
 use lib.ListN.{length, getD, set, take, drop, length-append, length-drop, drop-of-length-le, List·getD-append}
 use lib.Seq.{length-take-le, take-set-lt, take-set-le, drop-set-lt, drop-set-add, set-append-left, getD-take, getD-drop, getD-append-add, take-append-seam, drop-append-add, drop-drop, take-length}
 use Rattle.decimal.specs.Bytes.{all}
-use Rattle.decimal.specs.Places.{Stretch, widthOf, partAt, gather, Beside, GatherOutside, GatherWithin, putAt, PutsJoin}
+use Rattle.decimal.specs.OneByte.{Beside, GatherOutside, GatherWithin}
+use Rattle.decimal.specs.Places.{Stretch, widthOf, partAt, gather, putAt, PutsJoin}
 use Rattle.decimal.proofs.Finite.{lt-or-le}
 use Rattle.decimal.proofs.Bytes.{all-joins, all-of-part}
 
@@ -18,7 +19,8 @@ use Rattle.decimal.proofs.Bytes.{all-joins, all-of-part}
 pub joins : {a b c d : List ℕ} → a ≡ b → c ≡ d → a ++ c ≡ b ++ d
 joins p q = cc
 
-pub length-part : (s : Stretch) (l : List ℕ) → 1 ≤ s .first → s .first ≤ s .last → s .last ≤ length l → length (partAt s l) ≡ widthOf s
+pub length-part : (s : Stretch) (l : List ℕ) → 1 ≤ s .first → s .first ≤ s .last → s .last ≤ length l
+    → length (partAt s l) ≡ widthOf s
 length-part s l p q r = length-take-le (widthOf s) (drop (s .first - 1) l) (omega (arith, length-drop (s .first - 1) l))
 
 pub part-beside : (s : Stretch) (l : List ℕ) (i d : ℕ) → Beside s i → partAt s (set l i d) ≡ partAt s l
@@ -54,7 +56,8 @@ set-right (x ∷ a) b (suc j) d h =
 getD-right : (a b : List ℕ) (j : ℕ) → length a ≤ j → getD (a ++ b) j 0 ≡ getD b (j - length a) 0
 getD-right a b j h = let e : length a + (j - length a) ≡ j = omega arith in cc (getD-append-add a b (j - length a) 0)
 
-pub part-byte : (s : Stretch) (l : List ℕ) (i : ℕ) → 1 ≤ s .first → s .first ≤ i + 1 → i < s .last → getD (partAt s l) (i + 1 - s .first) 0 ≡ getD l i 0
+pub part-byte : (s : Stretch) (l : List ℕ) (i : ℕ) → 1 ≤ s .first → s .first ≤ i + 1 → i < s .last
+    → getD (partAt s l) (i + 1 - s .first) 0 ≡ getD l i 0
 part-byte s l i o p q =
     let a = s .first - 1 in
     let j = i + 1 - s .first in
@@ -80,13 +83,14 @@ gather-within (s ∷ plan) l i j d n (inr w) =
       omega (arith, ih .2, length-append (partAt s l) (gather plan l)),
     )
 
--- what holds of each byte holds of each that is gathered
+-- a test that every byte passes is passed by every byte that is gathered
 pub all-gathered : (ok : ℕ → Bool) (plan : List Stretch) (l : List ℕ) → all ok l ≡ true → all ok (gather plan l) ≡ true
 all-gathered ok [] l h = refl
 all-gathered ok (s ∷ plan) l h =
     rw (all-joins ok (partAt s l) (gather plan l), all-of-part ok (s .first - 1) (widthOf s) l h, all-gathered ok plan l h)
 
-pub put-fits : (at : ℕ) (piece l : List ℕ) → at + length piece ≤ length l → putAt at piece l ≡ take at l ++ (piece ++ drop (at + length piece) l)
+pub put-fits : (at : ℕ) (piece l : List ℕ) → at + length piece ≤ length l
+    → putAt at piece l ≡ take at l ++ (piece ++ drop (at + length piece) l)
 unfolding putAt
 put-fits at piece l h = rw (le-leb _ _ h)
 
@@ -101,8 +105,9 @@ puts-join l xs ys h =
     = drop-append-add xs (drop (length xs) l) (length ys) ∙ drop-drop (length ys) (length xs) l ∙ ap (λ (k : ℕ). drop k l) (sym (length-append xs ys)) in
     put-fits (length xs) ys (xs ++ drop (length xs) l) n ∙ rw (take-append-seam xs (drop (length xs) l), d) (sym (append-assoc xs ys (drop (length (xs ++ ys)) l)))
 
--- a piece put behind those that stand already
-pub put-next : (l xs ys : List ℕ) {at : ℕ} {q : List ℕ} → at ≡ length xs → length xs + length ys ≤ length l → q ≡ xs ++ drop (length xs) l
+-- a piece put after those that are there already
+pub put-next : (l xs ys : List ℕ) {at : ℕ} {q : List ℕ} → at ≡ length xs → length xs + length ys ≤ length l
+    → q ≡ xs ++ drop (length xs) l
     → putAt at ys q ≡ (xs ++ ys) ++ drop (length (xs ++ ys)) l
 put-next l xs ys e h f = rw (e, f) (puts-join l xs ys h)
 
@@ -111,7 +116,7 @@ put-whole piece l e =
     let past : length l ≤ 0 + length piece = omega arith in
     put-fits 0 piece l (omega arith) ∙ rw (drop-of-length-le l past) (append-nil piece)
 
--- a lent part that was filled with a piece, back in its place
+-- a part of a buffer that was filled with a piece, back in its place
 pub put-mid : (at : ℕ) (piece l : List ℕ) {n : ℕ} {q : List ℕ} → length piece ≡ n → at + n ≤ length l → q ≡ piece
     → putMid at (at + n - at) l q ≡ putAt at piece l
 put-mid at piece l {n} {q} e h f =

@@ -13,10 +13,11 @@ use Rattle.answer.specs.Orders.{require, _then_, movedBy}
 use Rattle.decimal.specs.declared.Class.{Class}
 use Rattle.decimal.specs.declared.Class.the-variants.{Digit, Blank, Text}
 
+-- lo to hi, both included
 abbrev pub within : ℕ → ℕ → ℕ → Bool
 within lo hi b = leb lo b && leb b hi
 
--- A digit is a byte 48 to 57, a blank byte 32. A text byte is 32 to 126 or 160 to 255 (ISO 8859-1).
+-- a digit is a byte 48 to 57, a blank byte 32, a text byte 32 to 126 or 160 to 255, ISO 8859-1 (SPEC.md, "Words")
 unfoldable pub isOf : Class → ℕ → Bool
 isOf Digit b = within 48 57 b
 isOf Blank b = eqb b 32
@@ -27,7 +28,7 @@ abbrev pub all : (ℕ → Bool) → List ℕ → Bool
 all ok [] = true
 all ok (b ∷ bs) = ok b && all ok bs
 
--- each byte is asked the test, from left to right: refused at the first that fails. The first byte stands at place p.
+-- refused at the first byte that fails the test; the first byte of all is at place p
 abbrev pub eachIs : (ℕ → Bool) → Reason → ℕ → List ℕ → Answer
 eachIs ok why p [] = Accepted
 eachIs ok why p (b ∷ bs) = require (ok b) why p then eachIs ok why (suc p) bs
@@ -38,17 +39,21 @@ abbrev pub AllJoins : Type 0
 AllJoins = (ok : ℕ → Bool) (xs ys : List ℕ) → all ok (xs ++ ys) ≡ (all ok xs && all ok ys)
 
 abbrev pub AllOfPart : Type 0
-AllOfPart = (ok : ℕ → Bool) (from count : ℕ) (bs : List ℕ) → all ok bs ≡ true → all ok (take count (drop from bs)) ≡ true
+AllOfPart =
+    (ok : ℕ → Bool) (from count : ℕ) (bs : List ℕ) → all ok bs ≡ true → all ok (take count (drop from bs)) ≡ true
 
 abbrev pub EachAccepts : Type 0
-EachAccepts = (ok : ℕ → Bool) (why : Reason) (p : ℕ) (bs : List ℕ) → (eachIs ok why p bs ≡ Accepted) ↔ (all ok bs ≡ true)
+EachAccepts =
+    (ok : ℕ → Bool) (why : Reason) (p : ℕ) (bs : List ℕ) → (eachIs ok why p bs ≡ Accepted) ↔ (all ok bs ≡ true)
 
 -- refused at a byte that fails, when all before it pass
 abbrev pub EachRefuses : Type 0
 EachRefuses =
-    (ok : ℕ → Bool) (why : Reason) (p i : ℕ) (bs : List ℕ) → i < length bs → all ok (take i bs) ≡ true → ok (getD bs i 0) ≡ false
-    → eachIs ok why p bs ≡ Refused why (p + i)
+    (ok : ℕ → Bool) (why : Reason) (p i : ℕ) (bs : List ℕ) → i < length bs → all ok (take i bs) ≡ true
+    → ok (getD bs i 0) ≡ false → eachIs ok why p bs ≡ Refused why (p + i)
 
--- a part that starts elsewhere
+-- with the first byte at another place, every place is moved by as much
 abbrev pub EachMoves : Type 0
-EachMoves = (ok : ℕ → Bool) (why : Reason) (p by : ℕ) (bs : List ℕ) → eachIs ok why (p + by) bs ≡ movedBy (λ q. q + by) (eachIs ok why p bs)
+EachMoves =
+    (ok : ℕ → Bool) (why : Reason) (p by : ℕ) (bs : List ℕ)
+    → eachIs ok why (p + by) bs ≡ movedBy (λ q. q + by) (eachIs ok why p bs)

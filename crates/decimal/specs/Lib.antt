@@ -1,3 +1,5 @@
 pub mod Bytes
+pub mod LowHalves
 pub mod Numbers
+pub mod OneByte
 pub mod Places

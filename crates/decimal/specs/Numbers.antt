@@ -1,17 +1,18 @@
 -- Numbers as decimal digits, read and written. Assumes nothing.
-use Prim.Native.Nat.{ℕ, zero, suc, _+_, _-_, _*_, _/_, _%_, _^_, _<_, _≤_, min}
+use Prim.Native.Nat.{ℕ, zero, suc, _+_, _-_, _*_, _/_, _%_, _^_, _<_, _≤_}
 use mathlib.Core.Bool.{true, cond}
 use mathlib.Core.List.{List, [], _∷_, _++_}
 use mathlib.Core.Path.{_≡_}
-use lib.Dec.{ltb, leb}
+use lib.Dec.{ltb}
 use lib.ListN.{length}
 use Rattle.answer.specs.declared.Reason.the-variants.{TooWide}
 use Rattle.answer.specs.declared.Answer.{Answer}
 use Rattle.answer.specs.Orders.{require}
 use Rattle.decimal.specs.declared.Class.the-variants.{Digit}
 use Rattle.decimal.specs.Bytes.{isOf, all}
+pub use Rattle.answer.specs.Limits.{largestNumber, capped}
 
--- what a digit stands for; any other byte counts as 0
+-- the value of a digit; any other byte counts as 0
 unfoldable pub valueOf : ℕ → ℕ
 valueOf b = cond (isOf Digit b) (b - 48) 0
 
@@ -23,28 +24,12 @@ numberFrom n (b ∷ bs) = numberFrom (n * 10 + valueOf b) bs
 abbrev pub numberOf : List ℕ → ℕ
 numberOf bs = numberFrom 0 bs
 
--- the number of at most nineteen bytes by their low halves; of more bytes 0
-abbrev pub lowFrom : ℕ → List ℕ → ℕ
-lowFrom n [] = n
-lowFrom n (b ∷ bs) = lowFrom (n * 10 + b % 16) bs
-
-unfoldable pub lowNumberOf : List ℕ → ℕ
-lowNumberOf bs = cond (leb (length bs) 19) (lowFrom 0 bs) 0
-
--- the largest number that 64 bits hold
-abbrev pub largestNumber : ℕ
-largestNumber = 18446744073709551615
-
--- the number itself, or the most where it is larger: it never comes round
-abbrev pub capped : ℕ → ℕ
-capped n = min n largestNumber
-
 -- the last w digits of n, as bytes, highest first
 unfoldable pub digitsOf : ℕ → ℕ → List ℕ
 digitsOf zero n = []
 digitsOf (suc w) n = digitsOf w (n / 10) ++ ((48 + n % 10) ∷ [])
 
--- a number has w places: refused, too wide, at the first of them where it needs more
+-- a number that has w places: refused as too wide, at the first of them, where it needs more
 abbrev pub widthAnswer : ℕ → ℕ → Answer
 widthAnswer w n = require (ltb n (10 ^ w)) TooWide 1
 
@@ -65,10 +50,6 @@ DigitsFill = (w n : ℕ) → (length (digitsOf w n) ≡ w) × (all (isOf Digit) 
 abbrev pub NumberFits : Type 0
 NumberFits = (bs : List ℕ) → numberOf bs < 10 ^ length bs
 
--- the low halves of digits are their values
-abbrev pub LowOfDigits : Type 0
-LowOfDigits = (bs : List ℕ) → all (isOf Digit) bs ≡ true → length bs ≤ 19 → lowNumberOf bs ≡ numberOf bs
-
--- no number of 19 digits is cut; a field of document 01 has 17 at the most
+-- no number of 19 digits is cut at 64 bits; a field of SPEC.md, "Records", has 17 at the most
 abbrev pub NineteenFit : Type 0
 NineteenFit = (bs : List ℕ) → length bs ≤ 19 → capped (numberOf bs) ≡ numberOf bs

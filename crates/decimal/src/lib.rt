@@ -1,28 +1,32 @@
-// Bytes of a class, and numbers as decimal digits.
+// Bytes of a class, and numbers as decimal digits (SPEC.md, "Words").
 ghost use mathlib.Core.Path.{_≡_};
 ghost use mathlib.Core.Bool.{cond};
-ghost use Prim.Native.Nat.{_+_, _*_, _%_, _^_};
+ghost use Prim.Native.Nat.{_+_, _*_, _%_, _^_, _≤_};
 ghost use lib.Dec.{ltb};
 ghost use lib.ListN.{length};
 ghost use Rattle.answer.specs.Orders.{ifAccepted};
 ghost use Rattle.decimal.specs.Bytes.{within, isOf, all, eachIs};
 ghost use Rattle.decimal.specs.Places.{putAt};
-ghost use Rattle.decimal.specs.Numbers.{valueOf, numberOf, lowNumberOf, digitsOf, capped, widthAnswer};
+ghost use Rattle.decimal.specs.Numbers.{valueOf, numberOf, digitsOf, capped, widthAnswer};
+ghost use Rattle.decimal.specs.LowHalves.{lowNumberOf};
 use answer::Answer;
 use answer::Reason;
 
+// What a byte has to be.
 pub enum Class {
     Digit,
     Blank,
     Text,
 }
 
-fn in_range(lo: u8, hi: u8, b: u8) -> bool
+// Whether a byte is one of `lo` to `hi`, both included.
+pub fn in_range(lo: u8, hi: u8, b: u8) -> bool
     ensures { λ r. ⌜ r ≡ within lo hi b ⌝ }
 {
     lo <= b && b <= hi
 }
 
+// Whether a byte is of the class: a digit is 48 to 57, a blank 32, text 32 to 126 or 160 to 255.
 pub fn is_of(class: Class, b: u8) -> bool
     ensures { λ r. ⌜ r ≡ isOf class b ⌝ }
 {
@@ -33,14 +37,15 @@ pub fn is_of(class: Class, b: u8) -> bool
     }
 }
 
-// 0 for a byte of the class, else 1: many are joined by one `or`.
+// 0 for a byte of the class, else 1: a loop joins them with `|`, without a branch.
 pub fn class_error_bit(class: Class, b: u8) -> u8
     ensures { λ r. ⌜ r ≡ cond (isOf class b) 0 1 ⌝ }
 {
     if is_of(class, b) { 0 } else { 1 }
 }
 
-// One flag over all bytes and no early end: such a loop is made wide by the compiler.
+// Whether every byte is of the class; true of no bytes. One flag over all bytes and no early exit, so the loop
+// vectorizes.
 pub fn all_of(class: Class, part: &[u8]) -> bool
     ensures { λ r. ⌜ r ≡ all (isOf class) (now (part .entry)) ⌝ }
 {
@@ -53,7 +58,8 @@ pub fn all_of(class: Class, part: &[u8]) -> bool
     flags == 0
 }
 
-// In rows of a known length, the last over bytes that were asked before, so that no byte is asked alone.
+// Whether all are digits, in rows of a known length, which vectorize. The last row ends at the last byte and may
+// overlap the one before it, so that no byte is checked alone.
 fn digit_rows(part: &[u8]) -> bool
     ensures { λ r. ⌜ r ≡ all (isOf Class.Digit) (now (part .entry)) ⌝ }
 {
@@ -77,7 +83,7 @@ fn digit_rows(part: &[u8]) -> bool
     all_of(Class::Digit, &part[n - 16..n])
 }
 
-// Digits in rows, since every typed line is asked them; the other classes are asked seldom.
+// Digits in rows, since every typed line is checked for them; the other classes are checked seldom.
 fn rows_of(class: Class, part: &[u8]) -> bool
     ensures { λ r. ⌜ r ≡ all (isOf class) (now (part .entry)) ⌝ }
 {
@@ -88,6 +94,7 @@ fn rows_of(class: Class, part: &[u8]) -> bool
     }
 }
 
+// Refused at the first byte that is not of the class, byte by byte.
 fn search(class: Class, why: Reason, part: &[u8]) -> Answer
     ensures { λ r. ⌜ r ≡ eachIs (isOf class) why 1 (now (part .entry)) ⌝ }
 {
@@ -101,7 +108,8 @@ fn search(class: Class, why: Reason, part: &[u8]) -> Answer
     Answer::Accepted
 }
 
-// Refused at the first byte that is not of the class; its place is looked for only where there is one.
+// Refused for `why` at the first byte that is not of the class, with its place in the part; accepted where there is
+// none, also of no bytes. The place is searched for only after the fast check of all bytes failed.
 pub fn require_class(class: Class, why: Reason, part: &[u8]) -> Answer
     ensures { λ r. ⌜ r ≡ eachIs (isOf class) why 1 (now (part .entry)) ⌝ }
 {
@@ -111,6 +119,7 @@ pub fn require_class(class: Class, why: Reason, part: &[u8]) -> Answer
     search(class, why, part)
 }
 
+// The value of a digit, 0 to 9; 0 for any other byte.
 pub fn value(b: u8) -> u64
     ensures { λ r. ⌜ r ≡ valueOf b ⌝ }
 {
@@ -121,21 +130,21 @@ pub fn value(b: u8) -> u64
     }
 }
 
-// `n` with one digit more, or the largest number.
+// `n` with one digit more, or u64::MAX where that is larger.
 fn with_digit(n: u64, digit: u64) -> u64
     ensures { λ r. ⌜ r ≡ capped (n * 10 + digit) ⌝ }
 {
-    if 1844674407370955161 < n {
-        return 18446744073709551615;
+    if u64::MAX / 10 < n {
+        return u64::MAX;
     }
     let tens = n * 10;
-    if 18446744073709551615 - tens < digit {
-        return 18446744073709551615;
+    if u64::MAX - tens < digit {
+        return u64::MAX;
     }
     tens + digit
 }
 
-// A number of any length.
+// `number` for any length and any bytes.
 fn long_number(part: &[u8]) -> u64
     ensures { λ r. ⌜ r ≡ capped (numberOf (now (part .entry))) ⌝ }
 {
@@ -148,13 +157,16 @@ fn long_number(part: &[u8]) -> u64
     n
 }
 
-fn low_half(b: u8) -> u64
+// The low four bits of a byte, which are the value of a digit.
+pub fn low_half(b: u8) -> u8
     ensures { λ r. ⌜ r ≡ b % 16 ⌝ }
+    ensures small { λ r. ⌜ r ≤ 15 ⌝ }
 {
-    (b % 16) as u64
+    b % 16
 }
 
-// The number of at most nineteen bytes by their low halves, which are the values of digits; of more bytes 0.
+// `number` of at most nineteen bytes that the caller knows to be digits: it adds up their low halves and checks none.
+// 0 for more than nineteen bytes.
 pub fn low_number(part: &[u8]) -> u64
     ensures { λ r. ⌜ r ≡ lowNumberOf (now (part .entry)) ⌝ }
 {
@@ -164,12 +176,14 @@ pub fn low_number(part: &[u8]) -> u64
     let mut n: u64 = 0;
     let mut i = 0;
     while i < part.len() {
-        n = n * 10 + low_half(part[i]);
+        n = n * 10 + low_half(part[i]) as u64;
         i += 1;
     }
     n
 }
 
+// The number that the bytes spell, highest digit first: 0 of no bytes, and a byte that is no digit counts as 0. A
+// number that 64 bits do not hold is u64::MAX.
 pub fn number(part: &[u8]) -> u64
     ensures { λ r. ⌜ r ≡ capped (numberOf (now (part .entry))) ⌝ }
 {
@@ -182,7 +196,7 @@ pub fn number(part: &[u8]) -> u64
     long_number(part)
 }
 
-// Whether a number has at most so many digits.
+// Whether a number has at most `width` digits; 0 has none.
 pub fn fits_width(n: u64, width: usize) -> bool
     ensures { λ r. ⌜ r ≡ ltb n (10 ^ width) ⌝ }
 {
@@ -198,6 +212,7 @@ pub fn fits_width(n: u64, width: usize) -> bool
     rest == 0
 }
 
+// Fills the buffer with the last digits of a number, as many as it is long.
 fn put_digits(n: u64, out: &mut [u8])
     ensures { λ _. ⌜ now (out .exit) ≡ digitsOf (length (now (out .entry))) n ⌝ }
 {
@@ -210,7 +225,7 @@ fn put_digits(n: u64, out: &mut [u8])
     }
 }
 
-// Copies a piece into a lent part from an index on; nothing where there is no room.
+// Copies a piece into the caller's buffer from index `at` on; where it does not fit, nothing is written.
 pub fn put(piece: &[u8], out: &mut [u8], at: usize)
     ensures { λ _. ⌜ now (out .exit) ≡ putAt at (now (piece .entry)) (now (out .entry)) ⌝ }
 {
@@ -224,7 +239,8 @@ pub fn put(piece: &[u8], out: &mut [u8], at: usize)
     bytes::copy(piece, &mut out[at..end]);
 }
 
-// Writes the digits of a number into a lent part, `width` of them from an index on.
+// Writes a number into the caller's buffer as `width` digits with leading zeros, from index `at` on. Refused, 21 at
+// place 1, where the number has more digits. Accepted with nothing written where `width` bytes do not fit.
 pub fn put_number(n: u64, width: usize, out: &mut [u8], at: usize) -> Answer
     ensures answer { λ r. ⌜ r ≡ widthAnswer width n ⌝ }
     ensures bytes { λ r. ⌜ now (out .exit) ≡ ifAccepted r (putAt at (digitsOf width n) (now (out .entry))) (now (out .entry)) ⌝ }

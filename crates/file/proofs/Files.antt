@@ -19,7 +19,7 @@ use Rattle.file.specs.declared.File.{File}
 use Rattle.file.specs.declared.Figures.{Figures}
 use Rattle.file.specs.Files.{mostPayments, mostCentavos, freshFile, fileAnswer, fileWith, figuresAnswer, closingAnswer, FileWithin, fileAnswers, fileWithAll, receivedOf, FileAccepts, RefusalKeepsFile, StaysWithin, FreshFileTakes, FreshFileHolds, OneRightTrailer, ClosingAccepts, FiguresFit}
 
--- two questions are both accepted exactly when both tests hold
+-- two requirements are both met exactly when both tests hold
 both : (s t : Bool) (v w : Reason) (p q : ℕ) → (require s v p then require t w q ≡ Accepted) ↔ ((s ≡ true) × (t ≡ true))
 both s t v w p q =
     let two = then-accepts (require s v p) (require t w q) in
@@ -41,13 +41,14 @@ refusal-keeps-file f received h = refusal-keeps (fileAnswer f received) (fileWit
 pub stays-within : StaysWithin
 stays-within = (record { taken = omega arith; total = omega arith }, λ f received w. go f received w (fileAnswer f received) refl)
   where
-    go : (f : File) (received : ℕ) → FileWithin f → (a : Answer) → fileAnswer f received ≡ a → FileWithin (ifAccepted a (fileWith f received) f)
+    go : (f : File) (received : ℕ) → FileWithin f → (a : Answer) → fileAnswer f received ≡ a
+        → FileWithin (ifAccepted a (fileWith f received) f)
     go f received w Accepted e =
         let h = file-accepts f received .0 e in
         record { taken = omega arith; total = h .1 }
     go f received w (Refused why p) e = w
 
--- from any file within its limits on
+-- from any file within its limits
 takes : (f : File) → FileWithin f → (xs : List ℕ)
     → (fileAnswers f xs ≡ Accepted) ↔ ((f .taken + length xs ≤ mostPayments) × (f .total + receivedOf xs ≤ mostCentavos))
 takes f w [] = (λ e. (omega (arith, w .taken), omega (arith, w .total)), λ h. refl)
@@ -73,7 +74,8 @@ fresh-file-takes xs =
 alike : {f g : File} → f .taken ≡ g .taken → f .total ≡ g .total → f ≡ g
 alike e d = ap₂ {C = File} (λ (n m : ℕ). record { taken = n; total = m }) e d
 
-holds : (f : File) (xs : List ℕ) → fileWithAll f xs ≡ record { taken = f .taken + length xs; total = f .total + receivedOf xs }
+holds : (f : File) (xs : List ℕ)
+    → fileWithAll f xs ≡ record { taken = f .taken + length xs; total = f .total + receivedOf xs }
 holds f [] = alike (omega arith) (omega arith)
 holds f (x ∷ xs) = holds (fileWith f x) xs ∙ alike (omega arith) (omega arith)
 

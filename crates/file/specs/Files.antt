@@ -1,4 +1,4 @@
--- The open file of document 01: refusals 13 to 16, once for session and writer. Assumes nothing.
+-- The open file (SPEC.md, "Sessions" and "Writer"): refusals 13 to 16, once for session and writer. Assumes nothing.
 use Prim.Native.Nat.{ℕ, _+_, _^_, _<_, _≤_}
 use mathlib.Core.List.{List, [], _∷_}
 use mathlib.Core.Logic.{_↔_}
@@ -15,7 +15,7 @@ use Rattle.file.specs.declared.FileResult.{FileResult}
 use Rattle.file.specs.declared.Figures.{Figures}
 use Rattle.file.specs.declared.CloseResult.{CloseResult}
 
--- the most payments of a file, and the most centavos
+-- the most payments of a file, and the most centavos: what a trailer can show
 abbrev pub mostPayments : ℕ
 mostPayments = 999_997
 
@@ -25,10 +25,11 @@ mostCentavos = 99_999_999_999_999_999
 abbrev pub freshFile : File
 freshFile = record { taken = 0; total = 0 }
 
--- 15, a payment when the most were taken; 16, a payment that takes the total past the most
+-- 15 for a payment when the most were taken, then 16 for one that takes the total past the most
 unfoldable pub fileAnswer : File → ℕ → Answer
 fileAnswer f received =
-    require (ltb (f .taken) mostPayments) FileFull 1 then require (leb (f .total + received) mostCentavos) FileTotalPassed receivedPlace
+    require (ltb (f .taken) mostPayments) FileFull 1
+    then require (leb (f .total + received) mostCentavos) FileTotalPassed receivedPlace
 
 -- the file with one payment more
 abbrev pub fileWith : File → ℕ → File
@@ -38,7 +39,7 @@ abbrev pub fileResultOf : File → ℕ → FileResult
 fileResultOf f received =
     record { answer = fileAnswer f received; file = ifAccepted (fileAnswer f received) (fileWith f received) f }
 
--- the figures of the one right trailer: header and trailer are counted
+-- the figures of the one right trailer: header and trailer are counted too
 abbrev pub figuresOf : File → Figures
 figuresOf f = record { count = f .taken + 2; total = f .total }
 
@@ -49,21 +50,24 @@ countPlace = 2
 abbrev pub totalPlace : ℕ
 totalPlace = 8
 
--- 13, then 14: a trailer that shows other figures
+-- 13, then 14, for a trailer that shows other figures
 unfoldable pub figuresAnswer : File → Figures → Answer
 figuresAnswer f shown =
     require (eqb (shown .count) (figuresOf f .count)) CountDiffers countPlace
     then require (eqb (shown .total) (figuresOf f .total)) TotalDiffers totalPlace
 
--- 15, then 16: a file put together by hand whose figures have no room in a trailer
+-- 15, then 16, for a file in an arbitrary state, whose figures a trailer has no room for
 unfoldable pub closingAnswer : File → Answer
-closingAnswer f = require (leb (f .taken) mostPayments) FileFull 1 then require (leb (f .total) mostCentavos) FileTotalPassed receivedPlace
+closingAnswer f =
+    require (leb (f .taken) mostPayments) FileFull 1
+    then require (leb (f .total) mostCentavos) FileTotalPassed receivedPlace
 
 abbrev pub closeResultOf : File → CloseResult
 closeResultOf f =
-    record { answer = closingAnswer f; figures = ifAccepted (closingAnswer f) (figuresOf f) (record { count = 0; total = 0 }) }
+    let none : Figures = record { count = 0; total = 0 } in
+    record { answer = closingAnswer f; figures = ifAccepted (closingAnswer f) (figuresOf f) none }
 
--- what holds of every file that the methods make
+-- what holds of a fresh file and of every file that comes from it
 pub record FileWithin (f : File) : Type 0 where
   pub taken : f .taken ≤ mostPayments
   pub total : f .total ≤ mostCentavos
@@ -89,20 +93,26 @@ FileAccepts =
     → (fileAnswer f received ≡ Accepted) ↔ ((f .taken < mostPayments) × (f .total + received ≤ mostCentavos))
 
 abbrev pub RefusalKeepsFile : Type 0
-RefusalKeepsFile = (f : File) (received : ℕ) → (fileResultOf f received .answer ≡ Accepted → ⊥) → fileResultOf f received .file ≡ f
+RefusalKeepsFile =
+    (f : File) (received : ℕ) → (fileResultOf f received .answer ≡ Accepted → ⊥) → fileResultOf f received .file ≡ f
 
 abbrev pub StaysWithin : Type 0
-StaysWithin = FileWithin freshFile × ((f : File) (received : ℕ) → FileWithin f → FileWithin (fileResultOf f received .file))
+StaysWithin =
+    FileWithin freshFile × ((f : File) (received : ℕ) → FileWithin f → FileWithin (fileResultOf f received .file))
 
--- Promises: of a file's payments, with no file. A fresh file takes a list exactly when it is within the limits, and counts and adds it up.
+-- Promises: of all payments of a file. A fresh file takes a list of them exactly where it is within the limits, counts
+-- it and adds it up.
 
 abbrev pub FreshFileTakes : Type 0
-FreshFileTakes = (xs : List ℕ) → (fileAnswers freshFile xs ≡ Accepted) ↔ ((length xs ≤ mostPayments) × (receivedOf xs ≤ mostCentavos))
+FreshFileTakes =
+    (xs : List ℕ)
+    → (fileAnswers freshFile xs ≡ Accepted) ↔ ((length xs ≤ mostPayments) × (receivedOf xs ≤ mostCentavos))
 
 abbrev pub FreshFileHolds : Type 0
 FreshFileHolds = (xs : List ℕ) → fileWithAll freshFile xs ≡ record { taken = length xs; total = receivedOf xs }
 
--- Promises: of the trailer. Exactly one is right, and that of a file within its limits has room in its six and seventeen digits.
+-- Promises: of the trailer. Exactly one is right, and its six and seventeen digits have room for a file within its
+-- limits.
 
 abbrev pub OneRightTrailer : Type 0
 OneRightTrailer = (f : File) (shown : Figures) → (figuresAnswer f shown ≡ Accepted) ↔ (shown ≡ figuresOf f)

@@ -1,63 +1,72 @@
-// The open file: what it took so far, the questions to one payment more, and the trailer that is right for it.
+// An open file (SPEC.md, "Records" and "Sessions"): the payments it took so far, whether it takes one more, and the one
+// trailer that is right for it. Session and writer share it.
 ghost use mathlib.Core.Path.{_≡_};
 ghost use Rattle.file.specs.Files.{freshFile, fileResultOf, figuresAnswer, closeResultOf};
 use answer::Answer;
 use answer::Reason;
 
-// The payments taken, and the centavos they received.
+// How many payments were taken, and the centavos they received in all.
 #[repr(C)]
 pub struct File {
     pub taken: u64,
     pub total: u64,
 }
 
-// A refusal leaves the file as it was.
+// The file with the payment; a refusal leaves it as it was.
 pub struct FileResult {
     pub answer: Answer,
     pub file: File,
 }
 
-// What a trailer shows: the count of all records, header and trailer included, and the centavos received.
+// What a trailer shows: how many records the file has, header and trailer included, and the centavos received.
 pub struct Figures {
     pub count: u64,
     pub total: u64,
 }
 
-// The figures are zeros where the file is refused.
+// The figures of the trailer to write; zeros where the file is refused.
 pub struct CloseResult {
     pub answer: Answer,
     pub figures: Figures,
 }
 
+// Where a trailer shows its count and its total.
+const COUNT_PLACE: usize = 2;
+
+const TOTAL_PLACE: usize = 8;
+
 impl File {
-    pub const PAYMENTS: u64 = 999_997;
+    // The most payments of a file, and the most centavos: what a trailer's six and seventeen digits can show.
+    pub const MOST_PAYMENTS: u64 = 999_997;
 
-    pub const TOTAL: u64 = 99_999_999_999_999_999;
+    pub const MOST_CENTAVOS: u64 = 99_999_999_999_999_999;
 
+    // A file without payments.
     pub fn new() -> Self
         ensures { λ r. ⌜ r ≡ freshFile ⌝ }
     {
         File { taken: 0, total: 0 }
     }
 
-    // One payment more: 15, 16, or the file with it.
+    // Takes one payment more, which received so many centavos: refused 15 where the file has the most payments, then 16
+    // where the total would pass the most centavos; both also of a file in an arbitrary state.
     pub fn take(self, received: u64) -> FileResult
         ensures { λ r. ⌜ r ≡ fileResultOf self received ⌝ }
     {
-        if Self::PAYMENTS <= self.taken {
+        if Self::MOST_PAYMENTS <= self.taken {
             return FileResult {
                 answer: Answer::Refused(Reason::FileFull, 1),
                 file: self,
             };
         }
-        // No sum is made before it is known to fit.
-        if Self::TOTAL < self.total {
+        // The sum is made only after it is known to fit.
+        if Self::MOST_CENTAVOS < self.total {
             return FileResult {
                 answer: Answer::Refused(Reason::FileTotalPassed, answer::RECEIVED_PLACE),
                 file: self,
             };
         }
-        if Self::TOTAL - self.total < received {
+        if Self::MOST_CENTAVOS - self.total < received {
             return FileResult {
                 answer: Answer::Refused(Reason::FileTotalPassed, answer::RECEIVED_PLACE),
                 file: self,
@@ -72,34 +81,35 @@ impl File {
         }
     }
 
-    // The trailer that is read: 13 or 14 where it does not show this file's figures.
+    // Checks a trailer that was read: refused 13, then 14, where it shows another count or total than this file has.
     pub fn check_trailer(self, shown: Figures) -> Answer
         ensures { λ r. ⌜ r ≡ figuresAnswer self shown ⌝ }
     {
         if shown.count < 2 {
-            return Answer::Refused(Reason::CountDiffers, 2);
+            return Answer::Refused(Reason::CountDiffers, COUNT_PLACE);
         }
         if shown.count - 2 != self.taken {
-            return Answer::Refused(Reason::CountDiffers, 2);
+            return Answer::Refused(Reason::CountDiffers, COUNT_PLACE);
         }
         if shown.total != self.total {
-            return Answer::Refused(Reason::TotalDiffers, 8);
+            return Answer::Refused(Reason::TotalDiffers, TOTAL_PLACE);
         }
         Answer::Accepted
     }
 
-    // The trailer to write: 15 or 16 where a figure has no room in it, as only a file put together by hand can have.
+    // The figures of this file's trailer. Refused 15, then 16, where a trailer has no room for them, which only happens
+    // to a file in an arbitrary state.
     pub fn close(self) -> CloseResult
         ensures { λ r. ⌜ r ≡ closeResultOf self ⌝ }
     {
         let none = Figures { count: 0, total: 0 };
-        if Self::PAYMENTS < self.taken {
+        if Self::MOST_PAYMENTS < self.taken {
             return CloseResult {
                 answer: Answer::Refused(Reason::FileFull, 1),
                 figures: none,
             };
         }
-        if Self::TOTAL < self.total {
+        if Self::MOST_CENTAVOS < self.total {
             return CloseResult {
                 answer: Answer::Refused(Reason::FileTotalPassed, answer::RECEIVED_PLACE),
                 figures: none,

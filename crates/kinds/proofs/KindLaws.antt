@@ -29,11 +29,13 @@ use Rattle.kinds.specs.Kinds.{same, version, serviceOf, isSpelling, isSe
 
 -- A loop that compares two lists, at byte i: the bytes are the same, they differ, there are none left.
 module _ (xs bs : List ℕ) (i : ℕ) where
-  pub same-later : {r : Bool} → i < length xs → i < length bs → getD xs i 0 ≡ getD bs i 0 → same (drop i xs) (drop i bs) ≡ r
+  pub same-later : {r : Bool} → i < length xs → i < length bs → getD xs i 0 ≡ getD bs i 0
+      → same (drop i xs) (drop i bs) ≡ r
       → same (drop (i + 1) xs) (drop (i + 1) bs) ≡ r
   same-later h k e q = rw add-one (rw (drop-cons xs i 0 h, drop-cons bs i 0 k, eq-eqb _ _ e) at q)
 
-  pub same-here : {r : Bool} → i < length xs → i < length bs → (getD xs i 0 ≡ getD bs i 0 → ⊥) → same (drop i xs) (drop i bs) ≡ r → false ≡ r
+  pub same-here : {r : Bool} → i < length xs → i < length bs → (getD xs i 0 ≡ getD bs i 0 → ⊥)
+      → same (drop i xs) (drop i bs) ≡ r → false ≡ r
   same-here h k e q = rw (drop-cons xs i 0 h, drop-cons bs i 0 k, ne-eqb _ _ e) at q
 
   pub same-end : {r : Bool} → length xs ≤ i → length bs ≤ i → same (drop i xs) (drop i bs) ≡ r → true ≡ r
@@ -58,7 +60,8 @@ dated-digits : (bs : List ℕ) (d : Date) → dateOf bs ≡ On d → all (isOf D
 unfolding dateOf
 dated-digits bs d e = go (eqb (length bs) 8 && (all (isOf Digit) bs && isDate (spelled bs))) refl e
   where
-    go : (t : Bool) → (eqb (length bs) 8 && (all (isOf Digit) bs && isDate (spelled bs))) ≡ t → cond t (On (spelled bs)) none ≡ On d
+    go : (t : Bool) → (eqb (length bs) 8 && (all (isOf Digit) bs && isDate (spelled bs))) ≡ t
+        → cond t (On (spelled bs)) none ≡ On d
         → all (isOf Digit) bs ≡ true
     go true h q = and-eq-true-iff (all (isOf Digit) bs) (isDate (spelled bs)) .0 (and-eq-true-iff (eqb (length bs) 8) (all (isOf Digit) bs && isDate (spelled bs)) .0 h .1) .0
     go false h q = let z : _≡_ {A = ℕ} 0 1 = cc in absurd (omega arith)
@@ -67,11 +70,12 @@ pub date-accepted : (bs : List ℕ) (d : Date) → dateOf bs ≡ On d → Accept
 unfolding kindAnswer
 date-accepted bs d e = rw (each-accepts (isOf Digit) NoDigit 1 bs .1 (dated-digits bs d e), e)
 
-pub no-date : (bs : List ℕ) → dateOf bs ≡ none → eachIs (isOf Digit) NoDigit 1 bs then Refused NoDate 1 ≡ kindAnswer kind.Date bs
+pub no-date : (bs : List ℕ) → dateOf bs ≡ none
+    → eachIs (isOf Digit) NoDigit 1 bs then Refused NoDate 1 ≡ kindAnswer kind.Date bs
 unfolding kindAnswer
 no-date bs e = rw e
 
--- no place of an answer lies far past a field of a record
+-- no place of an answer is far past a field of a record
 at-first : (t : Bool) (why : Reason) → answerPlace (require t why 1) ≤ 151
 at-first t why = asked-place 151 t why 1 (omega arith)
 

@@ -1,4 +1,4 @@
--- What each kind of field may hold (document 01, "The three records" and "Refusal numbers"). Assumes nothing.
+-- What each kind of field may hold (SPEC.md, "Records" and "Field bytes"). Assumes nothing.
 use Prim.Native.Nat.{ℕ}
 use mathlib.Core.Bool.{Bool, true, false, _&&_, _||_}
 use mathlib.Core.List.{List, [], _∷_}
@@ -21,11 +21,11 @@ same [] (b ∷ bs) = false
 same (a ∷ xs) [] = false
 same (a ∷ xs) (b ∷ bs) = eqb a b && same xs bs
 
--- 04
+-- the layout's version, 04
 abbrev pub version : List ℕ
 version = 48 ∷ 52 ∷ []
 
--- the 16 characters CODIGO DE BARRAS and one blank; the second character is byte 79, or 211, the accented letter
+-- the 16 characters CODIGO DE BARRAS and one blank; the second is byte 79, O, or byte 211, the same with its accent
 abbrev pub serviceOf : ℕ → List ℕ
 serviceOf second = 67 ∷ second ∷ 68 ∷ 73 ∷ 71 ∷ 79 ∷ 32 ∷ 68 ∷ 69 ∷ 32 ∷ 66 ∷ 65 ∷ 82 ∷ 82 ∷ 65 ∷ 83 ∷ 32 ∷ []
 
@@ -43,7 +43,7 @@ isCapture b = within 49 54 b || within 97 102 b
 unfoldable pub isForm : ℕ → Bool
 isForm b = within 49 51 b
 
--- A field's bytes, answered with places in the field. Only this definition knows what a kind asks.
+-- a field's bytes, answered with places in the field: only here it is said what a kind may hold
 unfoldable pub kindAnswer : Kind → List ℕ → Answer
 kindAnswer (Mark byte) bs = require (same bs (byte ∷ [])) FixedDiffers 1
 kindAnswer Version bs = require (same bs version) FixedDiffers 1

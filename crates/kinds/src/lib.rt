@@ -1,9 +1,8 @@
-// What each kind of field may hold.
+// What each kind of field may hold (SPEC.md, "Records" and "Field bytes").
 ghost use mathlib.Core.Path.{_≡_};
 ghost use mathlib.Core.List.{[], _∷_};
 ghost use lib.ListN.{getD};
 ghost use Rattle.answer.specs.Orders.{require};
-ghost use Rattle.decimal.specs.Bytes.{within};
 ghost use Rattle.kinds.specs.Kinds.{same, serviceOf, isSpelling, isService, isCapture, isForm, kindAnswer};
 use answer::Answer;
 use answer::Reason;
@@ -11,6 +10,7 @@ use calendar::MaybeDate;
 use decimal::Class;
 use layout::Kind;
 
+// Whether two slices have the same bytes.
 fn same_bytes(a: &[u8], b: &[u8]) -> bool
     ensures { λ r. ⌜ r ≡ same (now (a .entry)) (now (b .entry)) ⌝ }
 {
@@ -27,13 +27,14 @@ fn same_bytes(a: &[u8], b: &[u8]) -> bool
     true
 }
 
-// 0 where there is none.
+// The byte at an index; 0 past the end.
 pub fn byte_at(part: &[u8], i: usize) -> u8
     ensures { λ r. ⌜ r ≡ getD (now (part .entry)) i 0 ⌝ }
 {
     if i < part.len() { part[i] } else { 0 }
 }
 
+// Refused for `why` at place 1 unless the test holds.
 fn require(ok: bool, why: Reason) -> Answer
     ensures { λ r. ⌜ r ≡ require ok why 1 ⌝ }
 {
@@ -44,6 +45,7 @@ fn require(ok: bool, why: Reason) -> Answer
     }
 }
 
+// Whether a field is this one byte.
 fn is_mark(part: &[u8], byte: u8) -> bool
     ensures { λ r. ⌜ r ≡ same (now (part .entry)) (byte ∷ []) ⌝ }
 {
@@ -51,27 +53,9 @@ fn is_mark(part: &[u8], byte: u8) -> bool
     same_bytes(part, &mark)
 }
 
-const SERVICE: [u8; 17] = [
-    67,
-    79,
-    68,
-    73,
-    71,
-    79,
-    32,
-    68,
-    69,
-    32,
-    66,
-    65,
-    82,
-    82,
-    65,
-    83,
-    32,
-];
+const SERVICE: [u8; 17] = *b"CODIGO DE BARRAS ";
 
-// The service field with this second byte.
+// The 17 bytes of the service field with this second byte, which in a right field is O with or without its accent.
 pub fn service(second: u8) -> [u8; 17]
     ensures { λ r. ⌜ r ≡ serviceOf second ⌝ }
 {
@@ -80,13 +64,14 @@ pub fn service(second: u8) -> [u8; 17]
     service
 }
 
-// The second byte has two spellings.
+// Whether the second byte of the service field is one of its two spellings, O and the accented O of ISO 8859-1.
 fn is_spelling(second: u8) -> bool
     ensures { λ r. ⌜ r ≡ isSpelling second ⌝ }
 {
     second == 79 || second == 211
 }
 
+// Whether a field is the service field in one of its two spellings.
 fn is_service(part: &[u8]) -> bool
     ensures { λ r. ⌜ r ≡ isService (now (part .entry)) ⌝ }
 {
@@ -98,25 +83,21 @@ fn is_service(part: &[u8]) -> bool
     same_bytes(part, &spelled)
 }
 
-fn in_range(lo: u8, hi: u8, b: u8) -> bool
-    ensures { λ r. ⌜ r ≡ within lo hi b ⌝ }
-{
-    lo <= b && b <= hi
-}
-
+// Whether a byte is a capture code, 1 to 6 or a to f.
 pub fn is_capture(b: u8) -> bool
     ensures { λ r. ⌜ r ≡ isCapture b ⌝ }
 {
-    in_range(49, 54, b) || in_range(97, 102, b)
+    decimal::in_range(b'1', b'6', b) || decimal::in_range(b'a', b'f', b)
 }
 
+// Whether a byte is a payment form, 1 to 3.
 pub fn is_form(b: u8) -> bool
     ensures { λ r. ⌜ r ≡ isForm b ⌝ }
 {
-    in_range(49, 51, b)
+    decimal::in_range(b'1', b'3', b)
 }
 
-// Eight digits that are a date need no second look.
+// A date is accepted at once; only what is none is searched for a byte that is no digit.
 fn check_date(part: &[u8]) -> Answer
     ensures { λ r. ⌜ r ≡ kindAnswer Kind.Date (now (part .entry)) ⌝ }
 {
@@ -132,7 +113,8 @@ fn check_date(part: &[u8]) -> Answer
     }
 }
 
-// A field's bytes, with places in the field.
+// The first refusal of a field's bytes under its kind, with its place in the field; accepted where there is none. Text,
+// digits, money and blanks may have any width, capture and form go by the first byte, the other kinds have one width.
 pub fn check(kind: Kind, part: &[u8]) -> Answer
     ensures { λ r. ⌜ r ≡ kindAnswer kind (now (part .entry)) ⌝ }
 {

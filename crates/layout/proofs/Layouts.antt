@@ -63,7 +63,8 @@ row-lies i d h =
     }
 
 -- what the fields from a place on hold, joined, is the record from that place on
-joined-from : (fs : List Field) (place : ℕ) (rec : List ℕ) → 1 ≤ place → length rec ≡ recordLength → covers place fs ≡ true
+joined-from : (fs : List Field) (place : ℕ) (rec : List ℕ) → 1 ≤ place → length rec ≡ recordLength
+    → covers place fs ≡ true
     → gather (map stretchOf fs) rec ≡ drop (place - 1) rec
 joined-from [] place rec h k t =
     let l : length rec ≤ place - 1 = omega (arith, eqb-true place (recordLength + 1) t) in

@@ -1,4 +1,4 @@
--- The layouts of the three records (document 01, "The three records"): one table. Places count from 1. Assumes nothing.
+-- The layouts of the three records (SPEC.md, "Records"): one table. Places count from 1. Assumes nothing.
 use Prim.Native.Nat.{ℕ, _+_, _-_, _≤_}
 use mathlib.Core.Bool.{Bool, true, cond, _&&_}
 use mathlib.Core.List.{List, [], _∷_, _++_, map}
@@ -45,7 +45,7 @@ row first last kind = record { first = first; last = last; kind = kind }
 unfoldable pub layoutOf : Record → List Field
 layoutOf Header =
     row 1 1 (Mark (markOf Header))
-    ∷ row 2 2 (Mark 50)
+    ∷ row 2 2 (Mark 50)  -- the digit 2: a return file
     ∷ row 3 22 Text  -- agreement
     ∷ row 23 42 Text  -- company
     ∷ row 43 45 Digits  -- bank
@@ -81,7 +81,7 @@ layoutOf Trailer =
 unfoldable pub table : List Field
 table = layoutOf Header ++ (layoutOf Payment ++ layoutOf Trailer)
 
--- a row of the table; past its end the empty field, which is in no record
+-- past the table's end: an empty field, which is in no record
 abbrev pub noField : Field
 noField = row 1 0 Blank
 
@@ -97,7 +97,7 @@ rowsBefore Trailer = layoutOf Header ++ layoutOf Payment
 unfoldable pub rowsOf : Record → Rows
 rowsOf r = record { from = length (rowsBefore r); to = length (rowsBefore r) + length (layoutOf r) }
 
--- the rows of what a record is read for
+-- the rows of the fields that are read by name
 abbrev pub bankRow : ℕ
 bankRow = 4
 
@@ -149,9 +149,9 @@ countRow = 25
 abbrev pub totalRow : ℕ
 totalRow = 26
 
--- What the writer is given.
+-- What a caller of the writer gives (SPEC.md, "Writer").
 
--- of a field of so many bytes: nothing of what is fixed and of money, the second byte of the service field, else all
+-- of a field of so many bytes: nothing of what is fixed and of money, the service field's second byte, else all
 abbrev pub givenOf : Kind → ℕ → Given
 givenOf (Mark byte) width = record { from = 0; to = 0 }
 givenOf Version width = record { from = 0; to = 0 }
@@ -168,7 +168,7 @@ givenOf Form width = record { from = 0; to = width }
 abbrev pub stretchOf : Field → Stretch
 stretchOf f = record { first = f .first; last = f .last }
 
--- where that stands in the record
+-- the places of that in the record
 abbrev pub givenAt : Field → Stretch
 givenAt f =
     let g = givenOf (f .kind) (widthOf (stretchOf f)) in
@@ -200,7 +200,8 @@ FieldsCover = (r : Record) → covers 1 (layoutOf r) ≡ true
 
 -- so a record is its fields, one after the other
 abbrev pub RecordIsItsFields : Type 0
-RecordIsItsFields = (r : Record) (rec : List ℕ) → length rec ≡ recordLength → gather (map stretchOf (layoutOf r)) rec ≡ rec
+RecordIsItsFields =
+    (r : Record) (rec : List ℕ) → length rec ≡ recordLength → gather (map stretchOf (layoutOf r)) rec ≡ rec
 
 -- each record's first field is the byte that names it
 abbrev pub MarkNames : Type 0

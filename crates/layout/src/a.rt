@@ -1,17 +1,21 @@
-// The fields of the header, A.
+// The fields of the header, A (SPEC.md, "Records"). The proof of `table` holds them to `layoutOf Header`.
 use crate::Field;
 use crate::Kind;
+
+// The byte that names the record.
+pub const LETTER: u8 = b'A';
 
 pub const MARK: Field = Field {
     first: 1,
     last: 1,
-    kind: Kind::Mark(65),
+    kind: Kind::Mark(LETTER),
 };
 
+// The digit 2: the file goes from the bank to the company.
 pub const RETURN: Field = Field {
     first: 2,
     last: 2,
-    kind: Kind::Mark(50),
+    kind: Kind::Mark(b'2'),
 };
 
 pub const AGREEMENT: Field = Field {

@@ -1,4 +1,4 @@
-// The layouts of the three records: one table of their fields.
+// The layouts of the three records (SPEC.md, "Records"): one table of their fields.
 pub mod a;
 pub mod g;
 pub mod z;
@@ -6,19 +6,21 @@ pub mod z;
 ghost use mathlib.Core.Path.{_≡_};
 ghost use Rattle.layout.specs.Layouts.{table, rowAt, namedBy, rowsOf, givenOf, givenLength};
 
-// A, G and Z.
+// The header, A, the payment, G, and the trailer, Z.
 pub enum Record {
     Header,
     Payment,
     Trailer,
 }
 
-// What a first byte names.
+// What the first byte of a record names.
 pub enum MaybeRecord {
     Is(Record),
     Other,
 }
 
+// What a field holds (crate kinds checks it): `Mark` this one byte, `Version` the layout's version, `Service` the name
+// of the service, `Capture` and `Form` one byte that says how the payment was taken in and made.
 pub enum Kind {
     Mark(u8),
     Version,
@@ -33,29 +35,32 @@ pub enum Kind {
     Form,
 }
 
-// Its first and its last place count from 1.
+// A field of a record, from its first place to its last; places count from 1.
 pub struct Field {
     pub first: usize,
     pub last: usize,
     pub kind: Kind,
 }
 
-// Rows of the table, up to `to` and without it.
+// Rows of the table, from `from` up to `to`, which is not included.
 pub struct Rows {
     pub from: usize,
     pub to: usize,
 }
 
-// A part of a field's bytes, up to `to` and without it.
+// A part of a field, from index `from` up to `to`, which is not included.
 pub struct Given {
     pub from: usize,
     pub to: usize,
 }
 
-// The bytes of a record.
+// How many bytes a record has.
 pub const LENGTH: usize = 150;
 
-const FIELDS: [Field; 28] = [
+// How many fields the three records have.
+pub const FIELD_COUNT: usize = 28;
+
+const FIELDS: [Field; FIELD_COUNT] = [
     a::MARK,
     a::RETURN,
     a::AGREEMENT,
@@ -86,17 +91,18 @@ const FIELDS: [Field; 28] = [
     z::BLANK,
 ];
 
-pub fn table() -> [Field; 28]
+// The fields of all three records: the header's from left to right, then the payment's, then the trailer's.
+pub fn table() -> [Field; FIELD_COUNT]
     ensures { λ r. ⌜ r ≡ table ⌝ }
 {
     FIELDS
 }
 
-// A row of the table; past its end a field with no place.
+// A row of the table, counted from 0; past its end a field with no place: its last comes before its first.
 pub fn row(i: usize) -> Field
     ensures { λ r. ⌜ r ≡ rowAt i ⌝ }
 {
-    if i < 28 {
+    if i < FIELD_COUNT {
         FIELDS[i]
     } else {
         Field {
@@ -107,21 +113,23 @@ pub fn row(i: usize) -> Field
     }
 }
 
+// The record that a first byte names; `Other` for any byte but A, G and Z.
 pub fn named_by(mark: u8) -> MaybeRecord
     ensures { λ r. ⌜ r ≡ namedBy mark ⌝ }
 {
-    if mark == 65 {
+    if mark == a::LETTER {
         return MaybeRecord::Is(Record::Header);
     }
-    if mark == 71 {
+    if mark == g::LETTER {
         return MaybeRecord::Is(Record::Payment);
     }
-    if mark == 90 {
+    if mark == z::LETTER {
         return MaybeRecord::Is(Record::Trailer);
     }
     MaybeRecord::Other
 }
 
+// The rows of the table that are a record's fields.
 pub fn rows_of(which: Record) -> Rows
     ensures { λ r. ⌜ r ≡ rowsOf which ⌝ }
 {
@@ -132,7 +140,8 @@ pub fn rows_of(which: Record) -> Rows
     }
 }
 
-// What the writer is given of a field of this kind and width.
+// The part of a field, of this kind and this many bytes, that a caller of the writer gives as bytes: all of it, but
+// nothing of what is fixed or money, and of the service field the second byte.
 pub fn given_of(kind: Kind, width: usize) -> Given
     ensures { λ r. ⌜ r ≡ givenOf kind width ⌝ }
 {
@@ -153,7 +162,7 @@ pub fn given_of(kind: Kind, width: usize) -> Given
     }
 }
 
-// How many bytes the writer is given for a record.
+// How many such bytes a record has in all.
 pub fn given_length(which: Record) -> usize
     ensures { λ r. ⌜ r ≡ givenLength which ⌝ }
 {

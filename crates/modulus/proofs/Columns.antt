@@ -1,4 +1,4 @@
--- Laws of three rows of sixteen digits. Assumes nothing.
+-- Laws of three rows of sixteen digits, which tie `sums_of_forty` to the sums of specs/Checks.antt. Assumes nothing.
 use Prim.Native.Nat.{ℕ, suc, _+_, _-_, _*_, _%_, _≤_, _<_}
 use mathlib.Core.Bool.{Bool, true, false, cond, _&&_, and-true, and-eq-true-iff}
 use mathlib.Core.List.{List, []}
@@ -20,7 +20,7 @@ use Rattle.modulus.specs.declared.Modulus.{Modulus}
 use Rattle.modulus.specs.declared.Modulus.the-variants.{Ten, Eleven}
 use Rattle.modulus.specs.declared.MaybeSums.the-variants.{Both, NoSum}
 use Rattle.modulus.specs.Checks.{addedBy, weightOf, productPart, termOf, weightedSum, bothSums}
-use Rattle.modulus.specs.Columns.{areDigits, counted}
+use Rattle.modulus.specs.Columns.{areDigits, counted, columnAdds}
 use Rattle.modulus.proofs.Sums.{parts-compose, sum-period}
 
 -- Under modulo 10 a digit counts once, or twice less nine where the double has two digits.
@@ -46,7 +46,8 @@ carried d = go (leb 5 d) refl
 
 -- Column i with the values a, b and c.
 module _ (i a b c : ℕ) (h : i < 16) where
-  pub column-once : i % 2 ≡ 0 → a ≤ 9 → b ≤ 9 → c ≤ 9 → a + (b + c) ≡ addedBy Ten (15 - i) a + (addedBy Ten (15 - i) b + addedBy Ten (15 - i) c)
+  pub column-once : i % 2 ≡ 0 → a ≤ 9 → b ≤ 9 → c ≤ 9
+      → a + (b + c) ≡ columnAdds Ten i a b c
   column-once e p q r =
       let k : (15 - i) % 2 ≡ 1 = omega arith in
       omega (arith, once (15 - i) a k p, once (15 - i) b k q, once (15 - i) c k r)
@@ -56,20 +57,21 @@ module _ (i a b c : ℕ) (h : i < 16) where
     carries-fit = omega (arith, carried a, carried b, carried c, ex, ey, ez)
 
     pub column-twice : (i % 2 ≡ 0 → ⊥) → a ≤ 9 → b ≤ 9 → c ≤ 9
-        → 2 * (a + (b + c)) - 9 * (x + (y + z)) ≡ addedBy Ten (15 - i) a + (addedBy Ten (15 - i) b + addedBy Ten (15 - i) c)
+        → 2 * (a + (b + c)) - 9 * (x + (y + z)) ≡ columnAdds Ten i a b c
     column-twice e p q r =
         let k : (15 - i) % 2 ≡ 0 = omega arith in
         omega (arith, twice (15 - i) a k p, twice (15 - i) b k q, twice (15 - i) c k r, ex, ey, ez)
 
-  pub column-weighed : (2 + (15 - i) % 8) * (a + (b + c)) ≡ addedBy Eleven (15 - i) a + (addedBy Eleven (15 - i) b + addedBy Eleven (15 - i) c)
+  pub column-weighed : (2 + (15 - i) % 8) * (a + (b + c)) ≡ columnAdds Eleven i a b c
   unfolding addedBy
   column-weighed = rw (mul-add (2 + (15 - i) % 8) a (b + c), mul-add (2 + (15 - i) % 8) b c)
 
   pub column-small : a ≤ 15 → b ≤ 15 → c ≤ 15 → (2 + (15 - i) % 8) * (a + (b + c)) ≤ 405
   column-small p q r = let fits : (2 + (15 - i) % 8) * (a + (b + c)) ≤ 9 * 45 = mul-le-mul {n₂ = 9} {m₂ = 45} (omega arith) (omega arith) in fits
 
--- the flags of three bytes are one flag
-pub three-flags : (t u v : Bool) {f g h : ℕ} → f ≡ cond t 0 1 → g ≡ cond u 0 1 → h ≡ cond v 0 1 → bitOr f (bitOr g h) ≡ cond (t && (u && v)) 0 1
+-- the error bits of three bytes make one
+pub three-flags : (t u v : Bool) {f g h : ℕ} → f ≡ cond t 0 1 → g ≡ cond u 0 1 → h ≡ cond v 0 1
+    → bitOr f (bitOr g h) ≡ cond (t && (u && v)) 0 1
 three-flags t u v ef eg eh = rw (ef, eg, eh, two-flags u v, two-flags t (u && v))
 
 nothing : (m : Modulus) (k : ℕ) → addedBy m k 0 ≡ 0
@@ -84,7 +86,7 @@ late-small : (t : Bool) (b : ℕ) → cond t 0 (valueOf b) ≤ 9
 late-small true b = omega arith
 late-small false b = value-small b
 
--- Column i of three rows, and what is left behind it.
+-- Column i of three rows, and what is left after it.
 abbrev pub leftDigits : List ℕ → List ℕ → List ℕ → ℕ → Bool
 leftDigits x y z i = all (isOf Digit) (drop i x) && (all (isOf Digit) (drop i y) && all (isOf Digit) (drop i z))
 
@@ -107,7 +109,8 @@ sum-at m bs i n h =
     rw (add-one, drop-cons bs i 0 (omega arith), l)
 
 module _ (x y z : List ℕ) (lx : length x ≡ 16) (ly : length y ≡ 16) (lz : length z ≡ 16) (i : ℕ) (h : i < 16) where
-  pub digits-step : (n : ℕ) {f : ℕ} {r : Bool} → f ≡ cond (isOf Digit (getD x i 0) && (isOf Digit (getD y i 0) && isOf Digit (getD z i 0))) 0 1
+  pub digits-step : (n : ℕ) {f : ℕ} {r : Bool}
+      → f ≡ cond (isOf Digit (getD x i 0) && (isOf Digit (getD y i 0) && isOf Digit (getD z i 0))) 0 1
       → (eqb n 0 && leftDigits x y z i) ≡ r → (eqb (bitOr n f) 0 && leftDigits x y z (i + 1)) ≡ r
   digits-step n e q =
       let a = isOf Digit (getD x i 0) in
@@ -119,11 +122,13 @@ module _ (x y z : List ℕ) (lx : length x ≡ 16) (ly : length y ≡ 16) (lz : 
       let p = rw (drop-cons x i 0 (omega arith), drop-cons y i 0 (omega arith), drop-cons z i 0 (omega arith), weave a b c rx ry rz) at q in
       rw (e, add-one, flag-on (a && (b && c)) n (rx && (ry && rz))) p
 
-  late-sum : (m : Modulus) → weightedSum m 0 (drop (8 - i) (drop i z)) ≡ addedBy m (15 - i) (cond (ltb i 8) 0 (valueOf (getD z i 0))) + weightedSum m 0 (drop (8 - (i + 1)) (drop (i + 1) z))
+  late-sum : (m : Modulus)
+      → weightedSum m 0 (drop (8 - i) (drop i z)) ≡ addedBy m (15 - i) (cond (ltb i 8) 0 (valueOf (getD z i 0))) + weightedSum m 0 (drop (8 - (i + 1)) (drop (i + 1) z))
   unfolding termOf addedBy
   late-sum m = go (ltb i 8) refl
     where
-      go : (t : Bool) → ltb i 8 ≡ t → weightedSum m 0 (drop (8 - i) (drop i z)) ≡ addedBy m (15 - i) (cond t 0 (valueOf (getD z i 0))) + weightedSum m 0 (drop (8 - (i + 1)) (drop (i + 1) z))
+      go : (t : Bool) → ltb i 8 ≡ t
+          → weightedSum m 0 (drop (8 - i) (drop i z)) ≡ addedBy m (15 - i) (cond t 0 (valueOf (getD z i 0))) + weightedSum m 0 (drop (8 - (i + 1)) (drop (i + 1) z))
       go true e =
           let l = ltb-true i 8 e in
           let k : i + (8 - i) ≡ 8 = omega arith in
@@ -136,12 +141,13 @@ module _ (x y z : List ℕ) (lx : length x ≡ 16) (ly : length y ≡ 16) (lz : 
           rw (k, j) (sum-at m z i lz h)
 
   sum-step : (m : Modulus) → leftSum m x y z i
-      ≡ (addedBy m (15 - i) (valueOf (getD x i 0)) + (addedBy m (15 - i) (valueOf (getD y i 0)) + addedBy m (15 - i) (cond (ltb i 8) 0 (valueOf (getD z i 0))))) + leftSum m x y z (i + 1)
+      ≡ columnAdds m i (valueOf (getD x i 0)) (valueOf (getD y i 0)) (cond (ltb i 8) 0 (valueOf (getD z i 0))) + leftSum m x y z (i + 1)
   unfolding termOf addedBy
   sum-step m = omega (arith, sum-at m x i lx h, sum-at m y i ly h, late-sum m)
 
-  pub sum-goes : (m : Modulus) (s : ℕ) {a b c t : ℕ} → areDigits x y z ≡ true → a ≡ getD x i 0 % 16 → b ≡ getD y i 0 % 16 → c ≡ cond (ltb i 8) 0 (getD z i 0 % 16)
-      → (a ≤ 9 → b ≤ 9 → c ≤ 9 → t ≡ addedBy m (15 - i) a + (addedBy m (15 - i) b + addedBy m (15 - i) c))
+  pub sum-goes : (m : Modulus) (s : ℕ) {a b c t : ℕ} → areDigits x y z ≡ true → a ≡ getD x i 0 % 16
+      → b ≡ getD y i 0 % 16 → c ≡ cond (ltb i 8) 0 (getD z i 0 % 16)
+      → (a ≤ 9 → b ≤ 9 → c ≤ 9 → t ≡ columnAdds m i a b c)
       → s + leftSum m x y z i ≡ counted m x y z → s + t + leftSum m x y z (i + 1) ≡ counted m x y z
   sum-goes m s {a} {b} {c} {t} d ea eb ec et q =
       let first = and-eq-true-iff (all (isOf Digit) x) (all (isOf Digit) y && all (isOf Digit) z) .0 d in
@@ -153,11 +159,11 @@ module _ (x y z : List ℕ) (lx : length x ≡ 16) (ly : length y ≡ 16) (lz : 
       let fb : b ≡ vb = eb ∙ low-value (getD y i 0) (all-at (isOf Digit) y i (later .0) (omega arith)) in
       let fc : c ≡ vc = ec ∙ ap (cond (ltb i 8) 0) (low-value (getD z i 0) (all-at (isOf Digit) z i (later .1) (omega arith))) in
       let small : vc ≤ 9 = late-small (ltb i 8) (getD z i 0) in
-      let added : t ≡ addedBy m (15 - i) va + (addedBy m (15 - i) vb + addedBy m (15 - i) vc)
+      let added : t ≡ columnAdds m i va vb vc
       = rw (fa, fb, fc) at (et (rw fa (value-small (getD x i 0))) (rw fb (value-small (getD y i 0))) (rw fc small)) in
       omega (arith, sum-step m)
 
--- Behind the last column nothing is left.
+-- After the last column nothing is left.
 module _ (x y z : List ℕ) (lx : length x ≡ 16) (ly : length y ≡ 16) (lz : length z ≡ 16) (i : ℕ) (h : 16 ≤ i) where
   none : (l : List ℕ) → length l ≡ 16 → drop i l ≡ []
   none l e = let past : length l ≤ i = omega arith in drop-of-length-le l past
@@ -171,8 +177,14 @@ module _ (x y z : List ℕ) (lx : length x ≡ 16) (ly : length y ≡ 16) (lz : 
       omega (arith, rw (k, none x lx, none y ly, none z lz) at q)
 
 -- Forty bytes as such rows.
+abbrev rowsAreDigits : List ℕ → Bool
+rowsAreDigits bs = areDigits (take 16 bs) (take 16 (drop 16 bs)) (take 16 (drop 24 bs))
+
+abbrev rowsCounted : Modulus → List ℕ → ℕ
+rowsCounted m bs = counted m (take 16 bs) (take 16 (drop 16 bs)) (take 16 (drop 24 bs))
+
 module _ (bs : List ℕ) (n : length bs ≡ 40) where
-  pub forty-digits : areDigits (take 16 bs) (take 16 (drop 16 bs)) (take 16 (drop 24 bs)) ≡ all (isOf Digit) bs
+  pub forty-digits : rowsAreDigits bs ≡ all (isOf Digit) bs
   forty-digits = go (all (isOf Digit) (take 16 bs)) refl (all (isOf Digit) (take 16 (drop 16 bs))) refl
     where
       go : (t : Bool) → all (isOf Digit) (take 16 bs) ≡ t → (u : Bool) → all (isOf Digit) (take 16 (drop 16 bs)) ≡ u
@@ -183,7 +195,8 @@ module _ (bs : List ℕ) (n : length bs ≡ 40) where
           let p : all (isOf Digit) (take 32 bs) ≡ true = row-passes (isOf Digit) bs 16 16 (sym f) refl e in
           last-row (isOf Digit) bs 32 16 (omega arith) (omega arith) p (rw n refl)
 
-  pub forty-sum : (m : Modulus) → counted m (take 16 bs) (take 16 (drop 16 bs)) (take 16 (drop 24 bs)) ≡ weightedSum m 0 bs
+  pub forty-sum : (m : Modulus)
+      → rowsCounted m bs ≡ weightedSum m 0 bs
   forty-sum m =
       let last : drop 8 (take 16 (drop 24 bs)) ≡ drop 16 (drop 16 bs) =
       ap (drop 8) (take-all 16 (drop 24 bs) (omega (arith, length-drop 24 bs))) ∙ drop-drop 8 24 bs ∙ sym (drop-drop 16 16 bs) in
@@ -196,20 +209,22 @@ module _ (bs : List ℕ) (n : length bs ≡ 40) where
       rw last (omega (arith, c, d, p, q))
 
   -- from what the rows gave
-  module _ (flag : ℕ) (e : eqb flag 0 ≡ areDigits (take 16 bs) (take 16 (drop 16 bs)) (take 16 (drop 24 bs))) where
+  module _ (flag : ℕ) (e : eqb flag 0 ≡ rowsAreDigits bs) where
     pub no-sum : (flag ≡ 0 → ⊥) → NoSum ≡ bothSums bs
     no-sum h = let t : all (isOf Digit) bs ≡ false = sym forty-digits ∙ sym e ∙ ne-eqb flag 0 h in rw (eq-eqb (length bs) 40 n, t)
 
-    pub both-sums : {a b : ℕ} → flag ≡ 0 → (areDigits (take 16 bs) (take 16 (drop 16 bs)) (take 16 (drop 24 bs)) ≡ true → a ≡ counted Ten (take 16 bs) (take 16 (drop 16 bs)) (take 16 (drop 24 bs)))
-        → (areDigits (take 16 bs) (take 16 (drop 16 bs)) (take 16 (drop 24 bs)) ≡ true → b ≡ counted Eleven (take 16 bs) (take 16 (drop 16 bs)) (take 16 (drop 24 bs)))
+    pub both-sums : {a b : ℕ} → flag ≡ 0
+        → (rowsAreDigits bs ≡ true → a ≡ rowsCounted Ten bs)
+        → (rowsAreDigits bs ≡ true → b ≡ rowsCounted Eleven bs)
         → Both a b ≡ bothSums bs
     both-sums h ea eb =
         let d = sym e ∙ eq-eqb flag 0 h in
         let t : all (isOf Digit) bs ≡ true = sym forty-digits ∙ d in
         rw (eq-eqb (length bs) 40 n, t, ea d, eb d, forty-sum Ten, forty-sum Eleven)
 
--- what sums tell of the bytes
-pub sums-tell : (bs : List ℕ) {a b : ℕ} → Both a b ≡ bothSums bs → (all (isOf Digit) bs ≡ true) × (a ≡ weightedSum Ten 0 bs) × (b ≡ weightedSum Eleven 0 bs)
+-- what a sum, or none, tells of the bytes
+pub sums-tell : (bs : List ℕ) {a b : ℕ} → Both a b ≡ bothSums bs
+    → (all (isOf Digit) bs ≡ true) × (a ≡ weightedSum Ten 0 bs) × (b ≡ weightedSum Eleven 0 bs)
 sums-tell bs {a} {b} e = go (eqb (length bs) 40) (all (isOf Digit) bs) e
   where
     go : (t u : Bool) → Both a b ≡ cond (t && u) (Both (weightedSum Ten 0 bs) (weightedSum Eleven 0 bs)) NoSum

@@ -1,4 +1,4 @@
 pub mod Columns
-pub mod Slips
 pub mod Sums
 pub mod Terms
+pub mod Typos

@@ -1,4 +1,4 @@
--- The two check digits of document 01, over any list of bytes. Assumes nothing.
+-- The two check digits of SPEC.md, "Check digits", over any list of bytes. Assumes nothing.
 use Prim.Native.Nat.{ℕ, _+_, _-_, _*_, _/_, _%_, _≤_, _<_}
 use mathlib.Core.Bool.{true, cond, _&&_}
 use mathlib.Core.List.{List, [], _∷_, _++_}
@@ -23,12 +23,12 @@ abbrev pub weightOf : Modulus → ℕ → ℕ
 weightOf Ten k = 2 - k % 2
 weightOf Eleven k = 2 + k % 8
 
--- what a product adds: its decimal digits (of a digit it has two at the most); under modulo 11 the whole product
+-- what a product adds: under modulo 10 its decimal digits, two at the most; under modulo 11 the whole product
 abbrev pub productPart : Modulus → ℕ → ℕ
 productPart Ten product = product / 10 + product % 10
 productPart Eleven product = product
 
--- what a digit of this value adds that has k digits to its right, and what a byte adds
+-- what a digit with k digits to its right adds, by its value, and what a byte adds
 unfoldable pub addedBy : Modulus → ℕ → ℕ → ℕ
 addedBy m k d = productPart m (weightOf m k * d)
 
@@ -43,7 +43,8 @@ weightedSum m k (b ∷ bs) = termOf m (k + length bs) b + weightedSum m k bs
 abbrev pub remainderOf : Modulus → List ℕ → ℕ
 remainderOf m bs = weightedSum m 0 bs % sizeOf m
 
--- the check is 10 less the remainder by 10, and 0 for remainder 0; 11 less the remainder by 11, and 0 for remainders 0 and 1
+-- the check is 10 less the remainder by 10, and 0 for remainder 0; it is 11 less the remainder by 11, and 0 for
+-- remainders 0 and 1
 unfoldable pub digitOfRemainder : Modulus → ℕ → ℕ
 digitOfRemainder Ten rest = cond (eqb rest 0) 0 (10 - rest)
 digitOfRemainder Eleven rest = cond (leb rest 1) 0 (11 - rest)
@@ -53,7 +54,8 @@ checkOf m bs = digitOfRemainder m (remainderOf m bs)
 
 -- both sums of forty digits at once; of other bytes none
 abbrev pub bothSums : List ℕ → MaybeSums
-bothSums bs = cond (eqb (length bs) 40 && all (isOf Digit) bs) (Both (weightedSum Ten 0 bs) (weightedSum Eleven 0 bs)) NoSum
+bothSums bs =
+    cond (eqb (length bs) 40 && all (isOf Digit) bs) (Both (weightedSum Ten 0 bs) (weightedSum Eleven 0 bs)) NoSum
 
 -- Promises, over the modulus and over any list.
 
@@ -63,15 +65,18 @@ CheckIsOneDigit = (m : Modulus) (bs : List ℕ) → checkOf m bs ≤ 9
 
 -- the sum of two parts: the left one has the right one's digits to its right too
 abbrev pub PartsCompose : Type 0
-PartsCompose = (m : Modulus) (k : ℕ) (left right : List ℕ) → weightedSum m k (left ++ right) ≡ weightedSum m (k + length right) left + weightedSum m k right
+PartsCompose =
+    (m : Modulus) (k : ℕ) (left right : List ℕ)
+    → weightedSum m k (left ++ right) ≡ weightedSum m (k + length right) left + weightedSum m k right
 
 -- one digit changed into another moves the remainder
 abbrev pub OneDigitMoves : Type 0
 OneDigitMoves =
-    (m : Modulus) (k : ℕ) (bs : List ℕ) (i d : ℕ) → i < length bs → isOf Digit (getD bs i 0) ≡ true → isOf Digit d ≡ true
+    (m : Modulus) (k : ℕ) (bs : List ℕ) (i d : ℕ)
+    → i < length bs → isOf Digit (getD bs i 0) ≡ true → isOf Digit d ≡ true
     → weightedSum m k (set bs i d) % sizeOf m ≡ weightedSum m k bs % sizeOf m → d ≡ getD bs i 0
 
--- two neighbours that changed places
+-- two neighbours exchanged
 abbrev pub exchanged : List ℕ → ℕ → List ℕ
 exchanged bs i = set (set bs i (getD bs (i + 1) 0)) (i + 1) (getD bs i 0)
 
@@ -86,9 +91,10 @@ ZeroAndNine = Are 48 57
 -- unequal digits exchanged under modulo 10 keep the remainder exactly when they are 0 and 9
 abbrev pub ExchangeKeeps : Type 0
 ExchangeKeeps =
-    (k : ℕ) (bs : List ℕ) (i : ℕ) → i + 1 < length bs → isOf Digit (getD bs i 0) ≡ true → isOf Digit (getD bs (i + 1) 0) ≡ true
-    → (getD bs i 0 ≡ getD bs (i + 1) 0 → ⊥)
-    → (weightedSum Ten k (exchanged bs i) % 10 ≡ weightedSum Ten k bs % 10) ↔ ZeroAndNine (getD bs i 0) (getD bs (i + 1) 0)
+    (k : ℕ) (bs : List ℕ) (i : ℕ) → i + 1 < length bs → isOf Digit (getD bs i 0) ≡ true
+    → isOf Digit (getD bs (i + 1) 0) ≡ true → (getD bs i 0 ≡ getD bs (i + 1) 0 → ⊥)
+    → (weightedSum Ten k (exchanged bs i) % 10 ≡ weightedSum Ten k bs % 10)
+    ↔ ZeroAndNine (getD bs i 0) (getD bs (i + 1) 0)
 
 -- an even number of digits more to the right changes no sum under modulo 10
 abbrev pub EvenShiftKeeps : Type 0
@@ -103,4 +109,6 @@ abbrev pub CheckShowsTen : Type 0
 CheckShowsTen = (r q : ℕ) → r < 10 → q < 10 → digitOfRemainder Ten r ≡ digitOfRemainder Ten q → r ≡ q
 
 abbrev pub CheckShowsEleven : Type 0
-CheckShowsEleven = (r q : ℕ) → r < 11 → q < 11 → (digitOfRemainder Eleven r ≡ digitOfRemainder Eleven q) ↔ ((r ≡ q) ⊎ BetweenZeroAndOne r q)
+CheckShowsEleven =
+    (r q : ℕ) → r < 11 → q < 11
+    → (digitOfRemainder Eleven r ≡ digitOfRemainder Eleven q) ↔ ((r ≡ q) ⊎ BetweenZeroAndOne r q)

@@ -1,4 +1,4 @@
-// Check digits under modulo 10 and modulo 11.
+// Check digits under modulo 10 and modulo 11 (SPEC.md, "Check digits").
 ghost use mathlib.Core.Path.{_≡_};
 ghost use Prim.Native.Nat.{_-_, _%_, _≤_, _<_};
 ghost use lib.ListN.{length};
@@ -13,13 +13,13 @@ pub enum Modulus {
     Eleven,
 }
 
-// The sum of digits under modulo 10, and under modulo 11.
+// The weighted sum of some digits under modulo 10, then under modulo 11.
 pub enum MaybeSums {
     Both(u64, u64),
     NoSum,
 }
 
-// The remainder of a sum; parts of one sum are added first.
+// The remainder of a sum by 10 or 11. Where a sum has parts, they are added first.
 pub fn remainder(m: Modulus, sum: u64) -> u64
     ensures { λ r. ⌜ r ≡ sum % sizeOf m ⌝ }
 {
@@ -29,19 +29,20 @@ pub fn remainder(m: Modulus, sum: u64) -> u64
     }
 }
 
-fn less(size: u64, rest: u64) -> u64
-    ensures { λ r. ⌜ r ≡ size - rest ⌝ }
-{
-    if rest < size { size - rest } else { 0 }
-}
-
-// The check digit that a remainder gives.
+// The check digit that a remainder gives: the modulus less the remainder, and 0 for remainder 0, under modulo 11 also
+// for 1. 0 for a number that is no remainder.
 pub fn digit_of_remainder(m: Modulus, rest: u64) -> u64
     ensures { λ r. ⌜ r ≡ digitOfRemainder m rest ⌝ }
 {
     match m {
-        Modulus::Ten => if rest == 0 { 0 } else { less(10, rest) },
-        Modulus::Eleven => if rest <= 1 { 0 } else { less(11, rest) },
+        Modulus::Ten => match rest {
+            1..=9 => 10 - rest,
+            _ => 0,
+        },
+        Modulus::Eleven => match rest {
+            2..=10 => 11 - rest,
+            _ => 0,
+        },
     }
 }
 
@@ -55,8 +56,8 @@ fn weight(m: Modulus, right: usize) -> u16
     }
 }
 
-// What a product adds to the sum.
-fn part(m: Modulus, product: u16) -> u16
+// What a product adds to the sum: under modulo 10 its decimal digits.
+fn product_part(m: Modulus, product: u16) -> u16
     ensures { λ r. ⌜ r ≡ productPart m product ⌝ }
 {
     match m {
@@ -65,14 +66,14 @@ fn part(m: Modulus, product: u16) -> u16
     }
 }
 
-// What a byte adds that has `right` digits to its right.
+// What a byte with `right` digits to its right adds to the sum; 0 where it is no digit.
 fn term(m: Modulus, right: usize, b: u8) -> u16
     ensures { λ r. ⌜ r ≡ termOf m right b ⌝ }
 {
-    part(m, weight(m, right) * decimal::value(b) as u16)
+    product_part(m, weight(m, right) * decimal::value(b) as u16)
 }
 
-// The sum over a part short enough that 16 bits hold it: so narrow a loop is made wide by the compiler.
+// The sum over a part so short that 16 bits hold it, so the loop vectorizes.
 fn short_sum(m: Modulus, digits: &[u8], right: usize) -> u64
     requires { ⌜ (length (now digits) ≤ 512) × (right < 8) ⌝ }
     ensures { λ r. ⌜ r ≡ weightedSum m right (now (digits .entry)) ⌝ }
@@ -86,13 +87,15 @@ fn short_sum(m: Modulus, digits: &[u8], right: usize) -> u64
     sum as u64
 }
 
+// Where the block of at most 512 bytes before `end` starts.
 fn block_start(end: usize) -> usize
     ensures { λ r. ⌜ r ≡ end - 512 ⌝ }
 {
     if 512 < end { end - 512 } else { 0 }
 }
 
-// The remainder of the sum over a part that has `right` more digits to its right; in blocks, so that no length wraps it.
+// The remainder of the weighted sum over a part that has `right` more digits to its right; a byte that is no digit adds
+// 0. The sum is made in blocks, so that no length wraps it.
 pub fn weighted_remainder(m: Modulus, digits: &[u8], right: usize) -> u64
     ensures { λ r. ⌜ r ≡ weightedSum m right (now (digits .entry)) % sizeOf m ⌝ }
 {
@@ -107,7 +110,7 @@ pub fn weighted_remainder(m: Modulus, digits: &[u8], right: usize) -> u64
     sum
 }
 
-// The check digit of a stretch of digits.
+// The check digit of some digits, 0 to 9; a byte that is no digit counts as 0.
 pub fn check(m: Modulus, digits: &[u8]) -> u64
     ensures { λ r. ⌜ r ≡ checkOf m (now (digits .entry)) ⌝ }
 {

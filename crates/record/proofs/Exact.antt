@@ -14,7 +14,8 @@ use Rattle.answer.specs.declared.Answer.the-variants.{Accepted, Refused}
 use Rattle.answer.specs.Orders.{_then_, behind}
 use Rattle.decimal.specs.declared.Class.the-variants.{Digit, Blank, Text}
 use Rattle.decimal.specs.Bytes.{isOf, all}
-use Rattle.decimal.specs.Numbers.{numberOf, lowNumberOf}
+use Rattle.decimal.specs.LowHalves.{lowNumberOf}
+use Rattle.decimal.specs.Numbers.{numberOf}
 use Rattle.decimal.proofs.Finite.{never}
 use Rattle.decimal.proofs.Numbers.{low-of-digits}
 use Rattle.calendar.specs.declared.Date.{Date}

@@ -4,7 +4,7 @@ ghost use mathlib.Core.Bool.{cond, _&&_};
 ghost use mathlib.Core.Path.{_≡_};
 ghost use lib.ListN.{length, take, drop};
 ghost use Rattle.decimal.specs.Bytes.{isOf, all};
-ghost use Rattle.decimal.specs.Numbers.{lowNumberOf};
+ghost use Rattle.decimal.specs.LowHalves.{lowNumberOf};
 ghost use Rattle.calendar.specs.Dates.{dateOf};
 ghost use Rattle.barcode.specs.Codes as codes;
 ghost use Rattle.layout.specs.Layouts.{recordLength, namedBy, InRecord};

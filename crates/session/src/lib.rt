@@ -65,9 +65,9 @@ impl Session {
 
     pub const RECORD: usize = layout::LENGTH;
 
-    pub const PAYMENTS: u64 = File::PAYMENTS;
+    pub const PAYMENTS: u64 = File::MOST_PAYMENTS;
 
-    pub const FILE_TOTAL: u64 = File::TOTAL;
+    pub const FILE_TOTAL: u64 = File::MOST_CENTAVOS;
 
     pub const BOARD_TOTAL: u64 = Board::TOTAL;
 

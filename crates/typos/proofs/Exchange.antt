@@ -14,7 +14,7 @@ use Rattle.decimal.specs.Places.{partAt}
 use Rattle.decimal.proofs.Places.{part-beside}
 use Rattle.modulus.specs.declared.Modulus.the-variants.{Ten}
 use Rattle.modulus.specs.Checks.{remainderOf, checkOf, digitOfRemainder, exchanged, ZeroAndNine}
-use Rattle.modulus.proofs.Slips.{sum-set, exchange-keeps, check-shows-ten}
+use Rattle.modulus.proofs.Typos.{sum-set, exchange-keeps, check-shows-ten}
 use Rattle.barcode.proofs.Codes.{lead-same}
 use Rattle.typos.specs.Typos.{Names, boxAt, boxOf, InOneBox, wholeOf, ExchangeOfNeighbours}
 use Rattle.decimal.proofs.Bytes.{all-at, all-set}

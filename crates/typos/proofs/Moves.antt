@@ -11,12 +11,13 @@ use lib.ListN.{length, getD, set}
 use lib.Seq.{getD-set-same, getD-set-other}
 use Rattle.decimal.specs.declared.Class.the-variants.{Digit}
 use Rattle.decimal.specs.Bytes.{isOf, all}
-use Rattle.decimal.specs.Places.{partAt, Beside}
+use Rattle.decimal.specs.OneByte.{Beside}
+use Rattle.decimal.specs.Places.{partAt}
 use Rattle.decimal.proofs.Finite.{lt-or-le}
 use Rattle.decimal.proofs.Places.{part-beside}
 use Rattle.modulus.specs.declared.Modulus.{Modulus}
 use Rattle.modulus.specs.Checks.{remainderOf, checkOf}
-use Rattle.modulus.proofs.Slips.{one-digit-moves}
+use Rattle.modulus.proofs.Typos.{one-digit-moves}
 use Rattle.typos.specs.Typos.{boxAt}
 use Rattle.typos.proofs.Accepted.{Right, BoxRight, Passed}
 use Rattle.typos.proofs.Pieces.{Stands}

@@ -15,7 +15,7 @@ use Rattle.decimal.specs.Places.{partAt}
 use Rattle.decimal.proofs.Numbers.{value-small}
 use Rattle.modulus.specs.declared.Modulus.the-variants.{Ten, Eleven}
 use Rattle.modulus.specs.Checks.{remainderOf, BetweenZeroAndOne}
-use Rattle.modulus.proofs.Slips.{check-shows-eleven}
+use Rattle.modulus.proofs.Typos.{check-shows-eleven}
 use Rattle.barcode.specs.Codes.{digitAt, isKind, modulusOf}
 use Rattle.typos.specs.Typos.{boxOf, wholeOf, boxRemainder, codeRemainder, NoCheck, BothMove, OneChangedDigitUnderEleven}
 use Rattle.decimal.proofs.Bytes.{all-at, all-set}

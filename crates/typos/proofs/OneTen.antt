@@ -9,7 +9,7 @@ use Rattle.decimal.specs.declared.Class.the-variants.{Digit}
 use Rattle.decimal.specs.Bytes.{isOf}
 use Rattle.decimal.specs.Places.{partAt}
 use Rattle.modulus.specs.declared.Modulus.the-variants.{Ten}
-use Rattle.modulus.proofs.Slips.{check-shows-ten}
+use Rattle.modulus.proofs.Typos.{check-shows-ten}
 use Rattle.typos.specs.Typos.{boxAt, OneChangedDigitIsRefused}
 use Rattle.decimal.proofs.Bytes.{all-at}
 use Rattle.typos.proofs.Accepted.{apart}

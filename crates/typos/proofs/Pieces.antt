@@ -5,7 +5,8 @@ use mathlib.Core.Logic.{_≢_, inl, inr, ⊎-elim}
 use mathlib.Core.Path.{_≡_, refl, ap, _∙_}
 use native.Mathlib.Omega.{arith}
 use lib.ListN.{length, getD, set}
-use Rattle.decimal.specs.Places.{Stretch, partAt, gather, Lies, Beside, InPlan}
+use Rattle.decimal.specs.OneByte.{Lies, Beside, InPlan}
+use Rattle.decimal.specs.Places.{Stretch, partAt, gather}
 use Rattle.decimal.proofs.Finite.{lt-or-le}
 use Rattle.decimal.proofs.Places.{length-part, part-within, part-byte, gather-outside, gather-within}
 use Rattle.barcode.specs.Codes.{checked}

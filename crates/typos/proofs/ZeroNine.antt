@@ -15,7 +15,7 @@ use Rattle.decimal.specs.Numbers.{valueOf}
 use Rattle.decimal.proofs.Finite.{below, at}
 use Rattle.modulus.specs.declared.Modulus.the-variants.{Ten, Eleven}
 use Rattle.modulus.specs.Checks.{addedBy, termOf, digitOfRemainder, ZeroAndNine}
-use Rattle.modulus.proofs.Slips.{check-shows-ten}
+use Rattle.modulus.proofs.Typos.{check-shows-ten}
 use Rattle.modulus.proofs.Terms.{period}
 use Rattle.barcode.specs.Codes.{digitAt, modulusOf, firstThreeAnswer}
 use Rattle.typos.specs.Typos.{Names}

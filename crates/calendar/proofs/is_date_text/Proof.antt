@@ -5,7 +5,7 @@ use native.Mathlib.Omega.{arith}
 use borrow.Author.Tests.{not-true, not-false}
 use lib.ListN.{length}
 use Rattle.calendar.specs.Dates.{isFound}
-use Rattle.calendar.proofs.Common.{common-date}
+use Rattle.calendar.proofs.AnyYear.{any-year-date}
 use Rattle.calendar.proofs.Dates.{no-eight, no-digits}
 use Rattle.calendar.proofs.is_date_text.Statement.{statement}
 use Rattle.calendar.proofs.is_date_text.Tie as tie
@@ -37,8 +37,8 @@ pair-requires-3 c κs =
     let all = sym (c .before .before .before .all-of .ensures) ∙ not-false _ (c .before .before .if2 .left) in
     (omega arith, all)
 
-is-common-requires : tie.Need-is-common-requires
-is-common-requires c κs = search needs
+is-date-in-any-year-requires : tie.Need-is-date-in-any-year-requires
+is-date-in-any-year-requires c κs = search needs
 
 returns-3 : tie.Need-returns-3
 returns-3 c =
@@ -46,8 +46,8 @@ returns-3 c =
     let digits = pairs .before .before .before in
     let sized = digits .before .before in
     let all = sym (digits .before .all-of .ensures) ∙ not-false _ (digits .if2 .left) in
-    common-date (sized .before .before .args .bytes .now) (sized .if1 .left) all
-    (pairs .before .before .pair .ensures .0) (pairs .before .pair2 .ensures .0) (pairs .pair3 .ensures .0) (c .before .is-common .ensures (c .if3 .taken))
+    any-year-date (sized .before .before .args .bytes .now) (sized .if1 .left) all
+    (pairs .before .before .pair .ensures .0) (pairs .before .pair2 .ensures .0) (pairs .pair3 .ensures .0) (c .before .is-date-in-any-year .ensures (c .if3 .taken))
 
 read-date-requires : tie.Need-read-date-requires
 read-date-requires c κs = search needs
@@ -74,7 +74,7 @@ is-date-text-spec =
     pair-requires
     pair-requires-2
     pair-requires-3
-    is-common-requires
+    is-date-in-any-year-requires
     returns-3
     read-date-requires
     enum-told

@@ -4,7 +4,7 @@ use mathlib.Core.Path.{_≡_, refl}
 use native.Mathlib.Omega.{arith}
 use borrow.Author.Needs.{needs}
 use lib.ListN.{length, drop}
-use Rattle.decimal.specs.Numbers.{lowFrom}
+use Rattle.decimal.specs.LowHalves.{lowFrom}
 use Rattle.decimal.proofs.Numbers.{low-step, low-fit, low-end, low-long}
 use Rattle.decimal.proofs.low_number.Statement.{statement}
 use Rattle.decimal.proofs.low_number.Tie as tie
@@ -33,11 +33,14 @@ shared-slice-read-low-half c = search needs
 low-half-requires : tie.Need-low-half-requires Inv-loop μ-loop
 low-half-requires c κs = search needs
 
+cast-n : tie.Need-cast-n Inv-loop μ-loop
+cast-n c = search needs
+
 add-n : tie.Need-add-n Inv-loop μ-loop
 add-n c =
     let l = c .before .before .before .loop in
     let fit = low-fit (c .before .before .before .before .before .before .args .part .now) (l .i) (l .n) (omega (arith, c .before .before .before .before .if1 .left)) (c .before .before .loop-test .taken) (l .inv .1) in
-    record { fits = rw (c .low-half .ensures) (omega arith) }
+    record { fits = rw (c .low-half .ensures .0) (omega arith) }
 
 add-i : tie.Need-add-i Inv-loop μ-loop
 add-i c = search needs
@@ -48,7 +51,7 @@ loop-less c = search needs
 loop-again : tie.Need-loop-again Inv-loop μ-loop
 loop-again c =
     let l = c .before .before .before .loop in
-    (search needs, rw (c .low-half .ensures) (low-step (c .before .before .before .before .before .before .args .part .now) (l .i) (l .n) (c .before .before .loop-test .taken) (l .inv .1)))
+    (search needs, rw (c .low-half .ensures .0) (low-step (c .before .before .before .before .before .before .args .part .now) (l .i) (l .n) (c .before .before .loop-test .taken) (l .inv .1)))
 
 returns-2 : tie.Need-returns-2 Inv-loop μ-loop
 returns-2 c = low-end (c .before .before .before .before .args .part .now) (c .before .loop .i) (c .before .loop .n) (omega (arith, c .before .before .if1 .left)) (c .loop-test .left) (c .before .loop .inv .1)
@@ -64,6 +67,7 @@ low-number-spec =
     mul-n
     shared-slice-read-low-half
     low-half-requires
+    cast-n
     add-n
     add-i
     loop-less

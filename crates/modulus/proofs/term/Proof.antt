@@ -13,20 +13,20 @@ weight-requires c κs = search needs
 value-requires : tie.Need-value-requires
 value-requires c κs = search needs
 
-cast-part : tie.Need-cast-part
-cast-part c = record { fits = rw (c .value .ensures) (omega (arith, value-small (c .before .before .args .b))) }
+cast-product-part : tie.Need-cast-product-part
+cast-product-part c = record { fits = rw (c .value .ensures) (omega (arith, value-small (c .before .before .args .b))) }
 
-mul-part : tie.Need-mul-part
-mul-part c =
+mul-product-part : tie.Need-mul-product-part
+mul-product-part c =
     let a = c .before .before .args in
     record { fits = rw (c .before .weight .ensures, c .value .ensures) (omega (arith, product-small (a .m) (a .right) (a .b))) }
 
-part-requires : tie.Need-part-requires
-part-requires c κs = search needs
+product-part-requires : tie.Need-product-part-requires
+product-part-requires c κs = search needs
 
 returns : tie.Need-returns
 unfolding termOf addedBy
 returns c = cc
 
 pub term-spec : {M : Type 1} → statement M
-term-spec = tie.close (tie.spec weight-requires value-requires cast-part mul-part part-requires returns)
+term-spec = tie.close (tie.spec weight-requires value-requires cast-product-part mul-product-part product-part-requires returns)

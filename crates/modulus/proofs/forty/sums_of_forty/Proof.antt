@@ -8,41 +8,41 @@ use Rattle.modulus.proofs.forty.sums_of_forty.Tie as tie
 returns : tie.Need-returns
 returns c = simp (ne-eqb _ _ (c .if1 .taken))
 
-sub-columns : tie.Need-sub-columns
-sub-columns c = search needs
+sub-add-columns : tie.Need-sub-add-columns
+sub-add-columns c = search needs
 
-part-columns-start : tie.Need-part-columns-start
-part-columns-start c = search needs
+part-add-columns-start : tie.Need-part-add-columns-start
+part-add-columns-start c = search needs
 
-part-columns-end : tie.Need-part-columns-end
-part-columns-end c = search needs
+part-add-columns-end : tie.Need-part-add-columns-end
+part-add-columns-end c = search needs
 
-sub-columns-2 : tie.Need-sub-columns-2
-sub-columns-2 c = search needs
+sub-add-columns-2 : tie.Need-sub-add-columns-2
+sub-add-columns-2 c = search needs
 
-part-columns-start-2 : tie.Need-part-columns-start-2
-part-columns-start-2 c = search needs
+part-add-columns-start-2 : tie.Need-part-add-columns-start-2
+part-add-columns-start-2 c = search needs
 
-part-columns-end-2 : tie.Need-part-columns-end-2
-part-columns-end-2 c = search needs
+part-add-columns-end-2 : tie.Need-part-add-columns-end-2
+part-add-columns-end-2 c = search needs
 
-sub-columns-3 : tie.Need-sub-columns-3
-sub-columns-3 c = search needs
+sub-add-columns-3 : tie.Need-sub-add-columns-3
+sub-add-columns-3 c = search needs
 
-part-columns-start-3 : tie.Need-part-columns-start-3
-part-columns-start-3 c = search needs
+part-add-columns-start-3 : tie.Need-part-add-columns-start-3
+part-add-columns-start-3 c = search needs
 
-part-columns-end-3 : tie.Need-part-columns-end-3
-part-columns-end-3 c = search needs
+part-add-columns-end-3 : tie.Need-part-add-columns-end-3
+part-add-columns-end-3 c = search needs
 
-columns-requires : tie.Need-columns-requires
-columns-requires c κs = search needs
+add-columns-requires : tie.Need-add-columns-requires
+add-columns-requires c κs = search needs
 
 returns-2 : tie.Need-returns-2
 returns-2 c =
     let sums = c .before .before in
     let sized = sums .before .before .before .before in
-    no-sum (sized .before .before .args .digits .now) (sized .if1 .left) _ (sums .columns .ensures .0) (c .if2 .taken)
+    no-sum (sized .before .before .args .digits .now) (sized .if1 .left) _ (sums .add-columns .ensures .digits) (c .if2 .taken)
 
 cast-t16 : tie.Need-cast-t16
 cast-t16 c = search needs
@@ -54,24 +54,24 @@ returns-3 : tie.Need-returns-3
 returns-3 c =
     let sums = c .before .before .before .before in
     let sized = sums .before .before .before .before in
-    let told = sums .columns .ensures in
-    both-sums (sized .before .before .args .digits .now) (sized .if1 .left) _ (told .0) (c .before .before .if2 .left) (told .1 .0) (told .1 .1)
+    let told = sums .add-columns .ensures in
+    both-sums (sized .before .before .args .digits .now) (sized .if1 .left) _ (told .digits) (c .before .before .if2 .left) (told .tens) (told .elevens)
 
 pub sums-of-forty-spec : {M : Type 1} → statement M
 sums-of-forty-spec =
     tie.close
     (tie.spec
     returns
-    sub-columns
-    part-columns-start
-    part-columns-end
-    sub-columns-2
-    part-columns-start-2
-    part-columns-end-2
-    sub-columns-3
-    part-columns-start-3
-    part-columns-end-3
-    columns-requires
+    sub-add-columns
+    part-add-columns-start
+    part-add-columns-end
+    sub-add-columns-2
+    part-add-columns-start-2
+    part-add-columns-end-2
+    sub-add-columns-3
+    part-add-columns-start-3
+    part-add-columns-end-3
+    add-columns-requires
     returns-2
     cast-t16
     cast-t17

@@ -1,7 +1,7 @@
 -- `record::fast::number_of` meets its contract. Assumes nothing.
 use mathlib.Core.Path.{ap, _∙_}
 use borrow.Author.Needs.{needs}
-use Rattle.decimal.specs.Numbers.{lowNumberOf}
+use Rattle.decimal.specs.LowHalves.{lowNumberOf}
 use Rattle.record.proofs.fast.number_of.Statement.{statement}
 use Rattle.record.proofs.fast.number_of.Tie as tie
 

@@ -1,8 +1,8 @@
--- `modulus::forty::ten` meets its contract. Assumes nothing.
+-- `modulus::forty::column_ten` meets its contract. Assumes nothing.
 use borrow.Author.Needs.{needs}
 use Rattle.modulus.proofs.Columns.{column-once, carries-fit, column-twice}
-use Rattle.modulus.proofs.forty.ten.Statement.{statement}
-use Rattle.modulus.proofs.forty.ten.Tie as tie
+use Rattle.modulus.proofs.forty.column_ten.Statement.{statement}
+use Rattle.modulus.proofs.forty.column_ten.Tie as tie
 
 add-sum : tie.Need-add-sum
 add-sum c = search needs
@@ -53,8 +53,8 @@ returns-2 c =
     let a = first .before .before .args in
     (column-twice (a .i) (a .a) (a .b) (a .c) (search needs) (first .carry .ensures .0) (c .before .carry2 .ensures .0) (c .carry3 .ensures .0) (first .before .if1 .left), search needs)
 
-pub ten-spec : {M : Type 1} → statement M
-ten-spec =
+pub column-ten-spec : {M : Type 1} → statement M
+column-ten-spec =
     tie.close
     (tie.spec
     add-sum

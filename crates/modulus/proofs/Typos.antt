@@ -1,4 +1,4 @@
--- What a slip of the hand does to the sum over any list. Assumes nothing.
+-- What a typing error does to the sum over any list. Assumes nothing.
 use Prim.Native.Nat.{ℕ, zero, suc, _+_, _-_, _*_, _%_}
 use mathlib.Core.Bool.{Bool, true, cond, not, _||_, or-true}
 use mathlib.Core.List.{List, [], _∷_}

@@ -1,9 +1,9 @@
--- `modulus::forty::eleven` meets its contract. Assumes nothing.
+-- `modulus::forty::column_eleven` meets its contract. Assumes nothing.
 use borrow.Author.Needs.{needs}
 use native.Mathlib.Omega.{arith}
 use Rattle.modulus.proofs.Columns.{column-weighed, column-small}
-use Rattle.modulus.proofs.forty.eleven.Statement.{statement}
-use Rattle.modulus.proofs.forty.eleven.Tie as tie
+use Rattle.modulus.proofs.forty.column_eleven.Statement.{statement}
+use Rattle.modulus.proofs.forty.column_eleven.Tie as tie
 
 add-sum : tie.Need-add-sum
 add-sum c = search needs
@@ -34,7 +34,7 @@ returns c =
     let a = c .args in
     (column-weighed (a .i) (a .a) (a .b) (a .c) (search needs), column-small (a .i) (a .a) (a .b) (a .c) (search needs) (search needs) (search needs) (search needs))
 
-pub eleven-spec : {M : Type 1} → statement M
-eleven-spec =
+pub column-eleven-spec : {M : Type 1} → statement M
+column-eleven-spec =
     tie.close
     (tie.spec add-sum add-sum-2 sub-result add-result cast-result cast-result-2 mul-result returns)

@@ -1,8 +1,0 @@
--- Days that are a date in every year of a century. Only the quick test of a date cites it. Assumes nothing.
-use Prim.Native.Nat.{ℕ, _+_, _*_, _≤_}
-use mathlib.Core.Bool.{true}
-use mathlib.Core.Path.{_≡_}
-use Rattle.calendar.specs.Dates.{isDate}
-
-abbrev pub CommonIn : ℕ → ℕ → ℕ → Type 0
-CommonIn century month day = (y : ℕ) → y ≤ 99 → isDate (record { year = 100 * century + y; month = month; day = day }) ≡ true
