@@ -1,8 +1,8 @@
--- `fields::pieces::copy_all` meets its contract. Assumes nothing.
+-- `fields::given::copy_all` meets its contract. Assumes nothing.
 use borrow.Author.Needs.{needs}
-use Rattle.fields.proofs.Makes.{copied}
-use Rattle.fields.proofs.pieces.copy_all.Statement.{statement}
-use Rattle.fields.proofs.pieces.copy_all.Tie as tie
+use Rattle.fields.proofs.Writes.{copied}
+use Rattle.fields.proofs.given.copy_all.Statement.{statement}
+use Rattle.fields.proofs.given.copy_all.Tie as tie
 
 copy-requires : tie.Need-copy-requires
 copy-requires c κs = search needs

@@ -1,8 +1,8 @@
--- `fields::pieces::takes` meets its contract. Assumes nothing.
+-- `fields::given::given_width` meets its contract. Assumes nothing.
 use borrow.Author.Needs.{needs}
 use Rattle.fields.proofs.Parts.{part-order, part-width}
-use Rattle.fields.proofs.pieces.takes.Statement.{statement}
-use Rattle.fields.proofs.pieces.takes.Tie as tie
+use Rattle.fields.proofs.given.given_width.Statement.{statement}
+use Rattle.fields.proofs.given.given_width.Tie as tie
 
 sub-given-of : tie.Need-sub-given-of
 sub-given-of c = search needs
@@ -19,5 +19,5 @@ sub-result c = part-order (c .before .before .before .before .pre) (c .before .g
 returns : tie.Need-returns
 returns c = part-width (c .before .before .before .before .pre) (c .before .given-of .ensures)
 
-pub takes-spec : {M : Type 1} → statement M
-takes-spec = tie.close (tie.spec sub-given-of sub-given-of-2 given-of-requires sub-result returns)
+pub given-width-spec : {M : Type 1} → statement M
+given-width-spec = tie.close (tie.spec sub-given-of sub-given-of-2 given-of-requires sub-result returns)

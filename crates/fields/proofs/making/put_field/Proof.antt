@@ -1,10 +1,10 @@
--- `fields::making::put` meets its contract. Assumes nothing.
+-- `fields::making::put_field` meets its contract. Assumes nothing.
 use mathlib.Core.Path.{refl, sym, ap, _∙_}
 use borrow.Author.Needs.{needs}
 use lib.ListN.{length}
-use Rattle.fields.proofs.Makes.{put-money, put-money-bytes, put-other, other-is}
-use Rattle.fields.proofs.making.put.Statement.{statement}
-use Rattle.fields.proofs.making.put.Tie as tie
+use Rattle.fields.proofs.Writes.{put-money, put-money-bytes, put-other, other-is}
+use Rattle.fields.proofs.making.put_field.Statement.{statement}
+use Rattle.fields.proofs.making.put_field.Tie as tie
 
 is-money-requires : tie.Need-is-money-requires
 is-money-requires c κs = search needs
@@ -18,9 +18,9 @@ same-length c = search needs
 returns : tie.Need-returns
 returns c =
     let putting = c .before .before in
-    let asking = putting .before .before in
-    let a = asking .before .before .before .before .args in
-    let money = sym (asking .before .is-money .ensures) ∙ asking .if1 .taken in
+    let testing = putting .before .before in
+    let a = testing .before .before .before .before .args in
+    let money = sym (testing .before .is-money .ensures) ∙ testing .if1 .taken in
     let w = length (a .out .now) in (
       put-money (a .kind) w (a .given .now) (a .amount) money (putting .put-number .ensures .0),
       put-money-bytes (a .kind) w (a .given .now) (a .amount) _ _ money refl (putting .put-number .ensures .1),
@@ -28,10 +28,10 @@ returns c =
 
 put-bytes-requires : tie.Need-put-bytes-requires
 put-bytes-requires c κs =
-    let asking = c .before in
-    let start = asking .before .before .before .before in
+    let testing = c .before in
+    let start = testing .before .before .before .before in
     let a = start .args in
-    let other = sym (asking .before .is-money .ensures) ∙ asking .if1 .left in
+    let other = sym (testing .before .is-money .ensures) ∙ testing .if1 .left in
     (other, ap length (sym (other-is (a .kind) (length (a .out .now)) (a .given .now) (a .amount) other)) ∙ start .pre)
 
 check-requires : tie.Need-check-requires
@@ -43,17 +43,17 @@ same-length-2 c = search needs
 returns-2 : tie.Need-returns-2
 returns-2 c =
     let putting = c .before .before .before .before in
-    let asking = putting .before .before in
-    let a = asking .before .before .before .before .args in
-    let other = sym (asking .before .is-money .ensures) ∙ asking .if1 .left in
+    let testing = putting .before .before in
+    let a = testing .before .before .before .before .args in
+    let other = sym (testing .before .is-money .ensures) ∙ testing .if1 .left in
     let bytes = putting .put-bytes .ensures in
     let w = length (a .out .now) in (
       put-other (a .kind) w (a .given .now) (a .amount) other bytes (c .check .ensures),
       λ e. bytes ∙ sym (other-is (a .kind) w (a .given .now) (a .amount) other),
     )
 
-pub put-spec : {M : Type 1} → statement M
-put-spec =
+pub put-field-spec : {M : Type 1} → statement M
+put-field-spec =
     tie.close
     (tie.spec
     is-money-requires
