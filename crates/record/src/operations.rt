@@ -97,11 +97,11 @@ pub fn decode(rec: &[u8]) -> Decoded
     ensures { λ r. ⌜ r ≡ decodedRecord (now (rec .entry)) ⌝ }
 {
     match fast::decode_payment(rec) {
-        FastDecoded::Paid(payment) => Decoded::Payment(payment),
         FastDecoded::Other => match walk::check_in_order(rec) {
-            Answer::Accepted => header_or_trailer(rec),
             Answer::Refused(why, place) => Decoded::Refused(why, place),
+            Answer::Accepted => header_or_trailer(rec),
         },
+        FastDecoded::Paid(payment) => Decoded::Payment(payment),
     }
 }
 

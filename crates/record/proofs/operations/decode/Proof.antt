@@ -32,25 +32,25 @@ enum-known-why : tie.Need-enum-known-why
 enum-known-why c = search needs
 
 returns : tie.Need-returns
-returns c = seen-shown _ (sym (c .before .payment .given .1) ∙ c .before .before .before .decode-payment .ensures)
+returns c = rw (sym (c .before .before .before .check-in-order .ensures) ∙ c .before .why .given .1)
 
 returns-2 : tie.Need-returns-2
 returns-2 c = rw (sym (c .before .before .before .check-in-order .ensures) ∙ c .before .enum-told2 .given .1) (c .header-or-trailer .ensures)
 
 returns-3 : tie.Need-returns-3
-returns-3 c = rw (sym (c .before .before .before .check-in-order .ensures) ∙ c .before .why .given .1)
+returns-3 c = seen-shown _ (sym (c .before .payment .given .1) ∙ c .before .before .before .decode-payment .ensures)
 
 pub decode-spec : {M : Type 1} → statement M
 decode-spec =
     tie.close
     (tie.spec
     decode-payment-requires
-    enum-known-payment
     enum-told
     check-in-order-requires
+    enum-known-why
     enum-told-2
     header-or-trailer-requires
-    enum-known-why
+    enum-known-payment
     returns
     returns-2
     returns-3)
