@@ -2,3 +2,4 @@ pub mod Joins
 pub mod Makes
 pub mod Parts
 pub mod Trips
+pub mod Writes

@@ -16,9 +16,12 @@ use Rattle.layout.specs.declared.Field.{Field}
 use Rattle.layout.specs.declared.Given.{Given}
 use Rattle.layout.specs.declared.Kind.{Kind}
 use Rattle.layout.specs.declared.Kind.the-variants as kind
-use Rattle.layout.specs.Layouts.{recordLength, stretchOf, givenOf, givenAt, InRecord}
+use Rattle.layout.specs.declared.Record.{Record}
+use Rattle.layout.specs.declared.Record.the-variants.{Header, Payment, Trailer}
+use Rattle.layout.specs.Layouts.{recordLength, layoutOf, stretchOf, givenOf, givenAt, InRecord}
+use Rattle.layout.proofs.Tables.{every}
 use Rattle.layout.proofs.Kind.{the-type}
-use Rattle.fields.specs.Making.{writtenOf, isMoney, takes}
+use Rattle.fields.specs.Making.{writtenOf, isMoney, givenWidth}
 
 pub given-order : (k : Kind) (w : ℕ) → givenOf k w .from ≤ givenOf k w .to
 given-order (kind.Mark byte) w = omega arith
@@ -33,12 +36,12 @@ given-order kind.Barcode w = omega arith
 given-order kind.Capture w = omega arith
 given-order kind.Form w = omega arith
 
-pub takes-are : (f : Field) → 1 ≤ f .first → givenOf (f .kind) (widthOf (stretchOf f)) .to - givenOf (f .kind) (widthOf (stretchOf f)) .from ≡ takes f
-takes-are f h = omega (arith, given-order (f .kind) (widthOf (stretchOf f)))
+pub given-width-is : (f : Field) → 1 ≤ f .first → givenOf (f .kind) (widthOf (stretchOf f)) .to - givenOf (f .kind) (widthOf (stretchOf f)) .from ≡ givenWidth f
+given-width-is f h = omega (arith, given-order (f .kind) (widthOf (stretchOf f)))
 
-pub part-length : {f : Field} (rec : List ℕ) → InRecord f → length rec ≡ recordLength → givenAt f .last ≤ f .last → length (partAt (givenAt f) rec) ≡ takes f
+pub part-length : {f : Field} (rec : List ℕ) → InRecord f → length rec ≡ recordLength → givenAt f .last ≤ f .last → length (partAt (givenAt f) rec) ≡ givenWidth f
 part-length {f} rec l n h =
-    length-take-le (takes f) (drop (givenAt f .first - 1) rec) (omega (arith, length-drop (givenAt f .first - 1) rec, n, h, l .end))
+    length-take-le (givenWidth f) (drop (givenAt f .first - 1) rec) (omega (arith, length-drop (givenAt f .first - 1) rec, n, h, l .end))
 
 -- The widths: what is written for a field. A kind that is fixed fits its width.
 
@@ -73,6 +76,12 @@ written-length kind.Form w piece n t e = e ∙ omega arith
 abbrev pub fitsField : Field → Bool
 fitsField f = fitsKind (f .kind) (widthOf (stretchOf f))
 
+pub layout-fits : (r : Record) → (every fitsField (layoutOf r) ≡ true) × (length (layoutOf r) ≤ 28)
+unfolding layoutOf fitsKind
+layout-fits Header = (refl, omega arith)
+layout-fits Payment = (refl, omega arith)
+layout-fits Trailer = (refl, omega arith)
+
 -- what is given of a field lies in it
 pub given-in : (k : Kind) (w : ℕ) → fitsKind k w ≡ true → givenOf k w .to ≤ w
 unfolding fitsKind
@@ -93,8 +102,8 @@ module _ {f : Field} (l : InRecord f) {g : Given} (e : g ≡ givenOf (f .kind) (
   pub part-order : g .from ≤ g .to
   part-order = rw e (given-order (f .kind) (widthOf (stretchOf f)))
 
-  pub part-width : g .to - g .from ≡ takes f
-  part-width = rw e (takes-are f (l .start))
+  pub part-width : g .to - g .from ≡ givenWidth f
+  part-width = rw e (given-width-is f (l .start))
 
   pub part-ends : givenAt f .last ≤ f .last → (f .first - 1 + g .from ≤ f .first - 1 + g .to) × (f .first - 1 + g .to ≤ recordLength)
   part-ends h = let to : f .first - 1 + g .to ≤ f .last = rw e h in (omega (arith, part-order), omega (arith, l .end))
@@ -102,7 +111,7 @@ module _ {f : Field} (l : InRecord f) {g : Given} (e : g ≡ givenOf (f .kind) (
   pub part-is : (rec : List ℕ) → take (f .first - 1 + g .to - (f .first - 1 + g .from)) (drop (f .first - 1 + g .from) rec) ≡ partAt (givenAt f) rec
   part-is rec =
       let a : f .first - 1 + g .from ≡ givenAt f .first - 1 = rw e (omega (arith, l .start)) in
-      let b : f .first - 1 + g .to - (f .first - 1 + g .from) ≡ takes f = omega (arith, part-order, part-width) in
+      let b : f .first - 1 + g .to - (f .first - 1 + g .from) ≡ givenWidth f = omega (arith, part-order, part-width) in
       rw (b, a)
 
 -- Kinds by their variants' positions, as a match of several at once tells them.

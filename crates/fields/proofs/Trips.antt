@@ -27,10 +27,11 @@ use Rattle.layout.proofs.Layouts.{next, covers-end, fields-cover}
 use Rattle.layout.proofs.Tables.{every}
 use Rattle.kinds.specs.Kinds.{version, serviceOf, isSpelling, isService, same, kindAnswer}
 use Rattle.record.specs.Records.{fieldBytes, fieldAnswer}
-use Rattle.fields.specs.Making.{writtenOf, isMoney, putAnswer, takes, pieceOf, pieceAnswer, amountsAfter, madeOf, makingAnswer, amountsIn, FieldsMakeTheRecord, MadeIsAccepted}
+use Rattle.fields.specs.Making.{writtenOf, isMoney, writtenAnswer, givenWidth, fieldMade, fieldMadeAnswer, amountsAfter, madeOf, makingAnswer}
+use Rattle.fields.specs.Promises.{amountsIn, FieldsMakeTheRecord, MadeIsAccepted}
 use Rattle.kinds.proofs.KindLaws.{same-equal}
-use Rattle.fields.proofs.Makes.{layout-fits, other-is}
-use Rattle.fields.proofs.Parts.{given-order, takes-are, fitsKind, fitsField, written-length, given-in}
+use Rattle.fields.proofs.Writes.{other-is}
+use Rattle.fields.proofs.Parts.{layout-fits, given-order, given-width-is, fitsKind, fitsField, written-length, given-in, part-length}
 
 blanks : (bs : List ℕ) → all (isOf Blank) bs ≡ true → replicate (length bs) 32 ≡ bs
 unfolding isOf
@@ -61,7 +62,7 @@ written-back kind.Barcode w bs n t a = take-all (w - 0) bs (omega arith)
 written-back kind.Capture w bs n t a = take-all (w - 0) bs (omega arith)
 written-back kind.Form w bs n t a = take-all (w - 0) bs (omega arith)
 
--- a number that was read has room where it stood
+-- a number that was read fits where it was read
 number-fits-back : (k : Kind) (w : ℕ) (bs : List ℕ) → length bs ≡ w → cond (isMoney k) (widthAnswer w (numberOf bs)) Accepted ≡ Accepted
 number-fits-back k w bs n =
     let h : numberOf bs < 10 ^ w = rw (sym n) (number-fits bs) in
@@ -90,13 +91,13 @@ given-part f rec h t =
     let o : from ≤ to = given-order (f .kind) w in
     let i : to ≤ w = given-in (f .kind) w t in
     let a : f .first - 1 + from ≡ f .first + from - 1 = omega arith in
-    part-of-part rec (f .first - 1) w from (to - from) (omega arith) ∙ rw (a, takes-are f h)
+    part-of-part rec (f .first - 1) w from (to - from) (omega arith) ∙ rw (a, given-width-is f h)
 
 given-length : (f : Field) (rec : List ℕ) → 1 ≤ f .first → fitsField f ≡ true → f .first ≤ f .last → f .last ≤ recordLength → length rec ≡ recordLength
-    → length (partAt (givenAt f) rec) ≡ takes f
+    → length (partAt (givenAt f) rec) ≡ givenWidth f
 given-length f rec h t o e n =
     let i : givenOf (f .kind) (widthOf (stretchOf f)) .to ≤ widthOf (stretchOf f) = given-in (f .kind) (widthOf (stretchOf f)) t in
-    length-take-le (takes f) (drop (givenAt f .first - 1) rec) (omega (arith, length-drop (givenAt f .first - 1) rec, given-order (f .kind) (widthOf (stretchOf f))))
+    part-length {f = f} rec (record { start = h; order = o; end = e }) n (omega arith)
 
 -- the amount in a field's turn, and those after it
 after-is : (t : Bool) (x : ℕ) (rest : List ℕ) → cond t (drop 1 (cond t (x ∷ rest) rest)) (cond t (x ∷ rest) rest) ≡ rest
@@ -104,8 +105,8 @@ after-is true x rest = refl
 after-is false x rest = refl
 
 put-back : (k : Kind) (w : ℕ) (piece rest bs : List ℕ) → length bs ≡ w → kindAnswer k bs ≡ Accepted → writtenOf k w piece (numberOf bs) ≡ bs
-    → (putAnswer k w piece (getD (cond (isMoney k) (numberOf bs ∷ rest) rest) 0 0) ≡ Accepted) × (writtenOf k w piece (getD (cond (isMoney k) (numberOf bs ∷ rest) rest) 0 0) ≡ bs)
-unfolding putAnswer
+    → (writtenAnswer k w piece (getD (cond (isMoney k) (numberOf bs ∷ rest) rest) 0 0) ≡ Accepted) × (writtenOf k w piece (getD (cond (isMoney k) (numberOf bs ∷ rest) rest) 0 0) ≡ bs)
+unfolding writtenAnswer
 put-back k w piece rest bs n a e = go (isMoney k) refl
   where
     go : (t : Bool) → isMoney k ≡ t
@@ -145,9 +146,9 @@ made-from (f ∷ fs) place rec h n t q a =
     let wb : writtenOf (f .kind) w g (numberOf (fieldBytes f rec)) ≡ fieldBytes f rec =
     ap (λ (l : List ℕ). writtenOf (f .kind) w l (numberOf (fieldBytes f rec))) (sym gp) ∙ written-back (f .kind) w (fieldBytes f rec) lb (fit .0) k in
     let p = put-back (f .kind) w g amounts (fieldBytes f rec) lb k wb in
-    let lg : length g ≡ takes f = given-length f rec one (fit .0) (omega (arith, x .here, x .wide)) end n in
-    let tg : take (takes f) (g ++ rest) ≡ g = take-at g rest (takes f) lg in
-    let dg : drop (takes f) (g ++ rest) ≡ rest = drop-at g rest (takes f) lg in
+    let lg : length g ≡ givenWidth f = given-length f rec one (fit .0) (omega (arith, x .here, x .wide)) end n in
+    let tg : take (givenWidth f) (g ++ rest) ≡ g = take-at g rest (givenWidth f) lg in
+    let dg : drop (givenWidth f) (g ++ rest) ≡ rest = drop-at g rest (givenWidth f) lg in
     let am = after-is (isMoney (f .kind)) (numberOf (fieldBytes f rec)) amounts in
     let ih = made-from fs (f .last + 1) rec (omega arith) n (x .rest) (fit .1) (both .1) in
     let e = seam place (f .last) h (x .wide) in (
@@ -184,14 +185,14 @@ written-given kind.Barcode w piece n e = take-all (w - 0) piece (omega arith)
 written-given kind.Capture w piece n e = take-all (w - 0) piece (omega arith)
 written-given kind.Form w piece n e = take-all (w - 0) piece (omega arith)
 
--- Trip two, from a field on: what stands before it, what it makes, and what follows.
+-- Trip two, from a field on: the bytes before it, what it makes, and what follows.
 module _ (pre piece rest : List ℕ) (a w : ℕ) (lp : length pre ≡ a) (lw : length piece ≡ w) where
   middle : take w (drop a (pre ++ (piece ++ rest))) ≡ piece
   middle = rw (drop-at pre (piece ++ rest) a lp) (take-at piece rest w lw)
 
-asked-kind : (k : Kind) (w : ℕ) (piece : List ℕ) (n : ℕ) → putAnswer k w piece n ≡ Accepted → kindAnswer k (writtenOf k w piece n) ≡ Accepted
-unfolding putAnswer
-asked-kind k w piece n e = then-accepts (cond (isMoney k) (widthAnswer w n) Accepted) (kindAnswer k (writtenOf k w piece n)) .0 e .1
+checked-kind : (k : Kind) (w : ℕ) (piece : List ℕ) (n : ℕ) → writtenAnswer k w piece n ≡ Accepted → kindAnswer k (writtenOf k w piece n) ≡ Accepted
+unfolding writtenAnswer
+checked-kind k w piece n e = then-accepts (cond (isMoney k) (widthAnswer w n) Accepted) (kindAnswer k (writtenOf k w piece n)) .0 e .1
 
 made-accepts : (fs : List Field) (pre given amounts : List ℕ) → covers (length pre + 1) fs ≡ true → every fitsField fs ≡ true → widthsOf (map givenAt fs) ≡ length given
     → makingAnswer fs given amounts ≡ Accepted
@@ -205,30 +206,30 @@ made-accepts [] pre given amounts t q n a =
 made-accepts (f ∷ fs) pre given amounts t q n a =
     let x = next (length pre + 1) f fs t in
     let fit = and-eq-true-iff (fitsField f) (every fitsField fs) .0 q in
-    let both = then-accepts (pieceAnswer f given amounts) (makingAnswer fs (drop (takes f) given) (amountsAfter f amounts)) .0 a in
+    let both = then-accepts (fieldMadeAnswer f given amounts) (makingAnswer fs (drop (givenWidth f) given) (amountsAfter f amounts)) .0 a in
     let w = widthOf (stretchOf f) in
     let one : 1 ≤ f .first = omega (arith, x .here) in
     let front : length pre ≡ f .first - 1 = omega (arith, x .here) in
-    let lt : length (take (takes f) given) ≡ takes f = length-take-le (takes f) given (omega arith) in
-    let lg = lt ∙ sym (takes-are f one) in
-    let piece = pieceOf f given amounts in
-    let lw : length piece ≡ w = written-length (f .kind) w (take (takes f) given) (getD amounts 0 0) (fit .0) lg in
-    let rest = madeOf fs (drop (takes f) given) (amountsAfter f amounts) in
-    let k = asked-kind (f .kind) w (take (takes f) given) (getD amounts 0 0) (moved-accepts (behind (f .first - 1)) (putAnswer (f .kind) w (take (takes f) given) (getD amounts 0 0)) .0 (both .0)) in
+    let lt : length (take (givenWidth f) given) ≡ givenWidth f = length-take-le (givenWidth f) given (omega arith) in
+    let lg = lt ∙ sym (given-width-is f one) in
+    let piece = fieldMade f given amounts in
+    let lw : length piece ≡ w = written-length (f .kind) w (take (givenWidth f) given) (getD amounts 0 0) (fit .0) lg in
+    let rest = madeOf fs (drop (givenWidth f) given) (amountsAfter f amounts) in
+    let k = checked-kind (f .kind) w (take (givenWidth f) given) (getD amounts 0 0) (moved-accepts (behind (f .first - 1)) (writtenAnswer (f .kind) w (take (givenWidth f) given) (getD amounts 0 0)) .0 (both .0)) in
     let m : fieldBytes f (pre ++ (piece ++ rest)) ≡ piece = middle pre piece rest (f .first - 1) w front lw in
     let lp : length (pre ++ piece) + 1 ≡ f .last + 1 = ap (λ (v : ℕ). v + 1) (length-append pre piece) ∙ joint (length pre) (length piece) (f .first) (f .last) (x .here) (x .wide) lw in
     let cv : covers (length (pre ++ piece) + 1) fs ≡ true = rw lp (x .rest) in
-    let ln : widthsOf (map givenAt fs) ≡ length (drop (takes f) given) = rw (length-drop (takes f) given) (omega arith) in
-    let ih = made-accepts fs (pre ++ piece) (drop (takes f) given) (amountsAfter f amounts) cv (fit .1) ln (both .1) in
+    let ln : widthsOf (map givenAt fs) ≡ length (drop (givenWidth f) given) = rw (length-drop (givenWidth f) given) (omega arith) in
+    let ih = made-accepts fs (pre ++ piece) (drop (givenWidth f) given) (amountsAfter f amounts) cv (fit .1) ln (both .1) in
     let al : (pre ++ piece) ++ rest ≡ pre ++ (piece ++ rest) = append-assoc pre piece rest in
     let i0 = rw al at (ih .0) in
     let i1 = rw al at (ih .1) in
     let i2 = rw al at (ih .2) in
-    let g : partAt (givenAt f) (pre ++ (piece ++ rest)) ≡ take (takes f) given =
-    sym (given-part f (pre ++ (piece ++ rest)) one (fit .0)) ∙ rw m (written-given (f .kind) w (take (takes f) given) (getD amounts 0 0) lg) in (
+    let g : partAt (givenAt f) (pre ++ (piece ++ rest)) ≡ take (givenWidth f) given =
+    sym (given-part f (pre ++ (piece ++ rest)) one (fit .0)) ∙ rw m (written-given (f .kind) w (take (givenWidth f) given) (getD amounts 0 0) lg) in (
       i0,
       then-accepts _ _ .1 (ap (movedBy (behind (f .first - 1))) (ap (kindAnswer (f .kind)) m ∙ k), i1),
-      rw (g, i2) (take-append-drop (takes f) given),
+      rw (g, i2) (take-append-drop (givenWidth f) given),
     )
 
 pub made-is-accepted : MadeIsAccepted

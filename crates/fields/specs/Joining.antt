@@ -1,4 +1,5 @@
--- The field bytes of an accepted A or G, joined in record order: what the file writer is given. Assumes nothing.
+-- The field bytes of an accepted A or G, joined in record order, which the writer takes (SPEC.md, "Field bytes").
+-- Assumes nothing.
 use Prim.Native.Nat.{ℕ}
 use mathlib.Core.Bool.{Bool, true, false}
 use mathlib.Core.List.{List, []}
@@ -15,21 +16,24 @@ use Rattle.layout.specs.declared.Record.the-variants.{Header, Payment, Trailer}
 use Rattle.layout.specs.Layouts.{recordLength, namedBy, givenLength, joinedOf}
 use Rattle.record.specs.Records.{layoutAnswer}
 
--- A and G are given to the writer; the trailer is its own
+-- A and G have field bytes; a Z is the writer's own
 abbrev pub isGiven : Record → Bool
 isGiven Header = true
 isGiven Payment = true
 isGiven Trailer = false
 
--- 9 for a record that has no field bytes, 1 for a room of another length, then the fields
+-- 9 for a record that has no field bytes, 1 for a buffer of another length, then the fields
 abbrev pub namedJoin : MaybeRecord → List ℕ → ℕ → Answer
-namedJoin (Is r) rec room =
-    require (isGiven r) NotExpected 1 then require (eqb room (givenLength r)) WrongLength 0 then layoutAnswer r rec
-namedJoin Other rec room = Refused NotExpected 1
+namedJoin (Is r) rec size =
+    require (isGiven r) NotExpected 1 then require (eqb size (givenLength r)) WrongLength 0 then layoutAnswer r rec
+namedJoin Other rec size = Refused NotExpected 1
 
+-- 1 for the record's length, then as above
 unfoldable pub joinAnswer : List ℕ → ℕ → Answer
-joinAnswer rec room = require (eqb (length rec) recordLength) WrongLength 0 then namedJoin (namedBy (getD rec 0 0)) rec room
+joinAnswer rec size =
+    require (eqb (length rec) recordLength) WrongLength 0 then namedJoin (namedBy (getD rec 0 0)) rec size
 
+-- the field bytes of the record that a first byte names
 abbrev pub joinedIn : MaybeRecord → List ℕ → List ℕ
 joinedIn (Is r) rec = joinedOf r rec
 joinedIn Other rec = []

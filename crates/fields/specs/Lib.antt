@@ -1,2 +1,3 @@
 pub mod Joining
 pub mod Making
+pub mod Promises

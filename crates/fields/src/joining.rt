@@ -1,21 +1,22 @@
-// The field bytes of an accepted A or G, joined in record order.
+// The field bytes of an accepted A or G, joined in record order (SPEC.md, "Field bytes").
 ghost use Prim.Native.Nat.{_≤_};
 ghost use mathlib.Core.Path.{_≡_};
 ghost use lib.ListN.{length, getD};
 ghost use Rattle.answer.specs.Orders.{ifAccepted};
 ghost use Rattle.decimal.specs.Places.{partAt};
 ghost use Rattle.layout.specs.Layouts.{recordLength, namedBy, givenAt, givenLength, joinedOf, InRecord};
-ghost use Rattle.fields.specs.Making.{takes};
+ghost use Rattle.fields.specs.Making.{givenWidth};
 ghost use Rattle.fields.specs.Joining.{isGiven, namedJoin, joinAnswer, joinedIn};
 ghost use Rattle.layout.specs.declared.MaybeRecord.the-variants as named;
-use crate::pieces::copy_all;
-use crate::pieces::takes;
+use crate::given::copy_all;
+use crate::given::given_width;
 use answer::Answer;
 use answer::Reason;
 use layout::Field;
 use layout::MaybeRecord;
 use layout::Record;
 
+// A and G have field bytes; a Z is the writer's own.
 fn is_given(which: Record) -> bool
     ensures { λ r. ⌜ r ≡ isGiven which ⌝ }
 {
@@ -26,10 +27,11 @@ fn is_given(which: Record) -> bool
     }
 }
 
+// The given part of one field.
 fn join_field(f: Field, rec: &[u8], out: &mut [u8])
     requires { ⌜ length (now rec) ≡ recordLength ⌝ }
     requires { ⌜ (InRecord f) × (givenAt f .last ≤ f .last) ⌝ }
-    requires { ⌜ length (now out) ≡ takes f ⌝ }
+    requires { ⌜ length (now out) ≡ givenWidth f ⌝ }
     ensures { λ _. ⌜ now (out .exit) ≡ partAt (givenAt f) (now (rec .entry)) ⌝ }
 {
     let kind = f.kind;
@@ -38,6 +40,8 @@ fn join_field(f: Field, rec: &[u8], out: &mut [u8])
     copy_all(&rec[before + part.from..before + part.to], out);
 }
 
+// The given parts of all fields of a record, one after the other. The table is copied before the loop: a constant
+// array that is indexed in a loop is built anew at each turn.
 fn join_rows(which: Record, rec: &[u8], out: &mut [u8])
     requires { ⌜ length (now rec) ≡ recordLength ⌝ }
     requires { ⌜ length (now out) ≡ givenLength which ⌝ }
@@ -50,13 +54,15 @@ fn join_rows(which: Record, rec: &[u8], out: &mut [u8])
     let mut at = 0;
     while i < to {
         let f = table[i];
-        let next = at + takes(f);
+        let next = at + given_width(f);
         join_field(f, rec, &mut out[at..next]);
         at = next;
         i += 1;
     }
 }
 
+// The record that its first byte names: 9 for a Z, 1 unless the buffer has the length of its field bytes, then its
+// fields. A refusal leaves the buffer unchanged.
 fn join_named(which: Record, rec: &[u8], out: &mut [u8]) -> Answer
     requires { ⌜ length (now rec) ≡ recordLength ⌝ }
     requires { ⌜ namedBy (getD (now rec) 0 0) ≡ named.Is which ⌝ }
@@ -79,10 +85,13 @@ fn join_named(which: Record, rec: &[u8], out: &mut [u8]) -> Answer
     }
 }
 
-// A refusal leaves the lent bytes as they were.
+// Writes the field bytes of an accepted A or G, 78 or 121, into the caller's buffer, which must be exactly as long. A
+// refusal leaves the buffer unchanged: 1 for the record's length, 9 for a Z or a byte that names no record, 1 for the
+// buffer's length, then the record's own.
 pub fn join(rec: &[u8], out: &mut [u8]) -> Answer
     ensures answer { λ r. ⌜ r ≡ joinAnswer (now (rec .entry)) (length (now (out .entry))) ⌝ }
-    ensures bytes { λ r. ⌜ now (out .exit) ≡ ifAccepted r (joinedIn (namedBy (getD (now (rec .entry)) 0 0)) (now (rec .entry))) (now (out .entry)) ⌝ }
+    ensures bytes { λ r. ⌜ now (out .exit) ≡ ifAccepted r
+        (joinedIn (namedBy (getD (now (rec .entry)) 0 0)) (now (rec .entry))) (now (out .entry)) ⌝ }
 {
     if rec.len() != layout::LENGTH {
         return Answer::Refused(Reason::WrongLength, 0);

@@ -1,7 +1,8 @@
-// The field bytes of a record: joined from it, and the record made from them, by the same table.
+// The field bytes of a record (SPEC.md, "Field bytes"): joined from an accepted record, and a record made from them and
+// its amounts, both along layout's table.
+mod given;
 mod joining;
 mod making;
-mod pieces;
 
 pub use joining::join;
 pub use making::make;

@@ -1,4 +1,4 @@
-// A record made from its field bytes and amounts, along the same table.
+// A record made from its field bytes and amounts, along layout's table (SPEC.md, "Field bytes").
 ghost use Prim.Native.Nat.{_+_, _≤_};
 ghost use mathlib.Core.Bool.{false, cond};
 ghost use mathlib.Core.List.{[], _∷_};
@@ -8,14 +8,15 @@ ghost use Rattle.answer.specs.declared.Answer.the-variants as answers;
 ghost use Rattle.answer.specs.Orders.{ifAccepted};
 ghost use Rattle.layout.specs.Layouts.{recordLength, layoutOf, givenLength};
 ghost use Rattle.kinds.specs.Kinds.{serviceOf};
-ghost use Rattle.fields.specs.Making.{writtenOf, isMoney, putAnswer, madeOf, makingAnswer, makeAnswer};
-use crate::pieces::copy_all;
-use crate::pieces::takes;
+ghost use Rattle.fields.specs.Making.{writtenOf, isMoney, writtenAnswer, madeOf, makingAnswer, makeAnswer};
+use crate::given::copy_all;
+use crate::given::given_width;
 use answer::Answer;
 use answer::Reason;
 use layout::Kind;
 use layout::Record;
 
+// Whether a field is written from an amount.
 fn is_money(kind: Kind) -> bool
     ensures { λ r. ⌜ r ≡ isMoney kind ⌝ }
 {
@@ -33,18 +34,12 @@ fn put_mark(byte: u8, out: &mut [u8])
     copy_all(&mark, out);
 }
 
-// 0 where none is given.
-fn second_byte(given: &[u8]) -> u8
-    ensures { λ r. ⌜ r ≡ getD (now (given .entry)) 0 0 ⌝ }
-{
-    if 0 < given.len() { given[0] } else { 0 }
-}
-
+// The service field with the given second byte, 0 where none is given.
 fn put_service(given: &[u8], out: &mut [u8])
     requires { ⌜ length (now out) ≡ 17 ⌝ }
     ensures { λ _. ⌜ now (out .exit) ≡ serviceOf (getD (now (given .entry)) 0 0) ⌝ }
 {
-    let spelled = kinds::service(second_byte(given));
+    let spelled = kinds::service(kinds::byte_at(given, 0));
     copy_all(&spelled, out);
 }
 
@@ -58,6 +53,7 @@ fn put_blanks(out: &mut [u8])
     }
 }
 
+// Writes a field that is no amount: what is fixed, else the bytes given for it.
 fn put_bytes(kind: Kind, given: &[u8], out: &mut [u8])
     requires { ⌜ isMoney kind ≡ false ⌝ }
     requires { ⌜ length (writtenOf kind (length (now out)) (now given) 0) ≡ length (now out) ⌝ }
@@ -75,11 +71,13 @@ fn put_bytes(kind: Kind, given: &[u8], out: &mut [u8])
     }
 }
 
-// A field's bytes are written first and asked then, by the reader's own question.
-fn put(kind: Kind, given: &[u8], amount: u64, out: &mut [u8]) -> Answer
+// Writes a field and then checks what was written, by the reader's own check of the kind: an amount can only be too
+// wide, 21. After a refusal the field's bytes are unspecified.
+fn put_field(kind: Kind, given: &[u8], amount: u64, out: &mut [u8]) -> Answer
     requires { ⌜ length (writtenOf kind (length (now out)) (now given) amount) ≡ length (now out) ⌝ }
-    ensures answer { λ r. ⌜ r ≡ putAnswer kind (length (now (out .entry))) (now (given .entry)) amount ⌝ }
-    ensures bytes { λ r. ⌜ (r ≡ answers.Accepted → now (out .exit) ≡ writtenOf kind (length (now (out .entry))) (now (given .entry)) amount) ⌝ }
+    ensures answer { λ r. ⌜ r ≡ writtenAnswer kind (length (now (out .entry))) (now (given .entry)) amount ⌝ }
+    ensures bytes { λ r. ⌜ (r ≡ answers.Accepted
+        → now (out .exit) ≡ writtenOf kind (length (now (out .entry))) (now (given .entry)) amount) ⌝ }
 {
     if is_money(kind) {
         return decimal::put_number(amount, out.len(), out, 0);
@@ -101,6 +99,7 @@ fn amount_at(used: usize, first: u64, second: u64) -> u64
     0
 }
 
+// How many amounts are used after a field of this kind.
 fn used_after(kind: Kind, used: usize) -> usize
     requires { ⌜ used ≤ 28 ⌝ }
     ensures { λ r. ⌜ (r ≡ cond (isMoney kind) (used + 1) used) ⌝ }
@@ -108,12 +107,14 @@ fn used_after(kind: Kind, used: usize) -> usize
     if is_money(kind) { used + 1 } else { used }
 }
 
-// The record itself, in bytes of our own that are spoilt where a field is refused.
+// Makes the record field by field, up to the first refusal, with its place in the record; then the bytes made are
+// unspecified.
 fn make_rows(which: Record, given: &[u8], first: u64, second: u64, made: &mut [u8]) -> Answer
     requires { ⌜ length (now made) ≡ recordLength ⌝ }
     requires { ⌜ length (now given) ≡ givenLength which ⌝ }
     ensures answer { λ r. ⌜ r ≡ makingAnswer (layoutOf which) (now (given .entry)) (first ∷ second ∷ []) ⌝ }
-    ensures bytes { λ r. ⌜ (r ≡ answers.Accepted → now (made .exit) ≡ madeOf (layoutOf which) (now (given .entry)) (first ∷ second ∷ [])) ⌝ }
+    ensures bytes { λ r. ⌜ (r ≡ answers.Accepted
+        → now (made .exit) ≡ madeOf (layoutOf which) (now (given .entry)) (first ∷ second ∷ [])) ⌝ }
 {
     let table = layout::table();
     let rows = layout::rows_of(which);
@@ -126,8 +127,8 @@ fn make_rows(which: Record, given: &[u8], first: u64, second: u64, made: &mut [u
         let f = table[i];
         let kind = f.kind;
         let end = f.last;
-        let next = at + takes(f);
-        let a = put(
+        let next = at + given_width(f);
+        let a = put_field(
             kind,
             &given[at..next],
             amount_at(used, first, second),
@@ -148,10 +149,15 @@ fn make_rows(which: Record, given: &[u8], first: u64, second: u64, made: &mut [u
     Answer::Accepted
 }
 
-// A refusal leaves the lent bytes as they were.
+// Writes the record with these field bytes and amounts into the caller's buffer: a header takes no amount, a payment
+// received and tariff, a trailer its total; amounts that the record has no field for are ignored. A refusal leaves the
+// buffer unchanged: 1 unless it has 150 bytes and the field bytes are as many as the record takes, then the fields in
+// their order, with their places in the record.
 pub fn make(which: Record, given: &[u8], first: u64, second: u64, out: &mut [u8]) -> Answer
-    ensures answer { λ r. ⌜ r ≡ makeAnswer which (now (given .entry)) (first ∷ second ∷ []) (length (now (out .entry))) ⌝ }
-    ensures bytes { λ r. ⌜ now (out .exit) ≡ ifAccepted r (madeOf (layoutOf which) (now (given .entry)) (first ∷ second ∷ [])) (now (out .entry)) ⌝ }
+    ensures answer { λ r. ⌜ r ≡ makeAnswer which (now (given .entry)) (first ∷ second ∷ [])
+        (length (now (out .entry))) ⌝ }
+    ensures bytes { λ r. ⌜ now (out .exit) ≡ ifAccepted r
+        (madeOf (layoutOf which) (now (given .entry)) (first ∷ second ∷ [])) (now (out .entry)) ⌝ }
 {
     if out.len() != layout::LENGTH {
         return Answer::Refused(Reason::WrongLength, 0);

@@ -7,8 +7,8 @@ use Rattle.barcode.specs.RoundTrips.{DecodedAnswers, FieldsAreItsPlaces, BuiltI
 use Rattle.line.specs.RoundTrips.{LineIsBoxesAndCode, FieldsGiveALine, CodeToLineAndBack, LineToCodeAndBack, LineIsItsFields}
 use Rattle.layout.specs.declared.Field.{Field}
 use Rattle.layout.specs.Layouts.{FieldsCover, RecordIsItsFields, MarkNames, GivenLengths}
-use Rattle.record.specs.Values.{DecodeAnswers, RightFieldsAreAccepted, FieldsAreTheirPlaces}
-use Rattle.fields.specs.Making.{FieldsMakeTheRecord, MadeIsAccepted}
+use Rattle.record.specs.Promises.{DecodeAnswers, RightFieldsAreAccepted, FieldsAreTheirPlaces}
+use Rattle.fields.specs.Promises.{FieldsMakeTheRecord, MadeIsAccepted}
 use Rattle.file.specs.Files.{OneRightTrailer}
 use Rattle.board.specs.Lanes.{PastThirtyTwoBits}
 use Rattle.writer.specs.Writers.{WrittenAmountsAreRead, FieldsWriteTheHeader, FieldsWriteThePayment, FieldsWriteTheTrailer, WrittenIsAccepted, TrailerShowsTheFigures}

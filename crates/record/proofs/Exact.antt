@@ -1,4 +1,4 @@
--- The quick look is exact: it sees an accepted G, and nothing else. Assumes nothing.
+-- The fast path is exact: it recognizes an accepted G, and nothing else. Assumes nothing.
 use Prim.Native.Nat.{ℕ, _+_, _-_, _≤_}
 use mathlib.Core.Bool.{true, false, _&&_, and-eq-true-iff}
 use mathlib.Core.List.{List}
@@ -8,10 +8,9 @@ use native.Mathlib.Omega.{arith}
 use lib.ListN.{length, getD, take, drop, length-drop}
 use lib.Seq.{length-take-le}
 use Rattle.answer.specs.declared.Reason.{Reason}
-use Rattle.answer.specs.declared.Reason.the-variants.{NoDate}
 use Rattle.answer.specs.declared.Answer.{Answer}
 use Rattle.answer.specs.declared.Answer.the-variants.{Accepted, Refused}
-use Rattle.answer.specs.Orders.{_then_, behind}
+use Rattle.answer.specs.Orders.{behind}
 use Rattle.decimal.specs.declared.Class.the-variants.{Digit, Blank, Text}
 use Rattle.decimal.specs.Bytes.{isOf, all}
 use Rattle.decimal.specs.LowHalves.{lowNumberOf}
@@ -38,17 +37,19 @@ use Rattle.record.specs.declared.Decoded.the-variants as decoded
 use Rattle.record.specs.declared.Payment.{Payment as Shows}
 use Rattle.record.specs.declared.fast.FastDecoded.the-variants.{Paid, Other as Unpaid}
 use Rattle.record.specs.declared.PaymentDue.the-variants.{To, Nothing}
-use Rattle.record.specs.FastPath.{spanOf, isPlain, isCoded, isDated, isPayment, looksLikePayment, fastDecodedOf}
-use Rattle.record.specs.Records.{fieldBytes, recordAnswer}
+use Rattle.record.specs.FastPath.{spanOf, isPlain, isCoded, isDated, looksLikePayment, fastDecodedOf}
+use Rattle.record.specs.Records.{fieldBytes, recordAnswer, isPayment}
 use Rattle.record.specs.Values.{recordShown, shownUnlessRefused, decodedRecord, paymentDueOf}
 use Rattle.record.proofs.Shown.{accepted-is, right-fields-are-accepted}
-use Rattle.record.proofs.FastPath.{places-length, inner, named-payment, text, money, digits, blank, capture, form, code, date, captured, mark, joined, one-byte}
+use Rattle.record.proofs.FieldBytes.{places-length}
+use Rattle.record.proofs.KindRules.{text, money, digits, blank, capture, form, code, date, captured, mark}
+use Rattle.record.proofs.FastPath.{inner, named-payment, joined, one-byte}
 
 infixr 20 _and_
 _and_ : {A B : Type 0} → A → B → A × B
 a and b = (a, b)
 
--- What the look asks of a G, and what its fields are asked.
+-- The fast path's checks of a G, and those of its fields.
 module _ (rec : List ℕ) where
   abbrev Plain : Type 0
   Plain = (all (isOf Text) (take 20 (drop 1 rec)) ≡ true) × (all (isOf Text) (take 32 (drop 108 rec)) ≡ true) × (all (isOf Digit) (take 27 (drop 81 rec)) ≡ true) × (all (isOf Blank) (take 9 (drop 141 rec)) ≡ true)

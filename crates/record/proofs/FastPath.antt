@@ -1,38 +1,24 @@
--- Laws of what the quick look asks, row by row and part by part. Assumes nothing.
+-- Laws of the fast path's checks, row by row and part by part. Assumes nothing.
 use Prim.Native.Nat.{ℕ, _+_, _-_, _≤_, _<_}
-use mathlib.Core.Bool.{Bool, true, false, cond, _&&_, and-true, _||_, and-eq-true-iff}
+use mathlib.Core.Bool.{Bool, true, false, cond, _&&_, and-true, and-eq-true-iff}
 use mathlib.Core.List.{List, [], _∷_, _++_}
-use mathlib.Core.Logic.{_↔_}
 use mathlib.Core.Path.{_≡_, refl, sym, ap, _∙_}
 use native.Mathlib.Numerals.{add-one}
 use native.Mathlib.Omega.{arith}
-use borrow.Author.Tests.{eqb-true, eq-eqb, leb-true, le-leb}
+use borrow.Author.Tests.{eqb-true}
 use lib.Bits.{bitOr}
-use lib.Dec.{eqb, leb}
+use lib.Dec.{eqb}
 use lib.ListN.{length, getD, take, drop, length-drop, drop-of-length-le}
-use lib.Seq.{take-all, drop-cons, length-take-le, drop-drop, take-take, take-add}
-use Rattle.answer.specs.declared.Reason.the-variants.{NoDigit, NoText, FixedDiffers, NoDate, UnknownCode}
-use Rattle.answer.specs.declared.Answer.the-variants.{Accepted}
-use Rattle.answer.specs.Orders.{require, _then_}
-use Rattle.answer.proofs.Orders.{asked-accepts, then-accepts}
+use lib.Seq.{take-all, drop-cons, drop-drop, take-take, take-add}
 use Rattle.decimal.specs.declared.Class.the-variants.{Digit, Blank, Text}
-use Rattle.decimal.specs.Bytes.{isOf, all, within, eachIs}
-use Rattle.decimal.proofs.Bytes.{flag-on, row-fails, row-passes, last-row, two-flags, all-joins, all-of-part, each-accepts}
-use Rattle.decimal.specs.Places.{places}
-use Rattle.decimal.proofs.Finite.{never}
-use Rattle.calendar.specs.declared.Date.{Date}
-use Rattle.calendar.specs.declared.MaybeDate.{MaybeDate}
-use Rattle.calendar.specs.declared.MaybeDate.the-variants as days
-use Rattle.calendar.specs.Dates.{dateOf, isFound}
-use Rattle.barcode.specs.Codes.{barcodeAnswer}
-use Rattle.layout.specs.declared.Kind.the-variants as kind
-use Rattle.layout.specs.Layouts.{recordLength, rowAt, accountRow, receivedRow, numberRow, branchRow, captureRow, authenticationRow, formRow, paymentBlankRow, namedBy}
+use Rattle.decimal.specs.Bytes.{isOf, all}
+use Rattle.decimal.proofs.Bytes.{flag-on, row-fails, row-passes, last-row, two-flags, all-joins, all-of-part}
+use Rattle.layout.specs.Layouts.{rowAt, accountRow, receivedRow, numberRow, branchRow, captureRow, authenticationRow, formRow, paymentBlankRow, namedBy}
 use Rattle.layout.specs.declared.MaybeRecord.{MaybeRecord}
 use Rattle.layout.specs.declared.MaybeRecord.the-variants.{Is, Other}
 use Rattle.layout.specs.declared.Record.the-variants.{Header, Payment, Trailer}
-use Rattle.kinds.specs.Kinds.{isCapture, isForm, same, kindAnswer}
-use Rattle.kinds.proofs.KindLaws.{date-accepted}
-use Rattle.record.specs.FastPath.{spanOf, rowsHold, isPlain, isCoded}
+use Rattle.kinds.specs.Kinds.{isCapture, isForm}
+use Rattle.record.specs.FastPath.{columnHolds, SixteenEach, rowsHold, partsHold, spanOf, isPlain, isCoded}
 use Rattle.record.specs.Records.{fieldBytes}
 
 -- The flags of six bytes are one flag.
@@ -53,12 +39,12 @@ weave true true u s = refl
 abbrev pub from : ℕ → List ℕ → List ℕ → List ℕ → List ℕ → List ℕ → List ℕ → Bool
 from i a b c d e f = rowsHold (drop i a) (drop i b) (drop i c) (drop i d) (drop i e) (drop i f)
 
-module _ (a b c d e f : List ℕ) (six : (length a ≡ 16) × (length b ≡ 16) × (length c ≡ 16) × (length d ≡ 16) × (length e ≡ 16) × (length f ≡ 16)) (i n : ℕ) where
+module _ (a b c d e f : List ℕ) (six : SixteenEach a b c d e f) (i n : ℕ) where
   next : (ok : ℕ → Bool) (l : List ℕ) → length l ≡ 16 → i < 16 → all ok (drop i l) ≡ (ok (getD l i 0) && all ok (drop (i + 1) l))
   next ok l g h = rw (add-one, drop-cons l i 0 (omega arith))
 
   pub rows-step : {x : ℕ} {r : Bool} → i < 16
-      → x ≡ cond ((isOf Text (getD a i 0) && isOf Text (getD b i 0)) && ((isOf Text (getD c i 0) && isOf Text (getD d i 0)) && (isOf Digit (getD e i 0) && isOf Digit (getD f i 0)))) 0 1
+      → x ≡ cond (columnHolds (getD a i 0) (getD b i 0) (getD c i 0) (getD d i 0) (getD e i 0) (getD f i 0)) 0 1
       → (eqb n 0 && from i a b c d e f) ≡ r → (eqb (bitOr n x) 0 && from (i + 1) a b c d e f) ≡ r
   rows-step h g q =
       let ta = isOf Text (getD a i 0) in
@@ -98,13 +84,10 @@ two-rows ok bs h k = go (all ok (take 16 bs)) refl
     go false e = row-fails ok bs 0 16 (sym e) refl
     go true e = last-row ok bs 16 16 h (omega arith) e (ap (all ok) (sym (last-sixteen bs h .0)))
 
-pub places-length : (rec : List ℕ) → length rec ≡ recordLength → (first last : ℕ) → last ≤ 150 → length (places first last rec) ≡ last - (first - 1)
-places-length rec n first last h = length-take-le (last - (first - 1)) (drop (first - 1) rec) (omega (arith, length-drop (first - 1) rec))
-
--- what it asks of a record, in its order
+-- its checks of a record, in its order
 module _ (rec : List ℕ) where
   abbrev texts : Bool
-  texts = all (isOf Text) (fieldBytes (rowAt accountRow) rec) && (all (isOf Text) (spanOf (rowAt branchRow) (rowAt authenticationRow) rec) && all (isOf Digit) (spanOf (rowAt receivedRow) (rowAt numberRow) rec))
+  texts = partsHold (fieldBytes (rowAt accountRow) rec) (spanOf (rowAt branchRow) (rowAt authenticationRow) rec) (spanOf (rowAt receivedRow) (rowAt numberRow) rec)
 
   pub parts-fail : {t : Bool} → t ≡ texts → t ≡ false → false ≡ isPlain rec
   unfolding isPlain
@@ -142,69 +125,6 @@ named-payment b e = go (eqb b 65) (eqb b 71) (eqb b 90) refl e
     go false true v f q = eqb-true b 71 f
     go false false true f q = let z : _≡_ {A = ℕ} 0 1 = cc in absurd (omega arith)
     go false false false f q = let z : _≡_ {A = ℕ} 0 1 = cc in absurd (omega arith)
-
--- Kinds, and what is right of their bytes.
-
-pub text : (bs : List ℕ) → (kindAnswer kind.Text bs ≡ Accepted) ↔ (all (isOf Text) bs ≡ true)
-unfolding kindAnswer
-text bs = each-accepts (isOf Text) NoText 1 bs
-
-pub money : (bs : List ℕ) → (kindAnswer kind.Money bs ≡ Accepted) ↔ (all (isOf Digit) bs ≡ true)
-unfolding kindAnswer
-money bs = each-accepts (isOf Digit) NoDigit 1 bs
-
-pub digits : (bs : List ℕ) → (kindAnswer kind.Digits bs ≡ Accepted) ↔ (all (isOf Digit) bs ≡ true)
-unfolding kindAnswer
-digits bs = each-accepts (isOf Digit) NoDigit 1 bs
-
-pub blank : (bs : List ℕ) → (kindAnswer kind.Blank bs ≡ Accepted) ↔ (all (isOf Blank) bs ≡ true)
-unfolding kindAnswer
-blank bs = asked-accepts (all (isOf Blank) bs) FixedDiffers 1
-
-pub capture : (bs : List ℕ) → (kindAnswer kind.Capture bs ≡ Accepted) ↔ (isCapture (getD bs 0 0) ≡ true)
-unfolding kindAnswer
-capture bs = asked-accepts (isCapture (getD bs 0 0)) UnknownCode 1
-
-pub form : (bs : List ℕ) → (kindAnswer kind.Form bs ≡ Accepted) ↔ (isForm (getD bs 0 0) ≡ true)
-unfolding kindAnswer
-form bs = asked-accepts (isForm (getD bs 0 0)) UnknownCode 1
-
-pub code : (bs : List ℕ) → (kindAnswer kind.Barcode bs ≡ Accepted) ↔ (barcodeAnswer bs ≡ Accepted)
-unfolding kindAnswer
-code bs = (λ e. e, λ e. e)
-
-pub date : (bs : List ℕ) → (kindAnswer kind.Date bs ≡ Accepted) ↔ (isFound (dateOf bs) ≡ true)
-unfolding kindAnswer
-date bs = (
-  λ e. asked-accepts (isFound (dateOf bs)) NoDate 1 .0 (then-accepts (eachIs (isOf Digit) NoDigit 1 bs) (require (isFound (dateOf bs)) NoDate 1) .0 e .1),
-  go (dateOf bs) refl,
-)
-  where
-    go : (d : MaybeDate) → dateOf bs ≡ d → isFound (dateOf bs) ≡ true → kindAnswer kind.Date bs ≡ Accepted
-    go (days.On d) f t = sym (date-accepted bs d f)
-    go days.NoDate f t = never (sym (ap isFound f) ∙ t)
-
--- a capture is text
-pub captured : (b : ℕ) → isCapture b ≡ true → isOf Text b ≡ true
-unfolding isCapture isOf
-captured b t = go (leb 49 b) (leb b 54) (leb 97 b) (leb b 102) refl refl refl refl t
-  where
-    text-byte : 32 ≤ b → b ≤ 126 → (within 32 126 b || within 160 255 b) ≡ true
-    text-byte h k = rw (le-leb 32 b h, le-leb b 126 k)
-
-    go : (p q r s : Bool) → leb 49 b ≡ p → leb b 54 ≡ q → leb 97 b ≡ r → leb b 102 ≡ s → ((p && q) || (r && s)) ≡ true → (within 32 126 b || within 160 255 b) ≡ true
-    go true true r s ep eq er es t = text-byte (omega (arith, leb-true 49 b ep)) (omega (arith, leb-true b 54 eq))
-    go true false true true ep eq er es t = text-byte (omega (arith, leb-true 97 b er)) (omega (arith, leb-true b 102 es))
-    go true false true false ep eq er es t = never t
-    go true false false s ep eq er es t = never t
-    go false q true true ep eq er es t = text-byte (omega (arith, leb-true 97 b er)) (omega (arith, leb-true b 102 es))
-    go false q true false ep eq er es t = never t
-    go false q false s ep eq er es t = never t
-
-pub mark : (rec : List ℕ) → length rec ≡ recordLength → getD rec 0 0 ≡ 71 → kindAnswer (kind.Mark 71) (take 1 (drop 0 rec)) ≡ Accepted
-unfolding kindAnswer
-mark [] n e = absurd (omega arith)
-mark (b ∷ rec) n e = asked-accepts (same (b ∷ []) (71 ∷ [])) FixedDiffers 1 .1 (and-eq-true-iff (eqb b 71) true .1 (eq-eqb b 71 e, refl))
 
 -- neighbouring parts
 pub joined : (ok : ℕ → Bool) (rec : List ℕ) (k i j : ℕ) → all ok (take i (drop k rec)) ≡ true → all ok (take j (drop (k + i) rec)) ≡ true

@@ -1,4 +1,6 @@
 pub mod Exact
 pub mod FastPath
+pub mod FieldBytes
+pub mod KindRules
 pub mod Shown
 pub mod Walks

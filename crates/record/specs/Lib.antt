@@ -1,3 +1,4 @@
 pub mod FastPath
+pub mod Promises
 pub mod Records
 pub mod Values

@@ -1,5 +1,6 @@
--- A record decoded alone (document 01, "Refusal numbers", orders). Assumes nothing.
+-- The answer to a record alone (SPEC.md, "Records" and "Refusals"). Assumes nothing.
 use Prim.Native.Nat.{ℕ, _-_}
+use mathlib.Core.Bool.{Bool, true, false}
 use mathlib.Core.List.{List}
 use lib.Dec.{eqb}
 use lib.ListN.{length, getD}
@@ -12,13 +13,15 @@ use Rattle.layout.specs.declared.Field.{Field}
 use Rattle.layout.specs.declared.MaybeRecord.{MaybeRecord}
 use Rattle.layout.specs.declared.MaybeRecord.the-variants.{Is, Other}
 use Rattle.layout.specs.declared.Record.{Record}
+use Rattle.layout.specs.declared.Record.the-variants.{Header, Payment, Trailer}
 use Rattle.layout.specs.Layouts.{recordLength, namedBy, layoutOf, stretchOf}
 use Rattle.kinds.specs.Kinds.{kindAnswer}
 
+-- a field's bytes
 abbrev pub fieldBytes : Field → List ℕ → List ℕ
 fieldBytes f rec = partAt (stretchOf f) rec
 
--- a field of a record, answered with places of the record
+-- a field checked by its kind, with places of the record
 unfoldable pub fieldAnswer : List ℕ → Field → Answer
 fieldAnswer rec f = movedBy (behind (f .first - 1)) (kindAnswer (f .kind) (fieldBytes f rec))
 
@@ -26,6 +29,7 @@ fieldAnswer rec f = movedBy (behind (f .first - 1)) (kindAnswer (f .kind) (field
 abbrev pub layoutAnswer : Record → List ℕ → Answer
 layoutAnswer r rec = firstRefusal (fieldAnswer rec) (layoutOf r)
 
+-- the layout of the record that a first byte names; 9 where it names none
 abbrev pub namedAnswer : MaybeRecord → List ℕ → Answer
 namedAnswer (Is r) rec = layoutAnswer r rec
 namedAnswer Other rec = answer.Refused NotExpected 1
@@ -33,3 +37,10 @@ namedAnswer Other rec = answer.Refused NotExpected 1
 -- record: 1, 9, then the fields
 unfoldable pub recordAnswer : List ℕ → Answer
 recordAnswer rec = require (eqb (length rec) recordLength) WrongLength 0 then namedAnswer (namedBy (getD rec 0 0)) rec
+
+-- whether a first byte names G
+abbrev pub isPayment : MaybeRecord → Bool
+isPayment (Is Header) = false
+isPayment (Is Payment) = true
+isPayment (Is Trailer) = false
+isPayment Other = false

@@ -1,42 +1,38 @@
--- What an accepted record shows. Assumes nothing.
+-- What an accepted record shows (SPEC.md, "Records"). Assumes nothing.
 use Prim.Native.Nat.{ℕ}
-use mathlib.Core.Bool.{Bool, true, false, cond, _&&_}
+use mathlib.Core.Bool.{Bool, false, cond, _&&_}
 use mathlib.Core.List.{List, []}
-use mathlib.Core.Logic.{_↔_}
-use mathlib.Core.Path.{_≡_}
 use lib.Dec.{leb, ltb}
-use lib.ListN.{length, getD}
+use lib.ListN.{getD}
 use Rattle.answer.specs.declared.Reason.the-variants.{NotExpected}
 use Rattle.answer.specs.declared.Answer.{Answer}
 use Rattle.answer.specs.declared.Answer.the-variants as answer
-use Rattle.answer.specs.Orders.{ifAccepted, Each}
+use Rattle.answer.specs.Orders.{ifAccepted}
 use Rattle.decimal.specs.Numbers.{numberOf}
-use Rattle.decimal.specs.Places.{places}
 use Rattle.calendar.specs.declared.Date.{Date}
 use Rattle.calendar.specs.declared.MaybeDate.{MaybeDate}
 use Rattle.calendar.specs.declared.MaybeDate.the-variants.{On, NoDate}
 use Rattle.calendar.specs.Dates.{dateOf}
 use Rattle.barcode.specs.Codes.{fieldsOf}
-use Rattle.kinds.specs.Kinds.{kindAnswer}
-use Rattle.layout.specs.declared.Field.{Field}
 use Rattle.layout.specs.declared.MaybeRecord.{MaybeRecord}
 use Rattle.layout.specs.declared.MaybeRecord.the-variants.{Is, Other}
-use Rattle.layout.specs.declared.Record.{Record}
 use Rattle.layout.specs.declared.Record.the-variants as layout
-use Rattle.layout.specs.Layouts.{recordLength, layoutOf, rowAt, rowsOf, namedBy, bankRow, fileDateRow, sequenceRow, paidRow, creditedRow, barcodeRow, receivedRow, tariffRow, numberRow, countRow, totalRow}
+use Rattle.layout.specs.Layouts.{rowAt, rowsOf, namedBy, bankRow, fileDateRow, sequenceRow, countRow, totalRow}
+use Rattle.layout.specs.Layouts.{paidRow, creditedRow, barcodeRow, receivedRow, tariffRow, numberRow}
 use Rattle.record.specs.declared.Header.{Header}
 use Rattle.record.specs.declared.Payment.{Payment}
 use Rattle.record.specs.declared.Trailer.{Trailer}
 use Rattle.record.specs.declared.PaymentDue.{PaymentDue}
-use Rattle.record.specs.declared.PaymentDue.the-variants as pays
+use Rattle.record.specs.declared.PaymentDue.the-variants as due
 use Rattle.record.specs.declared.Decoded.{Decoded}
 use Rattle.record.specs.declared.Decoded.the-variants as decoded
 use Rattle.record.specs.Records.{fieldBytes, recordAnswer}
 
+-- the number, and the date, at a row
 abbrev pub numberIn : ℕ → List ℕ → ℕ
 numberIn row rec = numberOf (fieldBytes (rowAt row) rec)
 
--- an accepted record's dates are dates: what no date would show is never seen
+-- an accepted record's dates are dates, so 0/0/0 is never shown
 abbrev pub dayOf : MaybeDate → Date
 dayOf (On d) = d
 dayOf NoDate = record { year = 0; month = 0; day = 0 }
@@ -45,7 +41,8 @@ abbrev pub dateIn : ℕ → List ℕ → Date
 dateIn row rec = dayOf (dateOf (fieldBytes (rowAt row) rec))
 
 abbrev pub headerShown : List ℕ → Header
-headerShown rec = record { bank = numberIn bankRow rec; date = dateIn fileDateRow rec; sequence = numberIn sequenceRow rec }
+headerShown rec =
+    record { bank = numberIn bankRow rec; date = dateIn fileDateRow rec; sequence = numberIn sequenceRow rec }
 
 abbrev pub paymentShown : List ℕ → Payment
 paymentShown rec =
@@ -61,7 +58,7 @@ paymentShown rec =
 abbrev pub trailerShown : List ℕ → Trailer
 trailerShown rec = record { count = numberIn countRow rec; total = numberIn totalRow rec }
 
--- what the record that is named shows
+-- what the record named by a first byte shows
 abbrev pub recordShown : MaybeRecord → List ℕ → Decoded
 recordShown (Is layout.Header) rec = decoded.Header (headerShown rec)
 recordShown (Is layout.Payment) rec = decoded.Payment (paymentShown rec)
@@ -76,19 +73,19 @@ shownUnlessRefused (answer.Refused why place) shown = decoded.Refused why place
 abbrev pub decodedRecord : List ℕ → Decoded
 decodedRecord rec = shownUnlessRefused (recordAnswer rec) (recordShown (namedBy (getD rec 0 0)) rec)
 
--- the answer that a decoded record stands for, and with it the paper's number and place
+-- the answer of a decoded record, which gives it its refusal number and place (SPEC.md, "Refusals")
 abbrev pub answerOfRecord : Decoded → Answer
 answerOfRecord (decoded.Header h) = answer.Accepted
 answerOfRecord (decoded.Payment p) = answer.Accepted
 answerOfRecord (decoded.Trailer t) = answer.Accepted
 answerOfRecord (decoded.Refused why place) = answer.Refused why place
 
--- what a record pays: an accepted G its received centavos to its issuer
+-- what a record pays: an accepted G its received centavos to its issuer, every other record nothing
 abbrev pub paymentDueOf : Decoded → PaymentDue
-paymentDueOf (decoded.Header h) = pays.Nothing
-paymentDueOf (decoded.Payment p) = pays.To (p .barcode .issuer) (p .received)
-paymentDueOf (decoded.Trailer t) = pays.Nothing
-paymentDueOf (decoded.Refused why place) = pays.Nothing
+paymentDueOf (decoded.Header h) = due.Nothing
+paymentDueOf (decoded.Payment p) = due.To (p .barcode .issuer) (p .received)
+paymentDueOf (decoded.Trailer t) = due.Nothing
+paymentDueOf (decoded.Refused why place) = due.Nothing
 
 -- A field by its row: the empty part for a refused record, for another record's row and for a row past the table.
 
@@ -101,21 +98,3 @@ fieldIn named row rec = cond (hasRow named row) (fieldBytes (rowAt row) rec) []
 
 abbrev pub shownField : ℕ → List ℕ → List ℕ
 shownField row rec = ifAccepted (recordAnswer rec) (fieldIn (namedBy (getD rec 0 0)) row rec) []
-
--- Promises.
-
--- 150 bytes that their first one names are accepted exactly when each field of that layout is right by its kind
-abbrev pub RightFieldsAreAccepted : Type 0
-RightFieldsAreAccepted =
-    (r : Record) (rec : List ℕ) → length rec ≡ recordLength → namedBy (getD rec 0 0) ≡ Is r
-    → (recordAnswer rec ≡ answer.Accepted) ↔ Each (λ (f : Field). kindAnswer (f .kind) (fieldBytes f rec) ≡ answer.Accepted) (layoutOf r)
-
--- a field of an accepted record, by its row, is the bytes at the row's places
-abbrev pub FieldsAreTheirPlaces : Type 0
-FieldsAreTheirPlaces =
-    (rec : List ℕ) (row : ℕ) → recordAnswer rec ≡ answer.Accepted → hasRow (namedBy (getD rec 0 0)) row ≡ true
-    → shownField row rec ≡ places (rowAt row .first) (rowAt row .last) rec
-
--- what is decoded says what was answered: one answer for each input
-abbrev pub DecodeAnswers : Type 0
-DecodeAnswers = (rec : List ℕ) → answerOfRecord (decodedRecord rec) ≡ recordAnswer rec

@@ -1,19 +1,28 @@
-// A quick look at a G, exact: it sees an accepted one, and nothing else. What is wrong with another, and where, the walk says.
+// The fast path for G: it recognizes an accepted G, exactly, and reads it. It finds no refusal; what it does not
+// recognize goes to the check in order (walk.rt).
+//
+// It mirrors the walk along layout's rows of G (SPEC.md, "Records"), but checks neighbouring fields of one class at
+// once: `is_plain` texts, digits and blanks, `is_coded` capture and payment form, `is_dated` or `date_in` the dates,
+// `accepted_issuer` or `barcode_in` the barcode. What must change together:
+// - A row of G moves, appears or gets another kind (layout::g): the three functions above, their definitions in
+//   specs/FastPath.antt, and the places in proofs/Exact.antt (`holds`, `seen`). A span keeps from 16 to 32 bytes.
+// - A kind gets another rule (kinds::check): what checks that kind here, and its law in proofs/KindRules.antt. The
+//   capture is checked as text too, since it is inside the span from branch to authentication: each code must be text
+//   (`captured`).
+// The proof that ties the two is proofs/Exact.antt: `accepted_payment` is `paymentDueOf (decodedRecord rec)` and
+// `decode_payment` is `fastDecodedOf (decodedRecord rec)`, where `decodedRecord` is defined by the walk's answer.
 ghost use Prim.Native.Nat.{_-_, _≤_};
-ghost use mathlib.Core.Bool.{cond, _&&_};
+ghost use mathlib.Core.Bool.{cond};
 ghost use mathlib.Core.Path.{_≡_};
 ghost use lib.ListN.{length, take, drop};
-ghost use Rattle.decimal.specs.Bytes.{isOf, all};
-ghost use Rattle.decimal.specs.LowHalves.{lowNumberOf};
-ghost use Rattle.calendar.specs.Dates.{dateOf};
-ghost use Rattle.barcode.specs.Codes as codes;
 ghost use Rattle.layout.specs.Layouts.{recordLength, namedBy, InRecord};
-ghost use Rattle.record.specs.Records.{fieldBytes};
-ghost use Rattle.record.specs.FastPath.{rowsHold, spanOf, isPlain, isCoded, isDated, isPayment, looksLikePayment, fastDecodedOf};
+ghost use Rattle.record.specs.Records.{isPayment};
 ghost use Rattle.record.specs.Values.{decodedRecord, paymentDueOf};
+ghost use Rattle.record.specs.FastPath.{columnHolds, SixteenEach, rowsHold, partsHold, TwoRows, spanOf};
+ghost use Rattle.record.specs.FastPath.{isPlain, isCoded, isDated, looksLikePayment, fastDecodedOf};
 use crate::Payment;
 use crate::PaymentDue;
-use crate::walk;
+use crate::parts;
 use barcode::Decoded as Barcoded;
 use barcode::MaybeIssuer;
 use calendar::MaybeDate;
@@ -23,14 +32,15 @@ use layout::MaybeRecord;
 use layout::Record;
 use layout::g;
 
-// An accepted payment, or anything else.
+// An accepted G with all that it shows, or any other record.
 pub(crate) enum FastDecoded {
     Paid(Payment),
     Other,
 }
 
-fn flag_of(a: u8, b: u8, c: u8, d: u8, e: u8, f: u8) -> u8
-    ensures { λ r. ⌜ r ≡ cond ((isOf Class.Text a && isOf Class.Text b) && ((isOf Class.Text c && isOf Class.Text d) && (isOf Class.Digit e && isOf Class.Digit f))) 0 1 ⌝ }
+// 0 if the first four bytes are text and the last two are digits, else 1.
+fn column_error_bit(a: u8, b: u8, c: u8, d: u8, e: u8, f: u8) -> u8
+    ensures { λ r. ⌜ r ≡ cond (columnHolds a b c d e f) 0 1 ⌝ }
 {
     (decimal::class_error_bit(Class::Text, a) | decimal::class_error_bit(Class::Text, b))
         | ((decimal::class_error_bit(Class::Text, c) | decimal::class_error_bit(Class::Text, d))
@@ -38,15 +48,16 @@ fn flag_of(a: u8, b: u8, c: u8, d: u8, e: u8, f: u8) -> u8
                 | decimal::class_error_bit(Class::Digit, f)))
 }
 
-// Rows of sixteen bytes under one flag, four of text and two of digits, with no early end: such a loop is made wide by the compiler.
+// Four rows of text and two of digits, sixteen bytes each, under one flag. No early exit, so the loop vectorizes.
 fn rows_hold(a: &[u8], b: &[u8], c: &[u8], d: &[u8], e: &[u8], f: &[u8]) -> bool
-    requires { ⌜ (length (now a) ≡ 16) × (length (now b) ≡ 16) × (length (now c) ≡ 16) × (length (now d) ≡ 16) × (length (now e) ≡ 16) × (length (now f) ≡ 16) ⌝ }
-    ensures { λ r. ⌜ r ≡ rowsHold (now (a .entry)) (now (b .entry)) (now (c .entry)) (now (d .entry)) (now (e .entry)) (now (f .entry)) ⌝ }
+    requires { ⌜ SixteenEach (now a) (now b) (now c) (now d) (now e) (now f) ⌝ }
+    ensures { λ r. ⌜ r ≡ rowsHold (now (a .entry)) (now (b .entry)) (now (c .entry))
+        (now (d .entry)) (now (e .entry)) (now (f .entry)) ⌝ }
 {
     let mut flags: u8 = 0;
     let mut i = 0;
     while i < 16 {
-        flags = flags | flag_of(a[i], b[i], c[i], d[i], e[i], f[i]);
+        flags = flags | column_error_bit(a[i], b[i], c[i], d[i], e[i], f[i]);
         i += 1;
     }
     flags == 0
@@ -61,17 +72,18 @@ fn first_row(part: &[u8]) -> &[u8]
 
 fn last_row(part: &[u8]) -> &[u8]
     requires { ⌜ 16 ≤ length (now part) ⌝ }
-    ensures { λ r. ⌜ (now r ≡ drop (length (now (part .entry)) - 16) (now (part .entry))) × (length (now r) ≡ 16) ⌝ }
+    ensures { λ r. ⌜ (now r ≡ drop (length (now (part .entry)) - 16) (now (part .entry)))
+        × (length (now r) ≡ 16) ⌝ }
 {
     &part[part.len() - 16..]
 }
 
-// Two texts and digits. Each part has from 16 to 32 bytes: its first sixteen and its last are all of it.
+// Two texts and one part of digits. Each has from 16 to 32 bytes, so its first sixteen and its last sixteen cover it.
 fn parts_hold(text: &[u8], other: &[u8], digits: &[u8]) -> bool
-    requires { ⌜ (16 ≤ length (now text)) × (length (now text) ≤ 32) ⌝ }
-    requires { ⌜ (16 ≤ length (now other)) × (length (now other) ≤ 32) ⌝ }
-    requires { ⌜ (16 ≤ length (now digits)) × (length (now digits) ≤ 32) ⌝ }
-    ensures { λ r. ⌜ r ≡ (all (isOf Class.Text) (now (text .entry)) && (all (isOf Class.Text) (now (other .entry)) && all (isOf Class.Digit) (now (digits .entry)))) ⌝ }
+    requires { ⌜ TwoRows (now text) ⌝ }
+    requires { ⌜ TwoRows (now other) ⌝ }
+    requires { ⌜ TwoRows (now digits) ⌝ }
+    ensures { λ r. ⌜ r ≡ partsHold (now (text .entry)) (now (other .entry)) (now (digits .entry)) ⌝ }
 {
     rows_hold(
         first_row(text),
@@ -83,7 +95,7 @@ fn parts_hold(text: &[u8], other: &[u8], digits: &[u8]) -> bool
     )
 }
 
-// The bytes of neighbouring fields.
+// The bytes from the first of one field to the last of another.
 fn span(rec: &[u8], from: Field, to: Field) -> &[u8]
     requires { ⌜ length (now rec) ≡ recordLength ⌝ }
     requires { ⌜ (InRecord from) × (InRecord to) × (from .first ≤ to .last) ⌝ }
@@ -94,40 +106,42 @@ fn span(rec: &[u8], from: Field, to: Field) -> &[u8]
     &rec[first - 1..last]
 }
 
-// Text, with the capture between; digits; blanks.
+// Texts, with the capture between them; digits; blanks.
 fn is_plain(rec: &[u8]) -> bool
     requires { ⌜ length (now rec) ≡ recordLength ⌝ }
     ensures { λ r. ⌜ r ≡ isPlain (now (rec .entry)) ⌝ }
 {
     let behind = span(rec, g::BRANCH, g::AUTHENTICATION);
     let numbers = span(rec, g::RECEIVED, g::NUMBER);
-    if !parts_hold(walk::part_of(rec, g::ACCOUNT), behind, numbers) {
+    if !parts_hold(parts::field_bytes(rec, g::ACCOUNT), behind, numbers) {
         return false;
     }
-    decimal::all_of(Class::Blank, walk::part_of(rec, g::BLANK))
+    decimal::all_of(Class::Blank, parts::field_bytes(rec, g::BLANK))
 }
 
-// Capture and payment form.
+// Capture and payment form are known codes.
 fn is_coded(rec: &[u8]) -> bool
     requires { ⌜ length (now rec) ≡ recordLength ⌝ }
     ensures { λ r. ⌜ r ≡ isCoded (now (rec .entry)) ⌝ }
 {
-    if !kinds::is_capture(kinds::byte_at(walk::part_of(rec, g::CAPTURE), 0)) {
+    if !kinds::is_capture(kinds::byte_at(parts::field_bytes(rec, g::CAPTURE), 0)) {
         return false;
     }
-    kinds::is_form(kinds::byte_at(walk::part_of(rec, g::FORM), 0))
+    kinds::is_form(kinds::byte_at(parts::field_bytes(rec, g::FORM), 0))
 }
 
+// Both dates are dates.
 fn is_dated(rec: &[u8]) -> bool
     requires { ⌜ length (now rec) ≡ recordLength ⌝ }
     ensures { λ r. ⌜ r ≡ isDated (now (rec .entry)) ⌝ }
 {
-    if !calendar::is_date_text(walk::part_of(rec, g::PAID)) {
+    if !calendar::is_date_text(parts::field_bytes(rec, g::PAID)) {
         return false;
     }
-    calendar::is_date_text(walk::part_of(rec, g::CREDITED))
+    calendar::is_date_text(parts::field_bytes(rec, g::CREDITED))
 }
 
+// Whether a first byte names G.
 fn is_payment(mark: u8) -> bool
     ensures { λ r. ⌜ r ≡ isPayment (namedBy mark) ⌝ }
 {
@@ -141,7 +155,7 @@ fn is_payment(mark: u8) -> bool
     }
 }
 
-// All fields but the dates and the barcode.
+// All fields of a G but its dates and its barcode.
 fn looks_like_payment(rec: &[u8]) -> bool
     requires { ⌜ length (now rec) ≡ recordLength ⌝ }
     ensures { λ r. ⌜ r ≡ looksLikePayment (now (rec .entry)) ⌝ }
@@ -155,32 +169,8 @@ fn looks_like_payment(rec: &[u8]) -> bool
     is_coded(rec)
 }
 
-// Of bytes that were found to be digits, their number.
-fn number_of(rec: &[u8], f: Field) -> u64
-    requires { ⌜ length (now rec) ≡ recordLength ⌝ }
-    requires { ⌜ InRecord f ⌝ }
-    ensures { λ r. ⌜ r ≡ lowNumberOf (fieldBytes f (now (rec .entry))) ⌝ }
-{
-    decimal::low_number(walk::part_of(rec, f))
-}
-
-pub(crate) fn date_of(rec: &[u8], f: Field) -> MaybeDate
-    requires { ⌜ length (now rec) ≡ recordLength ⌝ }
-    requires { ⌜ InRecord f ⌝ }
-    ensures { λ r. ⌜ r ≡ dateOf (fieldBytes f (now (rec .entry))) ⌝ }
-{
-    calendar::read_date(walk::part_of(rec, f))
-}
-
-fn barcode_of(rec: &[u8], f: Field) -> Barcoded
-    requires { ⌜ length (now rec) ≡ recordLength ⌝ }
-    requires { ⌜ InRecord f ⌝ }
-    ensures { λ r. ⌜ r ≡ codes.decodedBarcode (fieldBytes f (now (rec .entry))) ⌝ }
-{
-    barcode::decode(walk::part_of(rec, f))
-}
-
-// Only what a session needs of a payment; decoding the rest of it would cost as much again.
+// The issuer and the centavos received of an accepted G; Nothing for every other record, of any length. It is what a
+// session needs of a G: decoding all of it would cost as much again.
 pub fn accepted_payment(rec: &[u8]) -> PaymentDue
     ensures { λ r. ⌜ r ≡ paymentDueOf (decodedRecord (now (rec .entry))) ⌝ }
 {
@@ -193,13 +183,13 @@ pub fn accepted_payment(rec: &[u8]) -> PaymentDue
     if !is_dated(rec) {
         return PaymentDue::Nothing;
     }
-    match barcode::accepted_issuer(walk::part_of(rec, g::BARCODE)) {
-        MaybeIssuer::To(issuer) => PaymentDue::To(issuer, number_of(rec, g::RECEIVED)),
+    match barcode::accepted_issuer(parts::field_bytes(rec, g::BARCODE)) {
+        MaybeIssuer::To(issuer) => PaymentDue::To(issuer, parts::number_in(rec, g::RECEIVED)),
         MaybeIssuer::Nobody => PaymentDue::Nothing,
     }
 }
 
-// All that a payment shows.
+// All that an accepted G shows; Other for every other record, of any length.
 pub(crate) fn decode_payment(rec: &[u8]) -> FastDecoded
     ensures { λ r. ⌜ r ≡ fastDecodedOf (decodedRecord (now (rec .entry))) ⌝ }
 {
@@ -209,20 +199,20 @@ pub(crate) fn decode_payment(rec: &[u8]) -> FastDecoded
     if !looks_like_payment(rec) {
         return FastDecoded::Other;
     }
-    let MaybeDate::On(paid) = date_of(rec, g::PAID) else {
+    let MaybeDate::On(paid) = parts::date_in(rec, g::PAID) else {
         return FastDecoded::Other;
     };
-    let MaybeDate::On(credited) = date_of(rec, g::CREDITED) else {
+    let MaybeDate::On(credited) = parts::date_in(rec, g::CREDITED) else {
         return FastDecoded::Other;
     };
-    match barcode_of(rec, g::BARCODE) {
+    match parts::barcode_in(rec, g::BARCODE) {
         Barcoded::Read(barcode) => FastDecoded::Paid(Payment {
             paid,
             credited,
             barcode,
-            received: number_of(rec, g::RECEIVED),
-            tariff: number_of(rec, g::TARIFF),
-            number: number_of(rec, g::NUMBER),
+            received: parts::number_in(rec, g::RECEIVED),
+            tariff: parts::number_in(rec, g::TARIFF),
+            number: parts::number_in(rec, g::NUMBER),
         }),
         Barcoded::Refused(_, _) => FastDecoded::Other,
     }

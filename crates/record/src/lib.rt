@@ -1,21 +1,20 @@
-// The three records, each decoded alone.
-ghost use mathlib.Core.Path.{_≡_};
-ghost use Rattle.record.specs.Values.{answerOfRecord};
-
+// The three records A, G and Z (SPEC.md, "Records"), each read alone. Modules, lowest first: parts (a field's bytes and
+// values), walk (the check in order) beside fast (the fast path for an accepted G), operations (check, decode, field).
 mod fast;
-mod values;
+mod operations;
+mod parts;
 mod walk;
 
-use answer::Answer;
 use answer::Reason;
 use barcode::Fields;
 use barcode::Issuer;
 use calendar::Date;
 pub use fast::accepted_payment;
-pub use values::decode;
-pub use values::field;
-pub use walk::check;
+pub use operations::check;
+pub use operations::decode;
+pub use operations::field;
 
+// What an accepted A shows.
 #[repr(C)]
 pub struct Header {
     pub bank: u64,
@@ -23,7 +22,7 @@ pub struct Header {
     pub sequence: u64,
 }
 
-// Received and tariff are centavos.
+// What an accepted G shows. Received and tariff are centavos; number is the record's own, which nobody counts.
 pub struct Payment {
     pub paid: Date,
     pub credited: Date,
@@ -33,35 +32,23 @@ pub struct Payment {
     pub number: u64,
 }
 
-// The count of all records, header and trailer included, and the centavos received.
+// What an accepted Z shows: the count of all records, header and trailer included, and the centavos received.
 #[repr(C)]
 pub struct Trailer {
     pub count: u64,
     pub total: u64,
 }
 
-// To whom an accepted G pays, and the centavos received.
+// To whom an accepted G pays, and the centavos received; Nothing for every other record, accepted or not.
 pub enum PaymentDue {
     To(Issuer, u64),
     Nothing,
 }
 
+// An accepted record with all that it shows, or why it is refused and at which place, 0 for none.
 pub enum Decoded {
     Header(Header),
     Payment(Payment),
     Trailer(Trailer),
     Refused(Reason, usize),
-}
-
-impl Decoded {
-    pub fn answer(self) -> Answer
-        ensures { λ r. ⌜ r ≡ answerOfRecord self ⌝ }
-    {
-        match self {
-            Decoded::Header(_) => Answer::Accepted,
-            Decoded::Payment(_) => Answer::Accepted,
-            Decoded::Trailer(_) => Answer::Accepted,
-            Decoded::Refused(why, place) => Answer::Refused(why, place),
-        }
-    }
 }

@@ -1,39 +1,30 @@
-// The walk along the table: a record's fields from left to right.
+// The check in order: a record's fields from left to right along layout's table (SPEC.md, "Records"). Every refusal of
+// a record and its place comes from here; fast.rt only recognizes an accepted G.
 ghost use mathlib.Core.Path.{_≡_};
 ghost use lib.ListN.{length};
 ghost use Rattle.layout.specs.Layouts.{recordLength, InRecord};
-ghost use Rattle.record.specs.Records.{fieldBytes, fieldAnswer, layoutAnswer, recordAnswer};
-use crate::PaymentDue;
-use crate::fast;
+ghost use Rattle.record.specs.Records.{fieldAnswer, layoutAnswer, recordAnswer};
+use crate::parts;
 use answer::Answer;
 use answer::Reason;
 use layout::Field;
 use layout::MaybeRecord;
 use layout::Record;
 
-// A field's bytes, as a part of the record's.
-pub(crate) fn part_of(rec: &[u8], f: Field) -> &[u8]
-    requires { ⌜ length (now rec) ≡ recordLength ⌝ }
-    requires { ⌜ InRecord f ⌝ }
-    ensures { λ r. ⌜ now r ≡ fieldBytes f (now (rec .entry)) ⌝ }
-{
-    let first = f.first;
-    let last = f.last;
-    &rec[first - 1..last]
-}
-
+// A field checked by its kind, with places of the record.
 fn field_answer(rec: &[u8], f: Field) -> Answer
     requires { ⌜ length (now rec) ≡ recordLength ⌝ }
     requires { ⌜ InRecord f ⌝ }
     ensures { λ r. ⌜ r ≡ fieldAnswer (now (rec .entry)) f ⌝ }
 {
     let kind = f.kind;
-    let a = kinds::check(kind, part_of(rec, f));
+    let a = kinds::check(kind, parts::field_bytes(rec, f));
     a.behind(f.first - 1)
 }
 
-// The table is copied once: a constant array would be made anew at each row.
-fn body_answer(which: Record, rec: &[u8]) -> Answer
+// The first refusal among the fields of a layout. The table is copied before the loop: a constant array that is indexed
+// in a loop is built anew at each turn.
+fn layout_answer(which: Record, rec: &[u8]) -> Answer
     requires { ⌜ length (now rec) ≡ recordLength ⌝ }
     ensures { λ r. ⌜ r ≡ layoutAnswer which (now (rec .entry)) ⌝ }
 {
@@ -55,7 +46,7 @@ fn body_answer(which: Record, rec: &[u8]) -> Answer
     Answer::Accepted
 }
 
-// A record alone: its length, what it is, then its fields.
+// The answer to a record alone, of any length: 1 unless it has 150 bytes, 9 unless it is A, G or Z, then its fields.
 pub(crate) fn check_in_order(rec: &[u8]) -> Answer
     ensures { λ r. ⌜ r ≡ recordAnswer (now (rec .entry)) ⌝ }
 {
@@ -63,17 +54,7 @@ pub(crate) fn check_in_order(rec: &[u8]) -> Answer
         return Answer::Refused(Reason::WrongLength, 0);
     }
     match layout::named_by(rec[0]) {
-        MaybeRecord::Is(which) => body_answer(which, rec),
+        MaybeRecord::Is(which) => layout_answer(which, rec),
         MaybeRecord::Other => Answer::Refused(Reason::NotExpected, 1),
-    }
-}
-
-// What pays is accepted; else the walk looks for a refusal.
-pub fn check(rec: &[u8]) -> Answer
-    ensures { λ r. ⌜ r ≡ recordAnswer (now (rec .entry)) ⌝ }
-{
-    match fast::accepted_payment(rec) {
-        PaymentDue::To(_, _) => Answer::Accepted,
-        PaymentDue::Nothing => check_in_order(rec),
     }
 }

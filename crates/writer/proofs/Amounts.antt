@@ -23,7 +23,8 @@ use Rattle.layout.specs.Layouts.{layoutOf, stretchOf, givenLength, joinedOf, ro
 use Rattle.kinds.specs.Kinds.{kindAnswer}
 use Rattle.record.specs.Records.{fieldBytes}
 use Rattle.record.specs.Values.{trailerShown}
-use Rattle.fields.specs.Making.{writtenOf, isMoney, putAnswer, takes, pieceOf, pieceAnswer, amountsAfter, madeOf, makingAnswer, makeAnswer, amountsIn}
+use Rattle.fields.specs.Making.{writtenOf, isMoney, writtenAnswer, givenWidth, fieldMade, fieldMadeAnswer, amountsAfter, madeOf, makingAnswer, makeAnswer}
+use Rattle.fields.specs.Promises.{amountsIn}
 use Rattle.fields.proofs.Trips.{fields-make-the-record, made-is-accepted}
 use Rattle.file.specs.Files.{figuresOf, closingAnswer}
 use Rattle.file.proofs.Files.{closing-accepts, figures-fit}
@@ -46,12 +47,12 @@ module _ (w : ℕ) (g : List ℕ) (m n : ℕ) where
   same-length kind.Capture = refl
   same-length kind.Form = refl
 
-fits : (w : ℕ) (g : List ℕ) (n : ℕ) → putAnswer kind.Money w g n ≡ Accepted → n < 10 ^ w
-unfolding putAnswer
+fits : (w : ℕ) (g : List ℕ) (n : ℕ) → writtenAnswer kind.Money w g n ≡ Accepted → n < 10 ^ w
+unfolding writtenAnswer
 fits w g n a =
     ltb-true n (10 ^ w) (asked-accepts (ltb n (10 ^ w)) TooWide 1 .0 (then-accepts (widthAnswer w n) (kindAnswer kind.Money (digitsOf w n)) .0 a .0))
 
-same-amount : (k : Kind) (w : ℕ) (g : List ℕ) (m n : ℕ) → isMoney k ≡ true → putAnswer k w g m ≡ Accepted → putAnswer k w g n ≡ Accepted
+same-amount : (k : Kind) (w : ℕ) (g : List ℕ) (m n : ℕ) → isMoney k ≡ true → writtenAnswer k w g m ≡ Accepted → writtenAnswer k w g n ≡ Accepted
     → writtenOf k w g m ≡ writtenOf k w g n → m ≡ n
 same-amount (kind.Mark byte) w g m n t a b e = cc
 same-amount kind.Version w g m n t a b e = cc
@@ -82,23 +83,23 @@ moneys [] amounts = []
 moneys (f ∷ fs) amounts = cond (isMoney (f .kind)) (getD amounts 0 0 ∷ moneys fs (amountsAfter f amounts)) (moneys fs (amountsAfter f amounts))
 
 module _ (f : Field) (given xs ys : List ℕ) where
-  put-accepts : (l : List ℕ) → pieceAnswer f given l ≡ Accepted → putAnswer (f .kind) (widthOf (stretchOf f)) (take (takes f) given) (getD l 0 0) ≡ Accepted
-  put-accepts l e = moved-accepts (behind (f .first - 1)) (putAnswer (f .kind) (widthOf (stretchOf f)) (take (takes f) given) (getD l 0 0)) .0 e
+  put-accepts : (l : List ℕ) → fieldMadeAnswer f given l ≡ Accepted → writtenAnswer (f .kind) (widthOf (stretchOf f)) (take (givenWidth f) given) (getD l 0 0) ≡ Accepted
+  put-accepts l e = moved-accepts (behind (f .first - 1)) (writtenAnswer (f .kind) (widthOf (stretchOf f)) (take (givenWidth f) given) (getD l 0 0)) .0 e
 
-  amount-back : pieceAnswer f given xs ≡ Accepted → pieceAnswer f given ys ≡ Accepted → pieceOf f given xs ≡ pieceOf f given ys → isMoney (f .kind) ≡ true → getD xs 0 0 ≡ getD ys 0 0
+  amount-back : fieldMadeAnswer f given xs ≡ Accepted → fieldMadeAnswer f given ys ≡ Accepted → fieldMade f given xs ≡ fieldMade f given ys → isMoney (f .kind) ≡ true → getD xs 0 0 ≡ getD ys 0 0
   amount-back a b e t =
-      same-amount (f .kind) (widthOf (stretchOf f)) (take (takes f) given) (getD xs 0 0) (getD ys 0 0) t (put-accepts xs a) (put-accepts ys b) e
+      same-amount (f .kind) (widthOf (stretchOf f)) (take (givenWidth f) given) (getD xs 0 0) (getD ys 0 0) t (put-accepts xs a) (put-accepts ys b) e
 
 amounts-back : (rows : List Field) (given xs ys : List ℕ) → makingAnswer rows given xs ≡ Accepted → makingAnswer rows given ys ≡ Accepted
     → madeOf rows given xs ≡ madeOf rows given ys → moneys rows xs ≡ moneys rows ys
 amounts-back [] given xs ys a b e = refl
 amounts-back (f ∷ fs) given xs ys a b e =
-    let rest = drop (takes f) given in
-    let pa = then-accepts (pieceAnswer f given xs) (makingAnswer fs rest (amountsAfter f xs)) .0 a in
-    let pb = then-accepts (pieceAnswer f given ys) (makingAnswer fs rest (amountsAfter f ys)) .0 b in
+    let rest = drop (givenWidth f) given in
+    let pa = then-accepts (fieldMadeAnswer f given xs) (makingAnswer fs rest (amountsAfter f xs)) .0 a in
+    let pb = then-accepts (fieldMadeAnswer f given ys) (makingAnswer fs rest (amountsAfter f ys)) .0 b in
     let cut =
-    split (pieceOf f given xs) (pieceOf f given ys) (madeOf fs rest (amountsAfter f xs)) (madeOf fs rest (amountsAfter f ys))
-    (same-length (widthOf (stretchOf f)) (take (takes f) given) (getD xs 0 0) (getD ys 0 0) (f .kind)) e in
+    split (fieldMade f given xs) (fieldMade f given ys) (madeOf fs rest (amountsAfter f xs)) (madeOf fs rest (amountsAfter f ys))
+    (same-length (widthOf (stretchOf f)) (take (givenWidth f) given) (getD xs 0 0) (getD ys 0 0) (f .kind)) e in
     cons-if (isMoney (f .kind)) (getD xs 0 0) (getD ys 0 0) (moneys fs (amountsAfter f xs)) (moneys fs (amountsAfter f ys)) (amount-back f given xs ys (pa .0) (pb .0) (cut .0))
     (amounts-back fs rest (amountsAfter f xs) (amountsAfter f ys) (pa .1) (pb .1) (cut .1))
 

@@ -22,8 +22,9 @@ use Rattle.layout.proofs.Layouts.{row-lies}
 use Rattle.kinds.specs.Kinds.{kindAnswer}
 use Rattle.record.specs.Records.{fieldBytes, fieldAnswer, layoutAnswer, recordAnswer}
 use Rattle.record.specs.Values.{trailerShown}
-use Rattle.record.proofs.Shown.{part-length}
-use Rattle.fields.specs.Making.{amountsIn, madeOf, makingAnswer, makeAnswer}
+use Rattle.record.proofs.FieldBytes.{part-length}
+use Rattle.fields.specs.Promises.{amountsIn}
+use Rattle.fields.specs.Making.{madeOf, makingAnswer, makeAnswer}
 use Rattle.file.specs.Files.{figuresOf, closingAnswer}
 use Rattle.file.proofs.Files.{closing-accepts}
 use Rattle.writer.specs.declared.Writer.{Writer}
@@ -48,7 +49,7 @@ count-digits rec e =
     let each = first-accepts (fieldAnswer rec) (layoutOf Trailer) .0 e in
     each-accepts (isOf Digit) NoDigit 1 bs .0 (moved-accepts (behind 1) (eachIs (isOf Digit) NoDigit 1 bs) .0 (each .1 .0))
 
--- one amount; behind it the writer gives a 0 that no field takes
+-- one amount; behind it the writer gives a 0 that no field givenWidth
 one-amount : (rec given : List ℕ)
     → (makingAnswer (layoutOf Trailer) given (amountsIn (layoutOf Trailer) rec) ≡ makingAnswer (layoutOf Trailer) given (trailerShown rec .total ∷ 0 ∷ []))
     × (madeOf (layoutOf Trailer) given (amountsIn (layoutOf Trailer) rec) ≡ madeOf (layoutOf Trailer) given (trailerShown rec .total ∷ 0 ∷ []))

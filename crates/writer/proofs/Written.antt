@@ -20,7 +20,8 @@ use Rattle.layout.specs.Layouts.{recordLength, markOf, namedBy, layoutOf, planO
 use Rattle.layout.proofs.Layouts.{mark-names}
 use Rattle.record.specs.Records.{layoutAnswer, recordAnswer}
 use Rattle.record.specs.Values.{paymentShown}
-use Rattle.fields.specs.Making.{amountsIn, madeOf, makingAnswer, makeAnswer}
+use Rattle.fields.specs.Promises.{amountsIn}
+use Rattle.fields.specs.Making.{madeOf, makingAnswer, makeAnswer}
 use Rattle.record.proofs.Shown.{accepted-is, named-is}
 use Rattle.fields.proofs.Trips.{fields-make-the-record, made-is-accepted}
 use Rattle.file.specs.Files.{fileAnswer}

@@ -40,9 +40,9 @@ returns-3 : tie.Need-returns-3
 returns-3 c =
     let checking = c .before .before .before .before .before .before in
     let sizing = checking .before in
-    let asking = sizing .before .before in
-    let start = asking .before .before .before .before in
-    let given = sym (asking .before .is-given .ensures) ∙ not-false _ (asking .if1 .left) in
+    let testing = sizing .before .before in
+    let start = testing .before .before .before .before in
+    let given = sym (testing .before .is-given .ensures) ∙ not-false _ (testing .if1 .left) in
     let sized = eq-eqb _ _ (sizing .if2 .left ∙ sizing .before .given-length .ensures) in
     let checked = checking .check .ensures ∙ named-is _ _ (start .pre .0) (start .pre .1) in
     (rw (given, sized) checked, rw (c .before .before .before .before .enum-told .given .1) (c .before .before .join-rows .ensures))
@@ -51,9 +51,9 @@ returns-4 : tie.Need-returns-4
 returns-4 c =
     let checking = c .before .before in
     let sizing = checking .before in
-    let asking = sizing .before .before in
-    let start = asking .before .before .before .before in
-    let given = sym (asking .before .is-given .ensures) ∙ not-false _ (asking .if1 .left) in
+    let testing = sizing .before .before in
+    let start = testing .before .before .before .before in
+    let given = sym (testing .before .is-given .ensures) ∙ not-false _ (testing .if1 .left) in
     let sized = eq-eqb _ _ (sizing .if2 .left ∙ sizing .before .given-length .ensures) in
     let checked = checking .check .ensures ∙ named-is _ _ (start .pre .0) (start .pre .1) in
     (rw (given, sized) checked, rw (c .enum-told2 .given .1))

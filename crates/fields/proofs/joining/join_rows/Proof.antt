@@ -10,7 +10,7 @@ use Rattle.decimal.specs.Places.{gather}
 use Rattle.layout.specs.Layouts.{row, givenAt}
 use Rattle.layout.specs.declared.Field.{Field}
 use Rattle.layout.specs.declared.Kind.the-variants.{Mark}
-use Rattle.fields.proofs.Joins.{at-row, at-end, begin, in-room, in-field, gap, on, Joining}
+use Rattle.fields.proofs.Joins.{at-row, at-end, begin, in-out, in-field, gap, on, Joining}
 use Rattle.record.proofs.Walks.{in-order, in-table, row-placed, rows-here}
 use Rattle.fields.proofs.joining.join_rows.Statement.{statement}
 use Rattle.fields.proofs.joining.join_rows.Tie as tie
@@ -41,14 +41,14 @@ mul-f c = omega (arith, in-table _ (c .before .before .before .table .ensures) (
 array-copy-out-f : tie.Need-array-copy-out-f Inv-loop μ-loop
 array-copy-out-f c = omega (arith, in-table _ (c .before .before .before .table .ensures) (c .before .before .rows-of .ensures), c .loop-test .taken)
 
-takes-requires : tie.Need-takes-requires Inv-loop μ-loop
-takes-requires c κs = row-placed _ (c .before .before .before .before .table .ensures) (c .before .before .before .rows-of .ensures) _ (row 0 0 (Mark 0)) (c .before .loop-test .taken)
+given-width-requires : tie.Need-given-width-requires Inv-loop μ-loop
+given-width-requires c κs = row-placed _ (c .before .before .before .before .table .ensures) (c .before .before .before .rows-of .ensures) _ (row 0 0 (Mark 0)) (c .before .loop-test .taken)
 
 add-next : tie.Need-add-next Inv-loop μ-loop
 add-next c =
     let turn = c .before .before in
     let here = at-row _ (turn .before .before .before .table .ensures) (turn .before .before .rows-of .ensures) (turn .loop-test .taken) (turn .before .loop .inv .1) in
-    omega (arith, in-room here, c .takes .ensures, turn .before .before .before .before .before .before .good)
+    omega (arith, in-out here, c .given-width .ensures, turn .before .before .before .before .before .before .good)
 
 sub-join-field : tie.Need-sub-join-field Inv-loop μ-loop
 sub-join-field c = search needs
@@ -60,7 +60,7 @@ part-join-field-end : tie.Need-part-join-field-end Inv-loop μ-loop
 part-join-field-end c =
     let turn = c .before .before in
     let here = at-row _ (turn .before .before .before .table .ensures) (turn .before .before .rows-of .ensures) (turn .loop-test .taken) (turn .before .loop .inv .1) in
-    omega (arith, in-room here, c .takes .ensures)
+    omega (arith, in-out here, c .given-width .ensures)
 
 join-field-requires : tie.Need-join-field-requires Inv-loop μ-loop
 join-field-requires c κs =
@@ -70,7 +70,7 @@ join-field-requires c κs =
     let rows = turn .before .before .rows-of .ensures in
     let here = at-row _ table rows (turn .loop-test .taken) (turn .before .loop .inv .1) in
     let placed = row-placed _ table rows _ (row 0 0 (Mark 0)) (turn .loop-test .taken) in
-    let next = ap (λ (w : ℕ). turn .before .loop .at + w) (c .before .takes .ensures) in
+    let next = ap (λ (w : ℕ). turn .before .loop .at + w) (c .before .given-width .ensures) in
     (start .pre .0, ((placed, in-field here placed), gap here next))
 
 add-i : tie.Need-add-i Inv-loop μ-loop
@@ -87,7 +87,7 @@ loop-again c =
     let rows = turn .before .before .rows-of .ensures in
     let here = at-row _ table rows (turn .loop-test .taken) (turn .before .loop .inv .1) in
     let placed = row-placed _ table rows _ (row 0 0 (Mark 0)) (turn .loop-test .taken) in
-    let next = ap (λ (w : ℕ). turn .before .loop .at + w) (c .before .before .before .before .takes .ensures) in
+    let next = ap (λ (w : ℕ). turn .before .loop .at + w) (c .before .before .before .before .given-width .ensures) in
     (search needs, on here placed (start .pre .0) next (c .before .before .join-field .ensures))
 
 same-length : tie.Need-same-length Inv-loop μ-loop
@@ -111,7 +111,7 @@ join-rows-spec =
     loop-holds
     mul-f
     array-copy-out-f
-    takes-requires
+    given-width-requires
     add-next
     sub-join-field
     part-join-field-start

@@ -2,14 +2,15 @@
 use mathlib.Core.List.{[], _∷_}
 use mathlib.Core.Path.{refl, _∙_}
 use borrow.Author.Needs.{needs}
-use Rattle.fields.proofs.Makes.{no-room, no-given, goes-on, made-copied}
+use Rattle.fields.proofs.Makes.{wrong-size, wrong-given, goes-on}
+use Rattle.fields.proofs.Writes.{made-copied}
 use Rattle.fields.proofs.making.make.Statement.{statement}
 use Rattle.fields.proofs.making.make.Tie as tie
 
 returns : tie.Need-returns
 returns c =
     let a = c .before .before .before .args in
-    (no-room (a .which) (a .given .now) (a .first ∷ a .second ∷ []) (c .if1 .taken), refl)
+    (wrong-size (a .which) (a .given .now) (a .first ∷ a .second ∷ []) (c .if1 .taken), refl)
 
 given-length-requires : tie.Need-given-length-requires
 given-length-requires c κs = search needs
@@ -17,8 +18,8 @@ given-length-requires c κs = search needs
 returns-2 : tie.Need-returns-2
 returns-2 c =
     let a = c .before .before .before .before .before .args in
-    let room = c .before .before .if1 .left in
-    (no-given (a .which) (a .given .now) (a .first ∷ a .second ∷ []) room (c .before .given-length .ensures) (c .if2 .taken), refl)
+    let size = c .before .before .if1 .left in
+    (wrong-given (a .which) (a .given .now) (a .first ∷ a .second ∷ []) size (c .before .given-length .ensures) (c .if2 .taken), refl)
 
 slice-aggregate-make-rows : tie.Need-slice-aggregate-make-rows
 slice-aggregate-make-rows c = search needs
@@ -46,21 +47,21 @@ returns-3 c =
     let telling = c .before .before .before .before .before in
     let making = telling .before .before .before in
     let lengths = making .before .before in
-    let asking = lengths .before .before in
-    let a = asking .before .before .before .args in
+    let testing = lengths .before .before in
+    let a = testing .before .before .before .args in
     let given = lengths .if2 .left ∙ lengths .before .given-length .ensures in
     let told = telling .enum-told .given .1 in
-    let answer = goes-on (a .which) (a .given .now) (a .first ∷ a .second ∷ []) (asking .if1 .left) given (making .make-rows .ensures .0) in
+    let answer = goes-on (a .which) (a .given .now) (a .first ∷ a .second ∷ []) (testing .if1 .left) given (making .make-rows .ensures .0) in
     (answer, made-copied _ _ (search needs) told (making .make-rows .ensures .1 told) (c .before .before .copy .ensures .1))
 
 returns-4 : tie.Need-returns-4
 returns-4 c =
     let making = c .before .before .before in
     let lengths = making .before .before in
-    let asking = lengths .before .before in
-    let a = asking .before .before .before .args in
+    let testing = lengths .before .before in
+    let a = testing .before .before .before .args in
     let given = lengths .if2 .left ∙ lengths .before .given-length .ensures in
-    (goes-on (a .which) (a .given .now) (a .first ∷ a .second ∷ []) (asking .if1 .left) given (making .make-rows .ensures .0), rw (c .enum-told2 .given .1))
+    (goes-on (a .which) (a .given .now) (a .first ∷ a .second ∷ []) (testing .if1 .left) given (making .make-rows .ensures .0), rw (c .enum-told2 .given .1))
 
 pub make-spec : {M : Type 1} → statement M
 make-spec =

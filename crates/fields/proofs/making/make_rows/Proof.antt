@@ -42,8 +42,8 @@ mul-f c = omega (arith, in-table _ (c .before .before .before .table .ensures) (
 array-copy-out-f : tie.Need-array-copy-out-f Inv-loop μ-loop
 array-copy-out-f c = omega (arith, in-table _ (c .before .before .before .table .ensures) (c .before .before .rows-of .ensures), c .loop-test .taken)
 
-takes-requires : tie.Need-takes-requires Inv-loop μ-loop
-takes-requires c κs =
+given-width-requires : tie.Need-given-width-requires Inv-loop μ-loop
+given-width-requires c κs =
     let turn = c .before in
     let here = at-row _ (turn .before .before .before .table .ensures) (turn .before .before .rows-of .ensures) (turn .loop-test .taken) (turn .before .loop .inv .1) in
     placed here
@@ -52,47 +52,47 @@ add-next : tie.Need-add-next Inv-loop μ-loop
 add-next c =
     let turn = c .before .before in
     let here = at-row _ (turn .before .before .before .table .ensures) (turn .before .before .rows-of .ensures) (turn .loop-test .taken) (turn .before .loop .inv .1) in
-    let width = c .takes .ensures in
+    let width = c .given-width .ensures in
     omega (arith, in-given here width, turn .before .before .before .before .before .before .good)
 
-sub-put : tie.Need-sub-put Inv-loop μ-loop
-sub-put c = search needs
+sub-put-field : tie.Need-sub-put-field Inv-loop μ-loop
+sub-put-field c = search needs
 
-part-put-start : tie.Need-part-put-start Inv-loop μ-loop
-part-put-start c = search needs
+part-put-field-start : tie.Need-part-put-field-start Inv-loop μ-loop
+part-put-field-start c = search needs
 
-part-put-end : tie.Need-part-put-end Inv-loop μ-loop
-part-put-end c =
+part-put-field-end : tie.Need-part-put-field-end Inv-loop μ-loop
+part-put-field-end c =
     let turn = c .before .before in
     let here = at-row _ (turn .before .before .before .table .ensures) (turn .before .before .rows-of .ensures) (turn .loop-test .taken) (turn .before .loop .inv .1) in
-    in-given here (c .takes .ensures)
+    in-given here (c .given-width .ensures)
 
 amount-at-requires : tie.Need-amount-at-requires Inv-loop μ-loop
 amount-at-requires c κs = search needs
 
-sub-put-2 : tie.Need-sub-put-2 Inv-loop μ-loop
-sub-put-2 c =
+sub-put-field-2 : tie.Need-sub-put-field-2 Inv-loop μ-loop
+sub-put-field-2 c =
     let turn = c .before .before .before .before in
     let here = at-row _ (turn .before .before .before .table .ensures) (turn .before .before .rows-of .ensures) (turn .loop-test .taken) (turn .before .loop .inv .1) in
     ends here .0
 
-part-put-start-2 : tie.Need-part-put-start-2 Inv-loop μ-loop
-part-put-start-2 c =
+part-put-field-start-2 : tie.Need-part-put-field-start-2 Inv-loop μ-loop
+part-put-field-start-2 c =
     let turn = c .before .before .before .before in
     let here = at-row _ (turn .before .before .before .table .ensures) (turn .before .before .rows-of .ensures) (turn .loop-test .taken) (turn .before .loop .inv .1) in
     ends here .0
 
-part-put-end-2 : tie.Need-part-put-end-2 Inv-loop μ-loop
-part-put-end-2 c =
+part-put-field-end-2 : tie.Need-part-put-field-end-2 Inv-loop μ-loop
+part-put-field-end-2 c =
     let turn = c .before .before .before .before in
     let here = at-row _ (turn .before .before .before .table .ensures) (turn .before .before .rows-of .ensures) (turn .loop-test .taken) (turn .before .loop .inv .1) in
-    omega (arith, ends here .1, here .room)
+    omega (arith, ends here .1, here .size)
 
-put-requires : tie.Need-put-requires Inv-loop μ-loop
-put-requires c κs =
+put-field-requires : tie.Need-put-field-requires Inv-loop μ-loop
+put-field-requires c κs =
     let turn = c .before .before .before .before .before in
     let here = at-row _ (turn .before .before .before .table .ensures) (turn .before .before .rows-of .ensures) (turn .loop-test .taken) (turn .before .loop .inv .1) in
-    fits-part here (c .before .before .before .takes .ensures) (c .before .amount-at .result)
+    fits-part here (c .before .before .before .given-width .ensures) (c .before .amount-at .result)
 
 enum-told : tie.Need-enum-told Inv-loop μ-loop
 enum-told c = search needs
@@ -114,8 +114,8 @@ loop-again c =
     let here = at-row _ (turn .before .before .before .table .ensures) (turn .before .before .rows-of .ensures) (turn .loop-test .taken) (turn .before .loop .inv .1) in
     let amount = putting .before .before .amount-at .ensures in
     let told = c .before .enum-told .given .1 in
-    let bytes = putting .put .ensures .1 told in
-    (search needs, step here (taking .takes .ensures) amount (putting .put .ensures .0) told refl (c .used-after .ensures) bytes)
+    let bytes = putting .put-field .ensures .1 told in
+    (search needs, step here (taking .given-width .ensures) amount (putting .put-field .ensures .0) told refl (c .used-after .ensures) bytes)
 
 enum-told-2 : tie.Need-enum-told-2 Inv-loop μ-loop
 enum-told-2 c = search needs
@@ -137,7 +137,7 @@ returns c =
     let here = at-row _ table rows (turn .loop-test .taken) (turn .before .loop .inv .1) in
     let amount = putting .before .before .amount-at .ensures in
     let told = c .before .enum-told2 .given .1 in
-    let refused = refuses here (taking .takes .ensures) amount (putting .put .ensures .0) told (c .behind .ensures) in (
+    let refused = refuses here (taking .given-width .ensures) amount (putting .put-field .ensures .0) told (c .behind .ensures) in (
       refused ∙ ap (λ (l : List Field). makingAnswer l (a .given .now) (a .first ∷ a .second ∷ [])) (rows-here _ table rows),
       λ h. not-both _ (c .behind .ensures ∙ ap (movedBy (cappedBehind _)) told) h,
     )
@@ -165,16 +165,16 @@ make-rows-spec =
     loop-holds
     mul-f
     array-copy-out-f
-    takes-requires
+    given-width-requires
     add-next
-    sub-put
-    part-put-start
-    part-put-end
+    sub-put-field
+    part-put-field-start
+    part-put-field-end
     amount-at-requires
-    sub-put-2
-    part-put-start-2
-    part-put-end-2
-    put-requires
+    sub-put-field-2
+    part-put-field-start-2
+    part-put-field-end-2
+    put-field-requires
     enum-told
     used-after-requires
     add-i

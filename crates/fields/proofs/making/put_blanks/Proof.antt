@@ -3,7 +3,7 @@ use Prim.Native.Nat.{_≤_, _-_}
 use mathlib.Core.Path.{_∙_, _≡_, refl}
 use borrow.Author.Needs.{needs}
 use lib.ListN.{length-set, length, take, replicate}
-use Rattle.fields.proofs.Makes.{blank-end, blank-step}
+use Rattle.fields.proofs.Writes.{blank-end, blank-step}
 use Rattle.fields.proofs.making.put_blanks.Statement.{statement}
 use Rattle.fields.proofs.making.put_blanks.Tie as tie
 

@@ -3,8 +3,8 @@ use borrow.Author.Needs.{needs}
 use Rattle.fields.proofs.making.put_service.Statement.{statement}
 use Rattle.fields.proofs.making.put_service.Tie as tie
 
-second-byte-requires : tie.Need-second-byte-requires
-second-byte-requires c κs = search needs
+byte-at-requires : tie.Need-byte-at-requires
+byte-at-requires c κs = search needs
 
 service-requires : tie.Need-service-requires
 service-requires c κs = search needs
@@ -19,13 +19,13 @@ same-length : tie.Need-same-length
 same-length c = search needs
 
 returns : tie.Need-returns
-returns c = rw (c .before .before .copy-all .ensures, c .before .before .before .before .before .service .ensures, c .before .before .before .before .before .before .second-byte .ensures)
+returns c = rw (c .before .before .copy-all .ensures, c .before .before .before .before .before .service .ensures, c .before .before .before .before .before .before .byte-at .ensures)
 
 pub put-service-spec : {M : Type 1} → statement M
 put-service-spec =
     tie.close
     (tie.spec
-    second-byte-requires
+    byte-at-requires
     service-requires
     slice-aggregate-copy-all
     copy-all-requires

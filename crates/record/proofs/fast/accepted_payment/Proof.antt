@@ -28,8 +28,8 @@ returns-3 c =
     let undated = sym (c .before .is-dated .ensures) ∙ not-true _ (c .if3 .taken) in
     not-dated (sized .before .before .args .rec .now) (sized .if1 .left) undated .0
 
-part-of-requires : tie.Need-part-of-requires
-part-of-requires c κs = search needs
+field-bytes-requires : tie.Need-field-bytes-requires
+field-bytes-requires c κs = search needs
 
 accepted-issuer-requires : tie.Need-accepted-issuer-requires
 accepted-issuer-requires c κs = search needs
@@ -37,8 +37,8 @@ accepted-issuer-requires c κs = search needs
 enum-known-issuer : tie.Need-enum-known-issuer
 enum-known-issuer c = search needs
 
-number-of-requires : tie.Need-number-of-requires
-number-of-requires c κs = search needs
+number-in-requires : tie.Need-number-in-requires
+number-in-requires c κs = search needs
 
 enum-told : tie.Need-enum-told
 enum-told c = search needs
@@ -52,17 +52,17 @@ returns-4 c =
     let sized = looked .before .before in
     let rec = sized .before .before .args .rec .now in
     let part = fieldBytes (rowAt barcodeRow) rec in
-    let to = sym (c .before .before .issuer .given .1) ∙ paid .accepted-issuer .ensures ∙ ap acceptedIssuer (paid .before .part-of .ensures) in
+    let to = sym (c .before .before .issuer .given .1) ∙ paid .accepted-issuer .ensures ∙ ap acceptedIssuer (paid .before .field-bytes .ensures) in
     let looks = sym (looked .before .looks-like-payment .ensures) ∙ not-false _ (looked .if2 .left) in
     let dates = sym (dated .before .is-dated .ensures) ∙ not-false _ (dated .if3 .left) in
-    pays-it rec (sized .if1 .left) looks dates (sym (paid-accepts part to)) (paid-issuer part to) (c .number-of .ensures)
+    pays-it rec (sized .if1 .left) looks dates (sym (paid-accepts part to)) (paid-issuer part to) (c .number-in .ensures)
 
 returns-5 : tie.Need-returns-5
 unfolding rowAt table layoutOf
 returns-5 c =
     let paid = c .before .before in
     let sized = paid .before .before .before .before .before .before in
-    let none = sym (c .enum-told .given .1) ∙ paid .accepted-issuer .ensures ∙ ap acceptedIssuer (paid .before .part-of .ensures) in
+    let none = sym (c .enum-told .given .1) ∙ paid .accepted-issuer .ensures ∙ ap acceptedIssuer (paid .before .field-bytes .ensures) in
     no-payee (sized .before .before .args .rec .now) (sized .if1 .left) none .0
 
 pub accepted-payment-spec : {M : Type 1} → statement M
@@ -74,10 +74,10 @@ accepted-payment-spec =
     returns-2
     is-dated-requires
     returns-3
-    part-of-requires
+    field-bytes-requires
     accepted-issuer-requires
     enum-known-issuer
-    number-of-requires
+    number-in-requires
     enum-told
     returns-4
     returns-5)

@@ -18,8 +18,8 @@ looks-like-payment-requires c κs = search needs
 returns-2 : tie.Need-returns-2
 returns-2 c = not-looking (c .before .before .before .before .args .rec .now) (c .before .before .if1 .left) (sym (c .before .looks-like-payment .ensures) ∙ not-true _ (c .if2 .taken)) .1
 
-date-of-requires : tie.Need-date-of-requires
-date-of-requires c κs = search needs
+date-in-requires : tie.Need-date-in-requires
+date-in-requires c κs = search needs
 
 enum-known-paid : tie.Need-enum-known-paid
 enum-known-paid c = search needs
@@ -32,11 +32,11 @@ unfolding rowAt table layoutOf
 returns-3 c =
     let read = c .before .before in
     let sized = read .before .before .before in
-    let none = sym (read .date-of .ensures) ∙ c .enum-told .given .1 in
+    let none = sym (read .date-in .ensures) ∙ c .enum-told .given .1 in
     no-payment-date (sized .before .before .args .rec .now) (sized .if1 .left) none .1
 
-date-of-requires-2 : tie.Need-date-of-requires-2
-date-of-requires-2 c κs = search needs
+date-in-requires-2 : tie.Need-date-in-requires-2
+date-in-requires-2 c κs = search needs
 
 enum-known-credited : tie.Need-enum-known-credited
 enum-known-credited c = search needs
@@ -49,23 +49,23 @@ unfolding rowAt table layoutOf
 returns-4 c =
     let read = c .before .before in
     let sized = read .before .before .before .before .before .before .before in
-    let none = sym (read .date-of2 .ensures) ∙ c .enum-told2 .given .1 in
+    let none = sym (read .date-in2 .ensures) ∙ c .enum-told2 .given .1 in
     no-credit-date (sized .before .before .args .rec .now) (sized .if1 .left) none .1
 
-barcode-of-requires : tie.Need-barcode-of-requires
-barcode-of-requires c κs = search needs
+barcode-in-requires : tie.Need-barcode-in-requires
+barcode-in-requires c κs = search needs
 
 enum-known-barcode : tie.Need-enum-known-barcode
 enum-known-barcode c = search needs
 
-number-of-requires : tie.Need-number-of-requires
-number-of-requires c κs = search needs
+number-in-requires : tie.Need-number-in-requires
+number-in-requires c κs = search needs
 
-number-of-requires-2 : tie.Need-number-of-requires-2
-number-of-requires-2 c κs = search needs
+number-in-requires-2 : tie.Need-number-in-requires-2
+number-in-requires-2 c κs = search needs
 
-number-of-requires-3 : tie.Need-number-of-requires-3
-number-of-requires-3 c κs = search needs
+number-in-requires-3 : tie.Need-number-in-requires-3
+number-in-requires-3 c κs = search needs
 
 enum-told-3 : tie.Need-enum-told-3
 enum-told-3 c = search needs
@@ -80,20 +80,20 @@ returns-5 c =
     let sized = looked .before .before in
     let rec = sized .before .before .args .rec .now in
     let part = fieldBytes (rowAt barcodeRow) rec in
-    let paid = sym (pay .date-of .ensures) ∙ credit .before .before .paid .given .1 in
-    let credited = sym (credit .date-of2 .ensures) ∙ code .before .before .credited .given .1 in
-    let told = read-tells part (sym (c .before .before .before .before .barcode .given .1) ∙ code .barcode-of .ensures) in
+    let paid = sym (pay .date-in .ensures) ∙ credit .before .before .paid .given .1 in
+    let credited = sym (credit .date-in2 .ensures) ∙ code .before .before .credited .given .1 in
+    let told = read-tells part (sym (c .before .before .before .before .barcode .given .1) ∙ code .barcode-in .ensures) in
     let looks = sym (looked .before .looks-like-payment .ensures) ∙ not-false _ (looked .if2 .left) in
     let dates = both-dates rec (sized .if1 .left) paid credited in
     shows-it rec (sized .if1 .left) looks dates (told .0) paid credited (told .1)
-    (c .before .before .number-of .ensures) (c .before .number-of2 .ensures) (c .number-of3 .ensures)
+    (c .before .before .number-in .ensures) (c .before .number-in2 .ensures) (c .number-in3 .ensures)
 
 returns-6 : tie.Need-returns-6
 unfolding rowAt table layoutOf
 returns-6 c =
     let code = c .before .before in
     let sized = code .before .before .before .before .before .before .before .before .before .before .before in
-    let none = sym (c .enum-told3 .given .1) ∙ code .barcode-of .ensures in
+    let none = sym (c .enum-told3 .given .1) ∙ code .barcode-in .ensures in
     no-code (sized .before .before .args .rec .now) (sized .if1 .left) none .1
 
 pub decode-payment-spec : {M : Type 1} → statement M
@@ -103,19 +103,19 @@ decode-payment-spec =
     returns
     looks-like-payment-requires
     returns-2
-    date-of-requires
+    date-in-requires
     enum-known-paid
     enum-told
     returns-3
-    date-of-requires-2
+    date-in-requires-2
     enum-known-credited
     enum-told-2
     returns-4
-    barcode-of-requires
+    barcode-in-requires
     enum-known-barcode
-    number-of-requires
-    number-of-requires-2
-    number-of-requires-3
+    number-in-requires
+    number-in-requires-2
+    number-in-requires-3
     enum-told-3
     returns-5
     returns-6)

@@ -11,8 +11,8 @@ use Rattle.record.proofs.FastPath.{capture-fails, form-is}
 use Rattle.record.proofs.fast.is_coded.Statement.{statement}
 use Rattle.record.proofs.fast.is_coded.Tie as tie
 
-part-of-requires : tie.Need-part-of-requires
-part-of-requires c κs = search needs
+field-bytes-requires : tie.Need-field-bytes-requires
+field-bytes-requires c κs = search needs
 
 byte-at-requires : tie.Need-byte-at-requires
 byte-at-requires c κs = search needs
@@ -24,11 +24,11 @@ returns : tie.Need-returns
 unfolding rowAt table layoutOf
 returns c =
     let part = c .before .before .before in
-    let byte = c .before .before .byte-at .ensures ∙ ap (λ (l : List ℕ). getD l 0 0) (part .part-of .ensures) in
+    let byte = c .before .before .byte-at .ensures ∙ ap (λ (l : List ℕ). getD l 0 0) (part .field-bytes .ensures) in
     capture-fails (part .before .before .args .rec .now) (c .before .is-capture .ensures ∙ ap isCapture byte) (not-true _ (c .if1 .taken))
 
-part-of-requires-2 : tie.Need-part-of-requires-2
-part-of-requires-2 c κs = search needs
+field-bytes-requires-2 : tie.Need-field-bytes-requires-2
+field-bytes-requires-2 c κs = search needs
 
 byte-at-requires-2 : tie.Need-byte-at-requires-2
 byte-at-requires-2 c κs = search needs
@@ -41,9 +41,9 @@ unfolding rowAt table layoutOf
 returns-2 c =
     let capture = c .before .before .before in
     let part = capture .before .before .before in
-    let byte = capture .before .before .byte-at .ensures ∙ ap (λ (l : List ℕ). getD l 0 0) (part .part-of .ensures) in
+    let byte = capture .before .before .byte-at .ensures ∙ ap (λ (l : List ℕ). getD l 0 0) (part .field-bytes .ensures) in
     let captured = capture .before .is-capture .ensures ∙ ap isCapture byte in
-    let other = c .before .byte-at2 .ensures ∙ ap (λ (l : List ℕ). getD l 0 0) (c .before .before .part-of2 .ensures) in
+    let other = c .before .byte-at2 .ensures ∙ ap (λ (l : List ℕ). getD l 0 0) (c .before .before .field-bytes2 .ensures) in
     let formed = c .is-form .ensures ∙ ap isForm other in
     form-is (part .before .before .args .rec .now) captured (not-false _ (capture .if1 .left)) formed
 
@@ -51,11 +51,11 @@ pub is-coded-spec : {M : Type 1} → statement M
 is-coded-spec =
     tie.close
     (tie.spec
-    part-of-requires
+    field-bytes-requires
     byte-at-requires
     is-capture-requires
     returns
-    part-of-requires-2
+    field-bytes-requires-2
     byte-at-requires-2
     is-form-requires
     returns-2)

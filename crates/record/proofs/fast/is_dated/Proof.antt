@@ -9,18 +9,18 @@ use borrow.Author.Needs.{needs}
 use Rattle.record.proofs.fast.is_dated.Statement.{statement}
 use Rattle.record.proofs.fast.is_dated.Tie as tie
 
-part-of-requires : tie.Need-part-of-requires
-part-of-requires c κs = search needs
+field-bytes-requires : tie.Need-field-bytes-requires
+field-bytes-requires c κs = search needs
 
 is-date-text-requires : tie.Need-is-date-text-requires
 is-date-text-requires c κs = search needs
 
 returns : tie.Need-returns
 unfolding rowAt table layoutOf
-returns c = rw (sym (ap (λ (l : List ℕ). isFound (dateOf l)) (c .before .before .part-of .ensures)) ∙ sym (c .before .is-date-text .ensures) ∙ not-true _ (c .if1 .taken))
+returns c = rw (sym (ap (λ (l : List ℕ). isFound (dateOf l)) (c .before .before .field-bytes .ensures)) ∙ sym (c .before .is-date-text .ensures) ∙ not-true _ (c .if1 .taken))
 
-part-of-requires-2 : tie.Need-part-of-requires-2
-part-of-requires-2 c κs = search needs
+field-bytes-requires-2 : tie.Need-field-bytes-requires-2
+field-bytes-requires-2 c κs = search needs
 
 is-date-text-requires-2 : tie.Need-is-date-text-requires-2
 is-date-text-requires-2 c κs = search needs
@@ -29,17 +29,17 @@ returns-2 : tie.Need-returns-2
 unfolding rowAt table layoutOf
 returns-2 c =
     let first = c .before .before in
-    let date = ap (λ (l : List ℕ). isFound (dateOf l)) (first .before .before .part-of .ensures) in
+    let date = ap (λ (l : List ℕ). isFound (dateOf l)) (first .before .before .field-bytes .ensures) in
     let is-one = sym date ∙ sym (first .before .is-date-text .ensures) ∙ not-false _ (first .if1 .left) in
-    rw is-one (c .is-date-text2 .ensures ∙ ap (λ (l : List ℕ). isFound (dateOf l)) (c .before .part-of2 .ensures))
+    rw is-one (c .is-date-text2 .ensures ∙ ap (λ (l : List ℕ). isFound (dateOf l)) (c .before .field-bytes2 .ensures))
 
 pub is-dated-spec : {M : Type 1} → statement M
 is-dated-spec =
     tie.close
     (tie.spec
-    part-of-requires
+    field-bytes-requires
     is-date-text-requires
     returns
-    part-of-requires-2
+    field-bytes-requires-2
     is-date-text-requires-2
     returns-2)

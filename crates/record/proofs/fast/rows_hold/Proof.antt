@@ -18,26 +18,26 @@ abbrev μ-loop : tie.MeasureT-loop
 loop-holds : tie.Need-loop-holds Inv-loop μ-loop
 loop-holds c = (search needs, refl)
 
-shared-slice-read-flag-of : tie.Need-shared-slice-read-flag-of Inv-loop μ-loop
-shared-slice-read-flag-of c = search needs
+shared-slice-read-column-error-bit : tie.Need-shared-slice-read-column-error-bit Inv-loop μ-loop
+shared-slice-read-column-error-bit c = search needs
 
-shared-slice-read-flag-of-2 : tie.Need-shared-slice-read-flag-of-2 Inv-loop μ-loop
-shared-slice-read-flag-of-2 c = search needs
+shared-slice-read-column-error-bit-2 : tie.Need-shared-slice-read-column-error-bit-2 Inv-loop μ-loop
+shared-slice-read-column-error-bit-2 c = search needs
 
-shared-slice-read-flag-of-3 : tie.Need-shared-slice-read-flag-of-3 Inv-loop μ-loop
-shared-slice-read-flag-of-3 c = search needs
+shared-slice-read-column-error-bit-3 : tie.Need-shared-slice-read-column-error-bit-3 Inv-loop μ-loop
+shared-slice-read-column-error-bit-3 c = search needs
 
-shared-slice-read-flag-of-4 : tie.Need-shared-slice-read-flag-of-4 Inv-loop μ-loop
-shared-slice-read-flag-of-4 c = search needs
+shared-slice-read-column-error-bit-4 : tie.Need-shared-slice-read-column-error-bit-4 Inv-loop μ-loop
+shared-slice-read-column-error-bit-4 c = search needs
 
-shared-slice-read-flag-of-5 : tie.Need-shared-slice-read-flag-of-5 Inv-loop μ-loop
-shared-slice-read-flag-of-5 c = search needs
+shared-slice-read-column-error-bit-5 : tie.Need-shared-slice-read-column-error-bit-5 Inv-loop μ-loop
+shared-slice-read-column-error-bit-5 c = search needs
 
-shared-slice-read-flag-of-6 : tie.Need-shared-slice-read-flag-of-6 Inv-loop μ-loop
-shared-slice-read-flag-of-6 c = search needs
+shared-slice-read-column-error-bit-6 : tie.Need-shared-slice-read-column-error-bit-6 Inv-loop μ-loop
+shared-slice-read-column-error-bit-6 c = search needs
 
-flag-of-requires : tie.Need-flag-of-requires Inv-loop μ-loop
-flag-of-requires c κs = search needs
+column-error-bit-requires : tie.Need-column-error-bit-requires Inv-loop μ-loop
+column-error-bit-requires c κs = search needs
 
 add-i : tie.Need-add-i Inv-loop μ-loop
 add-i c = search needs
@@ -51,7 +51,7 @@ loop-again c =
     let start = loop .before .before .before .before .before .before .before in
     let a = start .args in
     let l = loop .loop in
-    (search needs, rows-step (a .a .now) (a .b .now) (a .c .now) (a .d .now) (a .e .now) (a .f .now) (start .pre) (l .i) (l .flags) (search needs) (c .flag-of .ensures) (l .inv .1))
+    (search needs, rows-step (a .a .now) (a .b .now) (a .c .now) (a .d .now) (a .e .now) (a .f .now) (start .pre) (l .i) (l .flags) (search needs) (c .column-error-bit .ensures) (l .inv .1))
 
 returns : tie.Need-returns Inv-loop μ-loop
 returns c =
@@ -67,13 +67,13 @@ rows-hold-spec =
     Inv-loop
     μ-loop
     loop-holds
-    shared-slice-read-flag-of
-    shared-slice-read-flag-of-2
-    shared-slice-read-flag-of-3
-    shared-slice-read-flag-of-4
-    shared-slice-read-flag-of-5
-    shared-slice-read-flag-of-6
-    flag-of-requires
+    shared-slice-read-column-error-bit
+    shared-slice-read-column-error-bit-2
+    shared-slice-read-column-error-bit-3
+    shared-slice-read-column-error-bit-4
+    shared-slice-read-column-error-bit-5
+    shared-slice-read-column-error-bit-6
+    column-error-bit-requires
     add-i
     loop-less
     loop-again

@@ -6,14 +6,14 @@ use borrow.Author.Needs.{needs}
 use Rattle.answer.specs.Orders.{movedBy, cappedBehind}
 use Rattle.answer.proofs.Orders.{behind-is-held}
 use Rattle.kinds.proofs.KindLaws.{kind-place}
-use Rattle.record.proofs.Shown.{part-length}
+use Rattle.record.proofs.FieldBytes.{part-length}
 use Rattle.kinds.specs.Kinds.{kindAnswer}
 use Rattle.record.specs.Records.{fieldBytes, fieldAnswer}
 use Rattle.record.proofs.walk.field_answer.Statement.{statement}
 use Rattle.record.proofs.walk.field_answer.Tie as tie
 
-part-of-requires : tie.Need-part-of-requires
-part-of-requires c κs = search needs
+field-bytes-requires : tie.Need-field-bytes-requires
+field-bytes-requires c κs = search needs
 
 check-requires : tie.Need-check-requires
 check-requires c κs = search needs
@@ -29,7 +29,7 @@ unfolding fieldAnswer
 returns c =
     let s = c .before .before .before .before .before in
     let f = s .args .f in
-    let k = c .before .before .check .ensures ∙ ap (kindAnswer (f .kind)) (c .before .before .before .part-of .ensures) in
+    let k = c .before .before .check .ensures ∙ ap (kindAnswer (f .kind)) (c .before .before .before .field-bytes .ensures) in
     let bs = fieldBytes f (s .args .rec .now) in
     let n = part-length f (s .args .rec .now) (s .pre .1) (s .pre .0) in
     let near = kind-place (f .kind) bs (omega (arith, n, s .pre .1 .end)) in
@@ -38,4 +38,4 @@ returns c =
 
 pub field-answer-spec : {M : Type 1} → statement M
 field-answer-spec =
-    tie.close (tie.spec part-of-requires check-requires sub-behind behind-requires returns)
+    tie.close (tie.spec field-bytes-requires check-requires sub-behind behind-requires returns)

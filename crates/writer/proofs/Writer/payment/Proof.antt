@@ -7,7 +7,7 @@ use Rattle.answer.proofs.Orders.{accepted-takes}
 use Rattle.file.specs.declared.FileResult.{FileResult}
 use Rattle.layout.specs.declared.Record.the-variants.{Payment}
 use Rattle.layout.specs.Layouts.{recordLength}
-use Rattle.fields.proofs.Makes.{made-copied}
+use Rattle.fields.proofs.Writes.{made-copied}
 use Rattle.writer.proofs.Doors.{door-room, made-told}
 use Rattle.writer.proofs.Writer.payment.Statement.{statement}
 use Rattle.writer.proofs.Writer.payment.Tie as tie

@@ -1,0 +1,142 @@
+// The operations on one record alone. A G that the fast path recognizes is accepted and needs no walk; of everything
+// else the walk finds the first refusal, or that it is an accepted A or Z.
+ghost use mathlib.Core.Bool.{false};
+ghost use mathlib.Core.Path.{_≡_};
+ghost use lib.ListN.{length, getD};
+ghost use Rattle.answer.specs.declared.Answer.the-variants as answers;
+ghost use Rattle.layout.specs.declared.Record.the-variants as layouts;
+ghost use Rattle.layout.specs.Layouts.{recordLength, namedBy};
+ghost use Rattle.record.specs.Records.{isPayment, layoutAnswer, recordAnswer};
+ghost use Rattle.record.specs.Values.{dayOf, headerShown, trailerShown, recordShown, decodedRecord};
+ghost use Rattle.record.specs.Values.{hasRow, fieldIn, shownField};
+use crate::Decoded;
+use crate::Header;
+use crate::PaymentDue;
+use crate::Trailer;
+use crate::fast;
+use crate::fast::FastDecoded;
+use crate::parts;
+use crate::walk;
+use answer::Answer;
+use answer::Reason;
+use calendar::Date;
+use calendar::MaybeDate;
+use layout::MaybeRecord;
+use layout::Record;
+use layout::a;
+use layout::z;
+
+// The answer to a record alone, of any length: accepted, or the first refusal with its place in the record.
+pub fn check(rec: &[u8]) -> Answer
+    ensures { λ r. ⌜ r ≡ recordAnswer (now (rec .entry)) ⌝ }
+{
+    match fast::accepted_payment(rec) {
+        PaymentDue::To(_, _) => Answer::Accepted,
+        PaymentDue::Nothing => walk::check_in_order(rec),
+    }
+}
+
+// A date that was found; 0/0/0 for none, which an accepted record never shows.
+fn day_of(found: MaybeDate) -> Date
+    ensures { λ r. ⌜ r ≡ dayOf found ⌝ }
+{
+    match found {
+        MaybeDate::On(date) => date,
+        MaybeDate::NoDate => Date {
+            year: 0,
+            month: 0,
+            day: 0,
+        },
+    }
+}
+
+// What an accepted A shows: its numbers are known to be digits.
+fn read_header(rec: &[u8]) -> Header
+    requires { ⌜ length (now rec) ≡ recordLength ⌝ }
+    requires { ⌜ layoutAnswer layouts.Header (now rec) ≡ answers.Accepted ⌝ }
+    ensures { λ r. ⌜ r ≡ headerShown (now (rec .entry)) ⌝ }
+{
+    Header {
+        bank: parts::number_in(rec, a::BANK),
+        date: day_of(parts::date_in(rec, a::DATE)),
+        sequence: parts::number_in(rec, a::SEQUENCE),
+    }
+}
+
+// What an accepted Z shows.
+fn read_trailer(rec: &[u8]) -> Trailer
+    requires { ⌜ length (now rec) ≡ recordLength ⌝ }
+    requires { ⌜ layoutAnswer layouts.Trailer (now rec) ≡ answers.Accepted ⌝ }
+    ensures { λ r. ⌜ r ≡ trailerShown (now (rec .entry)) ⌝ }
+{
+    Trailer {
+        count: parts::number_in(rec, z::COUNT),
+        total: parts::number_in(rec, z::TOTAL),
+    }
+}
+
+// What an accepted A or Z shows. The two other cases never occur here: the fast path decodes every accepted G.
+fn header_or_trailer(rec: &[u8]) -> Decoded
+    requires { ⌜ recordAnswer (now rec) ≡ answers.Accepted ⌝ }
+    requires { ⌜ isPayment (namedBy (getD (now rec) 0 0)) ≡ false ⌝ }
+    ensures { λ r. ⌜ r ≡ recordShown (namedBy (getD (now (rec .entry)) 0 0)) (now (rec .entry)) ⌝ }
+{
+    let none = Decoded::Refused(Reason::NotExpected, 1);
+    match layout::named_by(rec[0]) {
+        MaybeRecord::Is(which) => match which {
+            Record::Header => Decoded::Header(read_header(rec)),
+            Record::Payment => none,
+            Record::Trailer => Decoded::Trailer(read_trailer(rec)),
+        },
+        MaybeRecord::Other => none,
+    }
+}
+
+// Everything that a record shows, or why and where it is refused; `check` gives the same refusal. Any length is taken.
+pub fn decode(rec: &[u8]) -> Decoded
+    ensures { λ r. ⌜ r ≡ decodedRecord (now (rec .entry)) ⌝ }
+{
+    match fast::decode_payment(rec) {
+        FastDecoded::Other => match walk::check_in_order(rec) {
+            Answer::Refused(why, place) => Decoded::Refused(why, place),
+            Answer::Accepted => header_or_trailer(rec),
+        },
+        FastDecoded::Paid(payment) => Decoded::Payment(payment),
+    }
+}
+
+// Whether a row of the table is one of the record that a first byte names.
+fn has_row(named: MaybeRecord, row: usize) -> bool
+    ensures { λ r. ⌜ r ≡ hasRow named row ⌝ }
+{
+    match named {
+        MaybeRecord::Is(which) => {
+            let rows = layout::rows_of(which);
+            rows.from <= row && row < rows.to
+        }
+        MaybeRecord::Other => false,
+    }
+}
+
+// The bytes at a row of the named record; none for a row of another record or past the table.
+fn field_of_row(rec: &[u8], row: usize) -> &[u8]
+    requires { ⌜ length (now rec) ≡ recordLength ⌝ }
+    ensures { λ r. ⌜ now r ≡ fieldIn (namedBy (getD (now (rec .entry)) 0 0)) row (now (rec .entry)) ⌝ }
+{
+    if has_row(layout::named_by(rec[0]), row) {
+        parts::field_bytes(rec, layout::row(row))
+    } else {
+        &rec[0..0]
+    }
+}
+
+// A field of an accepted record by its row in layout's table, as a part of the caller's bytes. The part is empty for a
+// refused record, for a row of another record and for a row past the table.
+pub fn field(rec: &[u8], row: usize) -> &[u8]
+    ensures { λ r. ⌜ now r ≡ shownField row (now (rec .entry)) ⌝ }
+{
+    match check(rec) {
+        Answer::Accepted => field_of_row(rec, row),
+        Answer::Refused(_, _) => &rec[0..0],
+    }
+}
