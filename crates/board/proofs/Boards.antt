@@ -20,7 +20,7 @@ use Rattle.board.specs.declared.Tally.{Tally}
 use Rattle.board.specs.declared.Lane.{Lane}
 use Rattle.board.specs.declared.Board.{Board}
 use Rattle.board.proofs.Tallies.{low, low-fits, plus-swap, plus-groups, plus-none}
-use Rattle.board.proofs.Find.{index-within}
+use Rattle.board.proofs.Searches.{index-within}
 use Rattle.board.proofs.Lanes.{place-kept, sum-is-kept, one-payment-more}
 use Rattle.board.proofs.Posting.{place-found, place-new, length-lanes, Fit, fit, with-placed, with-sound, stays-sound}
 use Rattle.board.specs.Lanes.{mostLanes, none, plus, fits, isLaneOf, grown, place, placedAll, lanesFrom, tallySum, issuersOf, isAmong}

@@ -18,7 +18,7 @@ use Rattle.board.specs.declared.Board.{Board}
 use Rattle.board.specs.declared.Slot.{Slot}
 use Rattle.board.specs.Lanes.{mostLanes, sameIssuer, isLaneOf}
 use Rattle.board.specs.Boards.{blank, lanesOf, indexOf, slotAt, usedAfter, grownSlot, slotAnswer, slotResultOf}
-use Rattle.board.proofs.Find.{in-use, index-within}
+use Rattle.board.proofs.Searches.{in-use, index-within}
 use Rattle.board.proofs.Lanes.{same-is}
 
 -- the place is the first that has its issuer

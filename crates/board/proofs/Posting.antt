@@ -20,7 +20,7 @@ use Rattle.board.specs.declared.Tally.{Tally}
 use Rattle.board.specs.declared.Lane.{Lane}
 use Rattle.board.specs.declared.Board.{Board}
 use Rattle.board.proofs.Tallies.{low, low-fits, alike, plus-swap}
-use Rattle.board.proofs.Find.{index-within}
+use Rattle.board.proofs.Searches.{index-within}
 use Rattle.board.proofs.Lanes.{place-distinct, place-kept}
 use Rattle.board.specs.Lanes.{mostLanes, none, plus, fits, isLaneOf, grown, place, tallySum}
 use Rattle.board.specs.Boards.{blank, lanesOf, indexOf, slotOf, ownOf, usedAfter, grownSlot, slotAnswer, postAnswer, boardWith, SoundBoard, RefusalKeepsBoard, PostPlaces, StaysSound}

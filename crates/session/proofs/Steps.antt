@@ -18,7 +18,7 @@ use Rattle.record.specs.declared.Decoded.{Decoded}
 use Rattle.record.specs.Values.{decodedRecord}
 use Rattle.session.specs.declared.Session.{Session}
 use Rattle.session.specs.declared.TakeResult.{TakeResult}
-use Rattle.session.specs.Sessions.{applyAnswer, nextSession, takeResult}
+use Rattle.session.specs.Sessions.{sessionAnswer, sessionWith, takeResult}
 
 -- an answer handed on, with the session as it was or with the next
 pub took-refused : {a b : Answer} {why : Reason} {p : ℕ} (new old : Session) → a ≡ b → a ≡ Refused why p
@@ -54,6 +54,6 @@ taken-file {r} f x e h =
     ap (λ (t : FileResult). t .file) e ∙ rw g
 
 -- a record that was decoded as this
-pub met : (s : Session) (rec : List ℕ) {e d : Decoded} {r : TakeResult} → e ≡ decodedRecord rec → e ≡ d → r ≡ takeResult (applyAnswer s d) (nextSession s d) s
-    → r ≡ takeResult (applyAnswer s (decodedRecord rec)) (nextSession s (decodedRecord rec)) s
+pub met : (s : Session) (rec : List ℕ) {e d : Decoded} {r : TakeResult} → e ≡ decodedRecord rec → e ≡ d → r ≡ takeResult (sessionAnswer s d) (sessionWith s d) s
+    → r ≡ takeResult (sessionAnswer s (decodedRecord rec)) (sessionWith s (decodedRecord rec)) s
 met s rec {e} {d} q f h = let g : decodedRecord rec ≡ d = sym q ∙ f in rw g h
