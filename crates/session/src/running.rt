@@ -31,6 +31,7 @@ impl Session {
         ensures { λ r. ⌜ r ≡ runOf self (now (bytes .entry)) ⌝ }
     {
         let mut session = self;
+        let mut answer = Answer::Accepted;
         let mut records: u64 = 0;
         let mut files: u64 = 0;
         let mut at: usize = 0;
@@ -43,28 +44,24 @@ impl Session {
             records += paid.progress.records;
             at += paid.progress.at;
             if bytes.len() <= at {
-                return RunResult {
-                    answer: Answer::Accepted,
-                    session,
-                    records,
-                    files,
-                };
+                break;
             }
             let end = pieces::piece_end(at, bytes.len());
             let took = session.take(&bytes[at..end]);
-            let answer = took.answer;
+            answer = took.answer;
             let Answer::Accepted = answer else {
-                return RunResult {
-                    answer,
-                    session,
-                    records,
-                    files,
-                };
+                break;
             };
             session = took.session;
             files += files_closed(layout::named_by(bytes[at]));
             records += 1;
             at = end;
+        }
+        RunResult {
+            answer,
+            session,
+            records,
+            files,
         }
     }
 }

@@ -1,9 +1,10 @@
 -- `session::Session::run` meets its contract. Assumes nothing.
 use Prim.Native.Nat.{_≤_, _-_}
-use mathlib.Core.Path.{_≡_, ap, _∙_}
+use mathlib.Core.Path.{_≡_, refl, ap, _∙_}
 use native.Mathlib.Omega.{arith}
 use borrow.Author.Needs.{needs}
 use lib.ListN.{length, drop}
+use Rattle.answer.specs.declared.Answer.the-variants.{Accepted}
 use Rattle.session.proofs.Runs.{counts-none, run-paid, run-stops, run-goes, run-ends}
 use Rattle.session.specs.Runs.{filesClosed, addCounts, runOf}
 use Rattle.session.specs.LeadingPayments.{withLeading}
@@ -11,14 +12,15 @@ use Rattle.session.proofs.Session.run.Statement.{statement}
 use Rattle.session.proofs.Session.run.Tie as tie
 
 abbrev Inv-loop : tie.InvT-loop
-Inv-loop bytes session₀ records₀ files₀ at₀ session records files at =
+Inv-loop bytes session₀ answer₀ records₀ files₀ at₀ session answer records files at =
     (at ≤ length bytes) × (records ≤ at) × (files ≤ records) × (addCounts records files (runOf session (drop at bytes)) ≡ runOf session₀ bytes)
+    × (answer ≡ Accepted)
 
 abbrev μ-loop : tie.MeasureT-loop
-μ-loop bytes session₀ records₀ files₀ at₀ session records files at = length bytes - at
+μ-loop bytes session₀ answer₀ records₀ files₀ at₀ session answer records files at = length bytes - at
 
 loop-holds : tie.Need-loop-holds Inv-loop μ-loop
-loop-holds c = (search needs, search needs, search needs, counts-none (runOf (c .before .args .self) (c .before .args .bytes .now)))
+loop-holds c = (search needs, search needs, search needs, counts-none (runOf (c .before .args .self) (c .before .args .bytes .now)), refl)
 
 sub-take-leading-payments : tie.Need-sub-take-leading-payments Inv-loop μ-loop
 sub-take-leading-payments c = search needs
@@ -37,13 +39,6 @@ add-records c = search needs
 
 add-at : tie.Need-add-at Inv-loop μ-loop
 add-at c = search needs
-
-returns : tie.Need-returns Inv-loop μ-loop
-returns c =
-    let paid = c .before .before .before .before .before .take-leading-payments in
-    let l = c .before .before .before .before .before .before .before .loop in
-    let a = c .before .before .before .before .before .before .before .before .before .args in
-    run-ends (a .self) (withLeading (l .session) (paid .result)) (a .bytes .now) _ _ _ (run-paid (a .self) (l .session) (a .bytes .now) (l .at) (l .records) (l .files) (l .inv .3) (paid .ensures)) (c .if1 .taken)
 
 piece-end-requires : tie.Need-piece-end-requires Inv-loop μ-loop
 piece-end-requires c κs = search needs
@@ -65,14 +60,6 @@ enum-told c = search needs
 
 enum-told-2 : tie.Need-enum-told-2 Inv-loop μ-loop
 enum-told-2 c = search needs
-
-returns-2 : tie.Need-returns-2 Inv-loop μ-loop
-returns-2 c =
-    let paid = c .before .before .before .before .before .before .before .before .before .before .take-leading-payments in
-    let l = c .before .before .before .before .before .before .before .before .before .before .before .before .loop in
-    let a = c .before .before .before .before .before .before .before .before .before .before .before .before .before .before .args in
-    run-stops (a .self) (withLeading (l .session) (paid .result)) (a .bytes .now) _ _ _ (run-paid (a .self) (l .session) (a .bytes .now) (l .at) (l .records) (l .files) (l .inv .3) (paid .ensures))
-    (c .before .before .before .before .before .if1 .left) (c .before .before .before .before .piece-end .ensures .0) (c .before .before .take .ensures) (c .enum-told2 .given .1)
 
 shared-slice-read-named-by : tie.Need-shared-slice-read-named-by Inv-loop μ-loop
 shared-slice-read-named-by c = search needs
@@ -109,7 +96,24 @@ loop-again c =
       omega (arith, c .files-closed .ensures .1, l .inv .2),
       run-goes (a .self) (withLeading (l .session) (paid .result)) (a .bytes .now) _ _ _ (run-paid (a .self) (l .session) (a .bytes .now) (l .at) (l .records) (l .files) (l .inv .3) (paid .ensures))
           (cut .before .if1 .left) (e .0) (c .before .before .before .before .before .before .take .ensures) (c .before .before .before .before .enum-told .given .1) (c .files-closed .ensures .0 ∙ ap filesClosed (c .before .named-by .ensures)),
+      c .before .before .before .before .enum-told .given .1,
     )
+
+returns : tie.Need-returns Inv-loop μ-loop
+returns c =
+    let paid = c .before .before .before .before .before .take-leading-payments in
+    let l = c .before .before .before .before .before .before .before .loop in
+    let a = c .before .before .before .before .before .before .before .before .before .args in
+    rw (l .inv .4)
+    (run-ends (a .self) (withLeading (l .session) (paid .result)) (a .bytes .now) _ _ _ (run-paid (a .self) (l .session) (a .bytes .now) (l .at) (l .records) (l .files) (l .inv .3) (paid .ensures)) (c .if1 .taken))
+
+returns-2 : tie.Need-returns-2 Inv-loop μ-loop
+returns-2 c =
+    let paid = c .before .before .before .before .before .before .before .before .before .before .take-leading-payments in
+    let l = c .before .before .before .before .before .before .before .before .before .before .before .before .loop in
+    let a = c .before .before .before .before .before .before .before .before .before .before .before .before .before .before .args in
+    run-stops (a .self) (withLeading (l .session) (paid .result)) (a .bytes .now) _ _ _ (run-paid (a .self) (l .session) (a .bytes .now) (l .at) (l .records) (l .files) (l .inv .3) (paid .ensures))
+    (c .before .before .before .before .before .if1 .left) (c .before .before .before .before .piece-end .ensures .0) (c .before .before .take .ensures) (c .enum-told2 .given .1)
 
 pub run-spec : {M : Type 1} → statement M
 run-spec =
@@ -124,7 +128,6 @@ run-spec =
     take-leading-payments-requires
     add-records
     add-at
-    returns
     piece-end-requires
     sub-take
     part-take-start
@@ -132,11 +135,12 @@ run-spec =
     take-requires
     enum-told
     enum-told-2
-    returns-2
     shared-slice-read-named-by
     named-by-requires
     files-closed-requires
     add-files
     add-records-2
     loop-less
-    loop-again)
+    loop-again
+    returns
+    returns-2)
