@@ -48,7 +48,7 @@ module _ (b : Board) (full : length (b .lanes) ≡ mostLanes) (i : Issuer) (gues
   unfolding searchOf
   cached-starts {s} e = starts (ltb guess (b .used) && isLaneOf i (getD (b .lanes) guess blank)) refl s e
 
--- a payment posted at its issuer's index, which is noted at some entry
+-- after a payment posted at its issuer's index, which is stored at any entry
 pub caches-on : (b : Board) → length (b .lanes) ≡ mostLanes → (p : Lane) (at : ℕ) → at ≡ indexOf (p .issuer) (lanesOf b) → at < mostLanes → {e : SlotResult}
     → e ≡ slotResultOf (slotAt b at) p → e .answer ≡ Accepted → (cache : List ℕ) (k : ℕ) → k < length cache → Caches b cache
     → Caches (record { lanes = set (b .lanes) at (e .slot .lane); used = e .slot .used; total = e .slot .total }) (set cache k at)

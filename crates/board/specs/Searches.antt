@@ -1,4 +1,4 @@
--- Serves the search of a board that is kept in a local alone (src/searching.rt): the cache of lane indices, and where a search looks. Assumes nothing.
+-- Serves the search of a board kept in a local alone (src/searching.rt): its cache, and where it looks. Assumes nothing.
 use Prim.Native.Nat.{ℕ, min}
 use mathlib.Core.Bool.{cond, _&&_}
 use lib.Dec.{ltb}
@@ -11,7 +11,9 @@ use Rattle.board.specs.Lanes.{mostLanes, isLaneOf}
 abbrev pub cacheLength : ℕ
 cacheLength = 256
 
--- nowhere but at the guess if the lane seen there is in use and the issuer's, else at all lanes in use
+-- over at once if the guess is in use and the lane seen there is the issuer's, else over all lanes in use
 unfoldable pub searchOf : Issuer → ℕ → Lane → ℕ → Search
 searchOf i guess seen used =
-    cond (ltb guess used && isLaneOf i seen) (record { from = guess; to = guess }) (record { from = 0; to = min used mostLanes })
+    cond (ltb guess used && isLaneOf i seen)
+    (record { from = guess; to = guess })
+    (record { from = 0; to = min used mostLanes })

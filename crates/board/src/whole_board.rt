@@ -33,8 +33,8 @@ impl Board {
         }
     }
 
-    // Posts one payment to its issuer's lane, a new one if it has none: the board with the payment, or 17 (a new issuer and
-    // no lane left) or 18 (a number of the lane or of the total would pass the limit) and the board as it was.
+    // Posts one payment to its issuer's lane, a new one if it has none: the board with the payment, or 17 (a new issuer
+    // and no lane left) or 18 (a number of the lane or of the total would pass the limit) and the board as it was.
     pub fn post(mut self, issuer: Issuer, centavos: u64) -> PostResult
         ensures { λ r. ⌜ r ≡ postResultOf self (laneOfOne issuer centavos) ⌝ }
     {

@@ -1,4 +1,4 @@
--- The tie of the fast path to `take`: a payment that is posted in place is accepted, and leaves the same session. Assumes nothing.
+-- Ties the fast path to `take`: a payment posted in place is accepted by it, and leaves the same session. Assumes nothing.
 use Prim.Native.Nat.{ℕ, _+_, _-_, _<_, min}
 use mathlib.Core.Bool.{Bool, true}
 use mathlib.Core.List.{List}
@@ -91,7 +91,7 @@ paid-to (decoded.Payment p) e = record { shown = p; is = refl; to = cc; received
 paid-to (decoded.Trailer t) e = let z : _≡_ {A = ℕ} 0 1 = cc in absurd (omega arith)
 paid-to (decoded.Refused why place) e = let z : _≡_ {A = ℕ} 0 1 = cc in absurd (omega arith)
 
--- what was read, and a file that took it
+-- what was read, and the file that took it
 pub next-is : {opened : Bool} {before : Progress} {bytes : List ℕ} {end : ℕ} → opened ≡ true → before .at < length bytes
     → end ≡ before .at + min recordLength (length bytes - before .at)
     → {d : PaymentDue} {i : Issuer} {x : ℕ} → d ≡ paymentDueOf (decodedRecord (take (end - before .at) (drop (before .at) bytes))) → d ≡ due.To i x
@@ -116,7 +116,7 @@ pub next-told : {opened : Bool} {before next : Progress} {bytes : List ℕ} {pai
     → Taken opened before bytes paid next
 next-told h e = rw e at h
 
--- one payment more posted in place: the run goes on behind it
+-- one more payment posted in place: the run goes on behind it
 pub one-more : (self : Session) (bytes : List ℕ) (b : LeadingPayments) → LeadingPaymentsOf self bytes b → {paid : Lane} {next : Progress}
     → Taken (self .opened) (b .progress) bytes paid next
     → {at : ℕ} → at ≡ indexOf (paid .issuer) (lanesOf (b .work)) → {e : SlotResult} → e ≡ slotResultOf (slotAt (b .work) at) paid → e .answer ≡ answer.Accepted

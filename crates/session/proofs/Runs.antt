@@ -84,7 +84,8 @@ counts-none r = rw (zero-add (r .records), zero-add (r .files))
 pub counts-empty : (records files : ℕ) (a : Answer) (s : Session) → _≡_ {A = RunResult} (record { answer = a; session = s; records = records; files = files }) (addCounts records files (emptyRun a s))
 counts-empty records files a s = rw (add-zero records, add-zero files)
 
--- The loop at an index, after so many records and files: nothing is left, it goes on behind payments, it stops, or it goes on behind a piece.
+-- The loop at an index, after so many records and files: nothing is left, it goes on behind payments, it stops, or it
+-- goes on behind a piece.
 module _ (self s : Session) (bytes : List ℕ) (at records files : ℕ) (inv : addCounts records files (runOf s (drop at bytes)) ≡ runOf self bytes) where
   pub run-ends : length bytes ≤ at → _≡_ {A = RunResult} (record { answer = Accepted; session = s; records = records; files = files }) (runOf self bytes)
   run-ends h = counts-empty records files Accepted s ∙ (rw (drop-of-length-le bytes h) at inv)
@@ -121,17 +122,17 @@ module _ (self s : Session) (bytes : List ℕ) (at records files : ℕ) (inv : a
         rw (next, ← piece-rest bytes at inside e, ← n, ← counts-add records files 1 (filesClosed (namedBy (getD r 0 0))) (runOf (sessionWith s (decodedRecord r)) (drop recordLength (drop at bytes))))
         (ap (addCounts records files) (sym (run-on s (drop at bytes) more a)) ∙ inv)
 
--- What a run tells of the records that it took.
-record Tells (s : Session) (recs : List (List ℕ)) (r : RunResult) : Type 0 where
+-- What is known of the records that a run took.
+record TakenBy (s : Session) (recs : List (List ℕ)) (r : RunResult) : Type 0 where
   taken : AllTaken s (take (r .records) recs)
   session : r .session ≡ sessionAfterAll s (take (r .records) recs)
   answer : r .answer ≡ nextAnswer (r .session) (drop (r .records) recs)
   whole : r .answer ≡ Accepted → r .records ≡ length recs
 
--- one record more in front
-tells-more : (rec : List ℕ) (recs : List (List ℕ)) (s : Session) (c : ℕ) (r : RunResult) → takeOf s rec .answer ≡ Accepted → Tells (takeOf s rec .session) recs r
-    → Tells s (rec ∷ recs) (addCounts 1 c r)
-tells-more rec recs s c r e t =
+-- one more record in front
+taken-more : (rec : List ℕ) (recs : List (List ℕ)) (s : Session) (c : ℕ) (r : RunResult) → takeOf s rec .answer ≡ Accepted → TakenBy (takeOf s rec .session) recs r
+    → TakenBy s (rec ∷ recs) (addCounts 1 c r)
+taken-more rec recs s c r e t =
     let one : 1 + r .records ≡ suc (r .records) = omega arith in
     record {
       taken = subst (λ (m : ℕ). AllTaken s (take m (rec ∷ recs))) (sym one) (e, t .taken);
@@ -140,17 +141,17 @@ tells-more rec recs s c r e t =
       whole = λ x. omega (arith, t .whole x);
     }
 
-tells : (recs : List (List ℕ)) (s : Session) → Tells s recs (runAll s recs)
-tells [] s = record { taken = tt; session = refl; answer = refl; whole = λ e. refl }
-tells (rec ∷ recs) s = go (takeAnswer s rec) refl (tells recs)
+taken-by : (recs : List (List ℕ)) (s : Session) → TakenBy s recs (runAll s recs)
+taken-by [] s = record { taken = tt; session = refl; answer = refl; whole = λ e. refl }
+taken-by (rec ∷ recs) s = go (takeAnswer s rec) refl (taken-by recs)
   where
-    go : (a : Answer) → takeAnswer s rec ≡ a → ((s : Session) → Tells s recs (runAll s recs))
-        → Tells s (rec ∷ recs) (stoppedIfRefused a s (addCounts 1 (filesClosed (namedBy (getD rec 0 0))) (runAll (sessionWith s (decodedRecord rec)) recs)))
+    go : (a : Answer) → takeAnswer s rec ≡ a → ((s : Session) → TakenBy s recs (runAll s recs))
+        → TakenBy s (rec ∷ recs) (stoppedIfRefused a s (addCounts 1 (filesClosed (namedBy (getD rec 0 0))) (runAll (sessionWith s (decodedRecord rec)) recs)))
     go (Refused why p) e later = record { taken = tt; session = refl; answer = sym e; whole = λ x. not-both _ refl x }
     go Accepted e later =
         let next = accepted-takes (takeAnswer s rec) (sessionWith s (decodedRecord rec)) s e in
-        tells-more rec recs s (filesClosed (namedBy (getD rec 0 0))) (runAll (sessionWith s (decodedRecord rec)) recs) e
-        (subst (λ (x : Session). Tells x recs (runAll (sessionWith s (decodedRecord rec)) recs)) (sym next) (later (sessionWith s (decodedRecord rec))))
+        taken-more rec recs s (filesClosed (namedBy (getD rec 0 0))) (runAll (sessionWith s (decodedRecord rec)) recs) e
+        (subst (λ (x : Session). TakenBy x recs (runAll (sessionWith s (decodedRecord rec)) recs)) (sym next) (later (sessionWith s (decodedRecord rec))))
 
 pub run-is-its-takes : RunIsItsTakes
-run-is-its-takes s bytes = let t = tells (piecesOf bytes) s in (t .taken, t .session, t .answer, t .whole)
+run-is-its-takes s bytes = let t = taken-by (piecesOf bytes) s in (t .taken, t .session, t .answer, t .whole)

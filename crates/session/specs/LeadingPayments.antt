@@ -1,4 +1,4 @@
--- Serves the run's fast path alone (src/leading.rt): the next payment, and what the payments at the front leave. Assumes nothing.
+-- Serves the run's fast path alone (src/leading.rt): the next payment, and what payments leave. Assumes nothing.
 use Prim.Native.Nat.{ℕ, _+_, _-_, _≤_, _<_, min}
 use mathlib.Core.Bool.{Bool, true}
 use mathlib.Core.List.{List}
@@ -40,7 +40,7 @@ NextPaymentOf opened before bytes Other = Unit {0}
 abbrev pub withLeading : Session → LeadingPayments → Session
 withLeading s p = record { shown = s .shown; work = p .work; opened = s .opened; file = p .progress .file }
 
--- payments at the front were taken: a run of the session with them over the rest, and their number, is the whole run
+-- payments at the front were taken: what is left to run, with their number added, is the whole run
 pub record LeadingPaymentsOf (s : Session) (bytes : List ℕ) (p : LeadingPayments) : Type 0 where
   pub within : p .progress .at ≤ length bytes
   pub few : p .progress .records ≤ p .progress .at

@@ -54,8 +54,8 @@ runAll s (r ∷ rs) =
 abbrev pub runOf : Session → List ℕ → RunResult
 runOf s bytes = runAll s (piecesOf bytes)
 
--- Promise: a run of any session takes records one by one. Its session is the one after those that it took, each accepted; its answer is
--- the answer to the next one, and if it is accepted none is left.
+-- Promise: a run of any session takes records one by one. Its session is the one after those that it took, each accepted;
+-- its answer is the answer to the next one, and if it is accepted none is left.
 
 abbrev pub AllTaken : Session → List (List ℕ) → Type 0
 AllTaken s [] = Unit {0}
@@ -74,5 +74,6 @@ RunIsItsTakes =
     (s : Session) (bytes : List ℕ)
     → let r = runOf s bytes in
     let taken = take (r .records) (piecesOf bytes) in
-    AllTaken s taken × (r .session ≡ sessionAfterAll s taken) × (r .answer ≡ nextAnswer (r .session) (drop (r .records) (piecesOf bytes)))
+    AllTaken s taken × (r .session ≡ sessionAfterAll s taken)
+    × (r .answer ≡ nextAnswer (r .session) (drop (r .records) (piecesOf bytes)))
     × (r .answer ≡ Accepted → r .records ≡ length (piecesOf bytes))

@@ -1,11 +1,12 @@
 // The fast path of a run: the accepted payments at the front of a slice, posted in place on one copy of the working board.
-// It mirrors what `Session::take` (taking.rt) does with an accepted payment: the kind expected, `record::decode`,
-// `File::take`, `Board::post`. Anything else, refused payments included, is left to `Session::take`, so no refusal is
-// made here. If `Session::take` asks one more thing of a payment, or a payment changes one more member of the session,
-// `next_payment` or the loop's stores change with it. proofs/Payments.antt ties them (`payment-taken`, `payment-leaves`): a
-// payment taken here is accepted by `takeAnswer`, and the session left is `sessionWith`.
-// What is slow, and so avoided: a board by value is 2 KB, and each call that takes one copies it. The search and the posting
-// are the board's own, on numbers and one lane (board, src/searching.rt).
+// It mirrors what `Session::take` (taking.rt) does with an accepted payment: the kind is expected, `record::decode`,
+// `File::take`, `Board::post`. Everything else, refused payments included, is left to `Session::take`: no refusal is made
+// here. What must change together: if `take` checks one more thing of a payment, so does `next_payment`; if a payment
+// changes one more member of the session, so does the loop, and `run` (running.rt) takes it over from
+// `LeadingPayments`. proofs/Payments.antt ties the two: by `payment-taken` and `payment-leaves`, a payment posted here is
+// accepted by `takeAnswer` and leaves the session that `take` leaves, `sessionWith`.
+// What is slow and so avoided: a board by value is 2 KB, and each call that takes one copies it. So the loop itself reads
+// and stores lanes, and the board's functions get numbers and one lane (board, src/searching.rt and `Slot::post`).
 ghost use mathlib.Core.Path.{_≡_};
 ghost use Prim.Native.Nat.{_≤_};
 ghost use Rattle.board.specs.Lanes.{laneOfOne};

@@ -8,8 +8,8 @@ use answer::Answer;
 use board::Board;
 use file::File;
 
-// The board shown has the payments of accepted files only. While a file is open, the working board has its payments too,
-// and `file` their number and sum; else the working board is the board shown and `file` is fresh.
+// The board shown has the payments of accepted files only. While a file is open, the working board has its payments
+// too, and `file` their number and sum; otherwise the working board equals the board shown and `file` is fresh.
 #[repr(C)]
 pub struct Session {
     pub shown: Board,

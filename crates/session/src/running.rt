@@ -25,8 +25,8 @@ fn files_closed(named: MaybeRecord) -> u64
 }
 
 impl Session {
-    // Takes records one after the other, each 150 bytes, until the first refusal or the end; a short last piece is a record
-    // of wrong length. The same as one `take` each, and faster: see leading.rt. No bytes are accepted with no records.
+    // Takes records one after the other, each 150 bytes, up to the first refusal or the end; a short last piece is a
+    // record of wrong length. The same as one `take` each, but faster (leading.rt). No bytes: accepted, no records.
     pub fn run(self, bytes: &[u8]) -> RunResult
         ensures { λ r. ⌜ r ≡ runOf self (now (bytes .entry)) ⌝ }
     {

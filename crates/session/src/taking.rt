@@ -146,8 +146,8 @@ impl Session {
         }
     }
 
-    // Takes one record of any bytes and any length: the session with it, or the first refusal (1, 9, the record's own, then
-    // 13 to 18) and the session as it was. `Session::run` takes many in one call and copies no board for a payment.
+    // Takes one record of any bytes and any length: the session with it, or the first refusal (1, 9, the record's own,
+    // then 13 to 18) and the session as it was. For many records use `run`: it copies no board for a payment.
     pub fn take(self, rec: &[u8]) -> TakeResult
         ensures { λ r. ⌜ r ≡ takeOf self (now (rec .entry)) ⌝ }
     {

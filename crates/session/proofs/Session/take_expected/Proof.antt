@@ -1,7 +1,7 @@
 -- `session::Session::take_expected` meets its contract. Assumes nothing.
 use mathlib.Core.Path.{refl}
 use borrow.Author.Needs.{needs}
-use Rattle.session.proofs.Steps.{met}
+use Rattle.session.proofs.Steps.{decoded-as}
 use Rattle.session.proofs.Session.take_expected.Statement.{statement}
 use Rattle.session.proofs.Session.take_expected.Tie as tie
 
@@ -30,16 +30,16 @@ take-trailer-requires : tie.Need-take-trailer-requires
 take-trailer-requires c κs = search needs
 
 returns : tie.Need-returns
-returns c = met (c .before .before .before .before .before .args .self) (c .before .before .before .before .before .args .rec .now) (c .before .before .before .decode .ensures) (c .before .why .given .1) refl
+returns c = decoded-as (c .before .before .before .before .before .args .self) (c .before .before .before .before .before .args .rec .now) (c .before .before .before .decode .ensures) (c .before .why .given .1) refl
 
 returns-2 : tie.Need-returns-2
-returns-2 c = met (c .before .before .before .before .before .args .self) (c .before .before .before .before .before .args .rec .now) (c .before .before .before .decode .ensures) (c .before .enum-told .given .1) (rw (c .with-file-open .ensures))
+returns-2 c = decoded-as (c .before .before .before .before .before .args .self) (c .before .before .before .before .before .args .rec .now) (c .before .before .before .decode .ensures) (c .before .enum-told .given .1) (rw (c .with-file-open .ensures))
 
 returns-3 : tie.Need-returns-3
-returns-3 c = met (c .before .before .before .before .before .before .args .self) (c .before .before .before .before .before .before .args .rec .now) (c .before .before .before .before .decode .ensures) (c .before .before .p .given .1) (c .take-payment .ensures)
+returns-3 c = decoded-as (c .before .before .before .before .before .before .args .self) (c .before .before .before .before .before .before .args .rec .now) (c .before .before .before .before .decode .ensures) (c .before .before .p .given .1) (c .take-payment .ensures)
 
 returns-4 : tie.Need-returns-4
-returns-4 c = met (c .before .before .before .before .before .before .args .self) (c .before .before .before .before .before .before .args .rec .now) (c .before .before .before .before .decode .ensures) (c .before .before .t .given .1) (c .take-trailer .ensures)
+returns-4 c = decoded-as (c .before .before .before .before .before .before .args .self) (c .before .before .before .before .before .before .args .rec .now) (c .before .before .before .before .decode .ensures) (c .before .before .t .given .1) (c .take-trailer .ensures)
 
 pub take-expected-spec : {M : Type 1} → statement M
 take-expected-spec =
