@@ -1,4 +1,4 @@
--- Laws of a sound board: what it accepts, what it answers, and that a fresh one holds its payments gathered. Assumes nothing.
+-- Laws of a sound board: what it accepts, what it answers, and that a fresh one holds its payments grouped by issuer. Assumes nothing.
 use Prim.Native.Nat.{ℕ, zero, suc, _≤_, _<_}
 use mathlib.Core.Bool.{Bool, true, false, cond, _&&_, and-false, false≢true}
 use mathlib.Core.List.{List, [], _∷_, _++_}
@@ -20,10 +20,10 @@ use Rattle.board.specs.declared.Tally.{Tally}
 use Rattle.board.specs.declared.Lane.{Lane}
 use Rattle.board.specs.declared.Board.{Board}
 use Rattle.board.proofs.Tallies.{low, low-fits, plus-swap, plus-groups, plus-none}
-use Rattle.board.proofs.Find.{index-within}
-use Rattle.board.proofs.Lanes.{place-kept, sum-is-kept, one-payment-more}
-use Rattle.board.proofs.Posting.{place-found, place-new, length-lanes, Fit, fit, with-placed, with-sound, stays-sound}
-use Rattle.board.specs.Lanes.{mostLanes, none, plus, fits, isLaneOf, grown, place, placedAll, lanesFrom, tallySum, issuersOf, isAmong}
+use Rattle.board.proofs.Searches.{index-within}
+use Rattle.board.proofs.Lanes.{placed-kept, sum-is-kept, one-payment-more}
+use Rattle.board.proofs.Posting.{placed-found, placed-new, length-lanes, Fit, fit, with-placed, with-sound, stays-sound}
+use Rattle.board.specs.Lanes.{mostLanes, emptyTally, plus, fits, isLaneOf, grownLane, placed, placedAll, lanesFrom, tallySum, issuersOf, isAmong}
 use Rattle.board.specs.Boards.{blank, freshBoard, lanesOf, indexOf, slotOf, ownOf, slotAnswer, postAnswer, boardWith, postAnswers, boardWithAll, SoundBoard, AnswersAsPayments, PostAccepts, FreshBoardTakes, FreshBoardHolds}
 
 -- What a sound board accepts.
@@ -37,9 +37,9 @@ lane-below (l ∷ ls) (suc k) h =
     let r = lane-below ls k (omega arith) in
     (omega arith, omega arith)
 
--- where the total fits, the lane does
+-- if the total fits, the lane fits
 own-fits : (b : Board) (p : Lane) → SoundBoard b → (k : ℕ) → k ≤ length (lanesOf b) → fits (plus (b .total) (p .tally)) ≡ true
-    → (t : Bool) → ltb k (b .used) ≡ t → fits (plus (cond t (getD (b .lanes) k blank .tally) none) (p .tally)) ≡ true
+    → (t : Bool) → ltb k (b .used) ≡ t → fits (plus (cond t (getD (b .lanes) k blank .tally) emptyTally) (p .tally)) ≡ true
 own-fits b p s k h e true t =
     let f = low (plus (b .total) (p .tally)) e in
     let m : k < b .used = ltb-true k (b .used) t in
@@ -58,7 +58,7 @@ sound-fit b p s free e =
       low = e;
     }
 
--- an issuer is among the lanes where its index is
+-- an issuer is among the lanes exactly if its index is below their number
 known : (i : Issuer) (ls : List Lane) (t : Bool) → isAmong i (issuersOf ls) ≡ t → cond t (indexOf i ls < length ls) (indexOf i ls ≡ length ls)
 known i [] true e = absurd (false≢true e)
 known i [] false e = refl
@@ -86,22 +86,22 @@ post-accepts b p s =
     room f true e = inl e
     room f false e = let r = known (p .issuer) (lanesOf b) false e in inr (omega (arith, f .free, length-lanes b s))
 
--- Its answer, from the lanes that the payment leaves and the total.
+-- Its answer, from the lanes with the payment and from the total.
 
--- a lane is free for a payment exactly where the lanes with it are no more than there may be
-free-lane : (p : Lane) (ls : List Lane) → length ls ≤ mostLanes → ltb (indexOf (p .issuer) ls) mostLanes ≡ leb (length (place p ls)) mostLanes
+-- the payment's index is within the board exactly if the lanes with it are at most mostLanes
+free-lane : (p : Lane) (ls : List Lane) → length ls ≤ mostLanes → ltb (indexOf (p .issuer) ls) mostLanes ≡ leb (length (placed p ls)) mostLanes
 free-lane p ls few = go (ltb (indexOf (p .issuer) ls) (length ls)) refl
   where
-    go : (t : Bool) → ltb (indexOf (p .issuer) ls) (length ls) ≡ t → ltb (indexOf (p .issuer) ls) mostLanes ≡ leb (length (place p ls)) mostLanes
+    go : (t : Bool) → ltb (indexOf (p .issuer) ls) (length ls) ≡ t → ltb (indexOf (p .issuer) ls) mostLanes ≡ leb (length (placed p ls)) mostLanes
     go true e =
         let h = ltb-true (indexOf (p .issuer) ls) (length ls) e in
-        rw (← place-found p ls h, length-set, lt-ltb (indexOf (p .issuer) ls) mostLanes (omega arith), le-leb (length ls) mostLanes few)
+        rw (← placed-found p ls h, length-set, lt-ltb (indexOf (p .issuer) ls) mostLanes (omega arith), le-leb (length ls) mostLanes few)
     go false e =
         let h = ltb-false (indexOf (p .issuer) ls) (length ls) e in
         let last : indexOf (p .issuer) ls ≡ length ls = omega (arith, index-within (p .issuer) ls) in
-        rw (last, ← place-new p ls h, length-append ls (p ∷ []), add-one (length ls))
+        rw (last, ← placed-new p ls h, length-append ls (p ∷ []), add-one (length ls))
 
--- of a sound board, the lane's own sums need no question
+-- of a sound board the lane's own sums fit if the total does
 own-follows : (b : Board) (p : Lane) → SoundBoard b
     → (fits (plus (ownOf (slotOf b (p .issuer))) (p .tally)) && fits (plus (b .total) (p .tally))) ≡ fits (plus (b .total) (p .tally))
 unfolding ownOf
@@ -111,38 +111,38 @@ own-follows b p s = go (fits (plus (b .total) (p .tally))) refl
     at = indexOf (p .issuer) (lanesOf b)
 
     go : (t : Bool) → fits (plus (b .total) (p .tally)) ≡ t
-        → (fits (plus (cond (ltb at (b .used)) (getD (b .lanes) at blank .tally) none) (p .tally)) && t) ≡ t
+        → (fits (plus (cond (ltb at (b .used)) (getD (b .lanes) at blank .tally) emptyTally) (p .tally)) && t) ≡ t
     go true e = rw (own-fits b p s at (index-within (p .issuer) (lanesOf b)) e (ltb at (b .used)) refl)
-    go false e = and-false (fits (plus (cond (ltb at (b .used)) (getD (b .lanes) at blank .tally) none) (p .tally)))
+    go false e = and-false (fits (plus (cond (ltb at (b .used)) (getD (b .lanes) at blank .tally) emptyTally) (p .tally)))
 
 pub answers-as-payments : AnswersAsPayments
 unfolding slotAnswer
 answers-as-payments b ps p s e =
-    let after : place p (lanesOf b) ≡ lanesFrom (ps ++ (p ∷ [])) = ap (place p) e ∙ sym (one-payment-more ps p) in
+    let after : placed p (lanesOf b) ≡ lanesFrom (ps ++ (p ∷ [])) = ap (placed p) e ∙ sym (one-payment-more ps p) in
     let sum : plus (b .total) (p .tally) ≡ tallySum (ps ++ (p ∷ [])) =
-    plus-swap (b .total) (p .tally) ∙ ap (plus (p .tally)) (s .total) ∙ sym (place-kept p (lanesOf b)) ∙ ap tallySum after ∙ sum-is-kept (ps ++ (p ∷ [])) in
+    plus-swap (b .total) (p .tally) ∙ ap (plus (p .tally)) (s .total) ∙ sym (placed-kept p (lanesOf b)) ∙ ap tallySum after ∙ sum-is-kept (ps ++ (p ∷ [])) in
     ap₂ (λ (t u : Bool). require t BoardFull issuerPlace then require u BoardTotalPassed receivedPlace)
     (free-lane p (lanesOf b) (omega (arith, length-lanes b s, s .few)) ∙ ap (λ (ls : List Lane). leb (length ls) mostLanes) after)
     (own-follows b p s ∙ ap fits sum)
 
 -- A fresh board and any payments.
 
--- a payment's place is among the lanes it leaves, and no lane goes
-place-longer : (p : Lane) (ls : List Lane) → (indexOf (p .issuer) ls < length (place p ls)) × (length ls ≤ length (place p ls))
-place-longer p [] = (omega arith, omega arith)
-place-longer p (l ∷ ls) = go (isLaneOf (p .issuer) l) (place-longer p ls)
+-- a payment's index is among the lanes with it, and no lane is lost
+placed-longer : (p : Lane) (ls : List Lane) → (indexOf (p .issuer) ls < length (placed p ls)) × (length ls ≤ length (placed p ls))
+placed-longer p [] = (omega arith, omega arith)
+placed-longer p (l ∷ ls) = go (isLaneOf (p .issuer) l) (placed-longer p ls)
   where
-    go : (t : Bool) → (indexOf (p .issuer) ls < length (place p ls)) × (length ls ≤ length (place p ls))
-        → (cond t 0 (suc (indexOf (p .issuer) ls)) < length (cond t (grown (l .tally) p ∷ ls) (l ∷ place p ls)))
-        × (suc (length ls) ≤ length (cond t (grown (l .tally) p ∷ ls) (l ∷ place p ls)))
+    go : (t : Bool) → (indexOf (p .issuer) ls < length (placed p ls)) × (length ls ≤ length (placed p ls))
+        → (cond t 0 (suc (indexOf (p .issuer) ls)) < length (cond t (grownLane (l .tally) p ∷ ls) (l ∷ placed p ls)))
+        × (suc (length ls) ≤ length (cond t (grownLane (l .tally) p ∷ ls) (l ∷ placed p ls)))
     go true h = (omega arith, omega arith)
     go false h = (omega arith, omega arith)
 
-gather-longer : (ls ps : List Lane) → length ls ≤ length (placedAll ls ps)
-gather-longer ls [] = omega arith
-gather-longer ls (p ∷ ps) = omega (arith, place-longer p ls .1, gather-longer (place p ls) ps)
+placed-all-longer : (ls ps : List Lane) → length ls ≤ length (placedAll ls ps)
+placed-all-longer ls [] = omega arith
+placed-all-longer ls (p ∷ ps) = omega (arith, placed-longer p ls .1, placed-all-longer (placed p ls) ps)
 
--- what fits with more fits without it
+-- what fits with more fits alone
 fits-less : (a b : Tally) → fits (plus a b) ≡ true → fits a ≡ true
 fits-less a b e =
     let f = low (plus a b) e in
@@ -154,18 +154,18 @@ takes b s [] = (λ e. (omega (arith, length-lanes b s, s .few), rw (plus-none (b
 takes b s (p ∷ ps) =
     let two = then-accepts (postAnswer b p) (postAnswers (boardWith b p) ps) in
     let rest : Fit b p → (postAnswers (boardWith b p) ps ≡ Accepted)
-    ↔ ((length (placedAll (place p (lanesOf b)) ps) ≤ mostLanes) × (fits (plus (b .total) (plus (p .tally) (tallySum ps))) ≡ true)) =
+    ↔ ((length (placedAll (placed p (lanesOf b)) ps) ≤ mostLanes) × (fits (plus (b .total) (plus (p .tally) (tallySum ps))) ≡ true)) =
     λ f. rw (with-placed b p s (f .free), plus-groups (b .total) (p .tally) (tallySum ps)) at (takes (boardWith b p) (with-sound b p s f) ps) in (
       λ e. rest (fit b p .0 (two .0 e .0)) .0 (two .0 e .1),
       λ h.
           let sum = fits-less (plus (b .total) (p .tally)) (tallySum ps) (rw (plus-groups (b .total) (p .tally) (tallySum ps)) (h .1)) in
-          let free : indexOf (p .issuer) (lanesOf b) < mostLanes = omega (arith, place-longer p (lanesOf b) .0, gather-longer (place p (lanesOf b)) ps, h .0) in
+          let free : indexOf (p .issuer) (lanesOf b) < mostLanes = omega (arith, placed-longer p (lanesOf b) .0, placed-all-longer (placed p (lanesOf b)) ps, h .0) in
           let f = sound-fit b p s free sum in
           two .1 (fit b p .1 f, rest f .1 h),
     )
 
 pub fresh-board-takes : FreshBoardTakes
-fresh-board-takes ps = rw (plus-swap none (tallySum ps), plus-none (tallySum ps)) at (takes freshBoard (stays-sound .0) ps)
+fresh-board-takes ps = rw (plus-swap emptyTally (tallySum ps), plus-none (tallySum ps)) at (takes freshBoard (stays-sound .0) ps)
 
 holds : (b : Board) → SoundBoard b → (ps : List Lane) → postAnswers b ps ≡ Accepted
     → (lanesOf (boardWithAll b ps) ≡ placedAll (lanesOf b) ps) × SoundBoard (boardWithAll b ps)

@@ -1,4 +1,4 @@
--- Laws of places at which an issuer's lane is known to stand: no payment moves one. Assumes nothing.
+-- Laws of the first lane of an issuer: no payment moves it. Assumes nothing.
 use Prim.Native.Nat.{ℕ, zero, suc, _≤_, _<_}
 use mathlib.Core.Bool.{Bool, true, false, cond}
 use mathlib.Core.List.{List, [], _∷_, _++_}
@@ -18,10 +18,10 @@ use Rattle.board.specs.declared.Board.{Board}
 use Rattle.board.specs.declared.Slot.{Slot}
 use Rattle.board.specs.Lanes.{mostLanes, sameIssuer, isLaneOf}
 use Rattle.board.specs.Boards.{blank, lanesOf, indexOf, slotAt, usedAfter, grownSlot, slotAnswer, slotResultOf}
-use Rattle.board.proofs.Find.{in-use, index-within}
+use Rattle.board.proofs.Searches.{in-use, index-within}
 use Rattle.board.proofs.Lanes.{same-is}
 
--- the place is the first that has its issuer
+-- index q has the first lane of its issuer
 abbrev pub FirstAt : List Lane → ℕ → Type 0
 FirstAt ls q = (i : Issuer) → q < length ls → isLaneOf i (getD ls q blank) ≡ true → indexOf i ls ≡ q
 
@@ -29,7 +29,7 @@ pub first-zero : (ls : List Lane) → FirstAt ls 0
 first-zero [] i h t = absurd (omega arith)
 first-zero (l ∷ ls) i h t = rw t
 
--- where the search found a lane, it is the issuer's
+-- a lane that the search found is the issuer's
 index-hit : (i : Issuer) (ls : List Lane) → indexOf i ls < length ls → isLaneOf i (getD ls (indexOf i ls) blank) ≡ true
 index-hit i [] h = absurd (omega arith)
 index-hit i (l ∷ ls) h = go (isLaneOf i l) refl h (index-hit i ls)
@@ -46,7 +46,7 @@ first-found i ls k e j h t =
     let other : l .issuer ≡ j = same-is (l .issuer) j t in
     ap (λ (x : Issuer). indexOf x ls) (sym other ∙ own) ∙ sym e
 
--- A lane with the issuer that stood there, and a lane behind all others.
+-- A lane replaced by one of the same issuer, and a lane appended.
 
 index-set : (i : Issuer) (ls : List Lane) (k : ℕ) (x : Lane) → k < length ls → x .issuer ≡ getD ls k blank .issuer → indexOf i (set ls k x) ≡ indexOf i ls
 index-set i [] k x h e = absurd (omega arith)
@@ -102,14 +102,14 @@ module _ (ls : List Lane) (q : ℕ) (first : FirstAt ls q) (x : Lane) where
           let same : x .issuer ≡ i = same-is (x .issuer) i u in
           index-last i ls x (rw same at h) u ∙ sym s
 
--- A payment that a board took at the place of its issuer.
+-- A payment that a board took at the index of its issuer.
 module _ (b : Board) (full : length (b .lanes) ≡ mostLanes) (p : Lane) (k : ℕ) (found : k ≡ indexOf (p .issuer) (lanesOf b)) (free : k < mostLanes)
-    {e : SlotResult} (entered : e ≡ slotResultOf (slotAt b k) p) (accepted : e .answer ≡ Accepted) where
+    {e : SlotResult} (posted : e ≡ slotResultOf (slotAt b k) p) (accepted : e .answer ≡ Accepted) where
   abbrev after : Board
   after = record { lanes = set (b .lanes) k (e .slot .lane); used = e .slot .used; total = e .slot .total }
 
   taken : e .slot ≡ grownSlot (slotAt b k) p
-  taken = let a : slotAnswer (slotAt b k) p ≡ Accepted = ap (λ (x : SlotResult). x .answer) (sym entered) ∙ accepted in rw (entered, a)
+  taken = let a : slotAnswer (slotAt b k) p ≡ Accepted = ap (λ (x : SlotResult). x .answer) (sym posted) ∙ accepted in rw (posted, a)
 
   same : e .slot .lane .issuer ≡ p .issuer
   same = ap (λ (s : Slot). s .lane .issuer) taken

@@ -1,4 +1,4 @@
--- Laws of payments gathered into lanes: the sums, the issuers, their order. Assumes nothing.
+-- Laws of payments grouped into lanes: the sums, the issuers, their order. Assumes nothing.
 use Prim.Native.Nat.{ℕ, _+_}
 use mathlib.Core.Bool.{Bool, true, false, cond, _&&_, and-eq-true-iff, false≢true}
 use mathlib.Core.List.{List, [], _∷_, _++_, append-assoc, append-nil}
@@ -10,9 +10,9 @@ use Rattle.barcode.specs.declared.Issuer.{Issuer}
 use Rattle.board.specs.declared.Tally.{Tally}
 use Rattle.board.specs.declared.Lane.{Lane}
 use Rattle.board.proofs.Tallies.{alike}
-use Rattle.board.specs.Lanes.{plus, none, sameIssuer, isLaneOf, grown, place, placedAll, lanesFrom, tallySum, sumBy, Adds, each, only, issuersOf, isAmong, appearing, Distinct, PaymentsAdd, CentavosAdd, SumsAgree, OwnSumsAgree, SumIsKept, PastThirtyTwoBits, NoIssuerTwice, InOrderOfAppearance, OnePaymentMore}
+use Rattle.board.specs.Lanes.{plus, emptyTally, sameIssuer, isLaneOf, grownLane, placed, placedAll, lanesFrom, tallySum, sumBy, Adds, each, only, issuersOf, isAmong, appearing, Distinct, PaymentsAdd, CentavosAdd, SumsAgree, OwnSumsAgree, SumIsKept, PastThirtyTwoBits, NoIssuerTwice, InOrderOfAppearance, OnePaymentMore}
 
--- a fact of a choice from the fact of each side
+-- a fact of a choice from the fact of each case
 pub split : {A : Type 0} (P : A → Type 0) (t : Bool) {x y : A} → (t ≡ true → P x) → (t ≡ false → P y) → P (cond t x y)
 split P true f g = f refl
 split P false f g = g refl
@@ -36,18 +36,18 @@ same-is i j e =
 
 -- The sums.
 
--- a number that a payment moves by its own, at its issuer's lane
-module _ (v : Lane → ℕ) (grows : (l p : Lane) → isLaneOf (p .issuer) l ≡ true → v (grown (l .tally) p) ≡ v l + v p) where
-  place-sum : (p : Lane) (ls : List Lane) → sumBy v (place p ls) ≡ sumBy v ls + v p
-  place-sum p [] = omega arith
-  place-sum p (l ∷ ls) =
+-- a number to which a payment adds its own, at its issuer's lane
+module _ (v : Lane → ℕ) (grows : (l p : Lane) → isLaneOf (p .issuer) l ≡ true → v (grownLane (l .tally) p) ≡ v l + v p) where
+  placed-sum : (p : Lane) (ls : List Lane) → sumBy v (placed p ls) ≡ sumBy v ls + v p
+  placed-sum p [] = omega arith
+  placed-sum p (l ∷ ls) =
       split (λ (m : List Lane). sumBy v m ≡ v l + sumBy v ls + v p) (isLaneOf (p .issuer) l)
       (λ t. omega (arith, grows l p t))
-      (λ t. omega (arith, place-sum p ls))
+      (λ t. omega (arith, placed-sum p ls))
 
-  gather-sum : (ls ps : List Lane) → sumBy v (placedAll ls ps) ≡ sumBy v ls + sumBy v ps
-  gather-sum ls [] = omega arith
-  gather-sum ls (p ∷ ps) = omega (arith, gather-sum (place p ls) ps, place-sum p ls)
+  placed-all-sum : (ls ps : List Lane) → sumBy v (placedAll ls ps) ≡ sumBy v ls + sumBy v ps
+  placed-all-sum ls [] = omega arith
+  placed-all-sum ls (p ∷ ps) = omega (arith, placed-all-sum (placed p ls) ps, placed-sum p ls)
 
 pub payments-add : PaymentsAdd
 payments-add a b = refl
@@ -56,10 +56,10 @@ pub centavos-add : CentavosAdd
 centavos-add a b = refl
 
 pub sums-agree : SumsAgree
-sums-agree w adds ps = gather-sum (each w) (λ l p t. adds (l .tally) (p .tally)) [] ps ∙ omega arith
+sums-agree w adds ps = placed-all-sum (each w) (λ l p t. adds (l .tally) (p .tally)) [] ps ∙ omega arith
 
 pub own-sums-agree : OwnSumsAgree
-own-sums-agree w adds i ps = gather-sum (only i w) grows [] ps ∙ omega arith
+own-sums-agree w adds i ps = placed-all-sum (only i w) grows [] ps ∙ omega arith
   where
     both : (a b : Tally) (t u : Bool) → t ≡ u → cond u (w (plus a b)) 0 ≡ cond t (w a) 0 + cond u (w b) 0
     both a b true true e = adds a b
@@ -67,24 +67,24 @@ own-sums-agree w adds i ps = gather-sum (only i w) grows [] ps ∙ omega arith
     both a b false true e = absurd (false≢true e)
     both a b false false e = omega arith
 
-    grows : (l p : Lane) → isLaneOf (p .issuer) l ≡ true → only i w (grown (l .tally) p) ≡ only i w l + only i w p
+    grows : (l p : Lane) → isLaneOf (p .issuer) l ≡ true → only i w (grownLane (l .tally) p) ≡ only i w l + only i w p
     grows l p t = both (l .tally) (p .tally) (isLaneOf i l) (isLaneOf i p) (ap (λ (j : Issuer). sameIssuer j i) (same-is (l .issuer) (p .issuer) t))
 
 -- a number of the sum is the sum of that number
 pub sum-read : (w : Tally → ℕ) → Adds w → (ls : List Lane) → w (tallySum ls) ≡ sumBy (each w) ls
-sum-read w adds [] = let h = adds none none in omega arith
+sum-read w adds [] = let h = adds emptyTally emptyTally in omega arith
 sum-read w adds (l ∷ ls) = omega (arith, adds (l .tally) (tallySum ls), sum-read w adds ls)
 
--- two sums are equal where each of their numbers is
+-- two sums are equal if each of their numbers is
 same-sum : (ls ms : List Lane) → ((w : Tally → ℕ) → Adds w → sumBy (each w) ls ≡ sumBy (each w) ms) → tallySum ls ≡ tallySum ms
 same-sum ls ms h = alike (number (λ t. t .payments) payments-add) (number (λ t. t .centavos) centavos-add)
   where
     number : (w : Tally → ℕ) → Adds w → w (tallySum ls) ≡ w (tallySum ms)
     number w adds = sum-read w adds ls ∙ h w adds ∙ sym (sum-read w adds ms)
 
-pub place-kept : (p : Lane) (ls : List Lane) → tallySum (place p ls) ≡ tallySum (p ∷ ls)
-place-kept p ls =
-    same-sum (place p ls) (p ∷ ls) (λ w adds. place-sum (each w) (λ l q t. adds (l .tally) (q .tally)) p ls ∙ omega arith)
+pub placed-kept : (p : Lane) (ls : List Lane) → tallySum (placed p ls) ≡ tallySum (p ∷ ls)
+placed-kept p ls =
+    same-sum (placed p ls) (p ∷ ls) (λ w adds. placed-sum (each w) (λ l q t. adds (l .tally) (q .tally)) p ls ∙ omega arith)
 
 pub sum-is-kept : SumIsKept
 sum-is-kept ps = same-sum (lanesFrom ps) ps (λ w adds. sums-agree w adds ps)
@@ -94,14 +94,14 @@ past-thirty-two-bits i = rw (eq-eqb (i .segment) (i .segment) refl, eq-eqb (i .n
 
 -- The issuers.
 
--- a payment adds its issuer at the end, unless it is there
-pub place-issuers : (p : Lane) (ls : List Lane)
-    → issuersOf (place p ls) ≡ cond (isAmong (p .issuer) (issuersOf ls)) (issuersOf ls) (issuersOf ls ++ (p .issuer ∷ []))
-place-issuers p [] = refl
-place-issuers p (l ∷ ls) = go (isLaneOf (p .issuer) l) refl (isAmong (p .issuer) (issuersOf ls)) (place-issuers p ls)
+-- a payment adds its issuer at the end, unless it is there already
+pub placed-issuers : (p : Lane) (ls : List Lane)
+    → issuersOf (placed p ls) ≡ cond (isAmong (p .issuer) (issuersOf ls)) (issuersOf ls) (issuersOf ls ++ (p .issuer ∷ []))
+placed-issuers p [] = refl
+placed-issuers p (l ∷ ls) = go (isLaneOf (p .issuer) l) refl (isAmong (p .issuer) (issuersOf ls)) (placed-issuers p ls)
   where
-    go : (t : Bool) → isLaneOf (p .issuer) l ≡ t → (u : Bool) → issuersOf (place p ls) ≡ cond u (issuersOf ls) (issuersOf ls ++ (p .issuer ∷ []))
-        → issuersOf (cond t (grown (l .tally) p ∷ ls) (l ∷ place p ls))
+    go : (t : Bool) → isLaneOf (p .issuer) l ≡ t → (u : Bool) → issuersOf (placed p ls) ≡ cond u (issuersOf ls) (issuersOf ls ++ (p .issuer ∷ []))
+        → issuersOf (cond t (grownLane (l .tally) p ∷ ls) (l ∷ placed p ls))
         ≡ cond (cond t true u) (l .issuer ∷ issuersOf ls) (l .issuer ∷ (issuersOf ls ++ (p .issuer ∷ [])))
     go true e u h = ap (λ (i : Issuer). i ∷ issuersOf ls) (sym (same-is (l .issuer) (p .issuer) e))
     go false e true h = ap (λ (is : List Issuer). l .issuer ∷ is) h
@@ -125,21 +125,21 @@ last-distinct j (i ∷ is) e h = go (sameIssuer i j) refl e (λ f. last-distinct
     go true q f later = absurd (false≢true (sym f))
     go false q f later = (not-last i j is (h .0) (same-sym j i ∙ q), later f)
 
-pub place-distinct : (p : Lane) (ls : List Lane) → Distinct (issuersOf ls) → Distinct (issuersOf (place p ls))
-place-distinct p ls h =
-    rw (place-issuers p ls)
+pub placed-distinct : (p : Lane) (ls : List Lane) → Distinct (issuersOf ls) → Distinct (issuersOf (placed p ls))
+placed-distinct p ls h =
+    rw (placed-issuers p ls)
     (split Distinct (isAmong (p .issuer) (issuersOf ls)) (λ t. h) (λ t. last-distinct (p .issuer) (issuersOf ls) t h))
 
-gather-distinct : (ls ps : List Lane) → Distinct (issuersOf ls) → Distinct (issuersOf (placedAll ls ps))
-gather-distinct ls [] h = h
-gather-distinct ls (p ∷ ps) h = gather-distinct (place p ls) ps (place-distinct p ls h)
+placed-all-distinct : (ls ps : List Lane) → Distinct (issuersOf ls) → Distinct (issuersOf (placedAll ls ps))
+placed-all-distinct ls [] h = h
+placed-all-distinct ls (p ∷ ps) h = placed-all-distinct (placed p ls) ps (placed-distinct p ls h)
 
 pub no-issuer-twice : NoIssuerTwice
-no-issuer-twice ps = gather-distinct [] ps tt
+no-issuer-twice ps = placed-all-distinct [] ps tt
 
-gather-issuers : (ls ps : List Lane) → issuersOf (placedAll ls ps) ≡ issuersOf ls ++ appearing (issuersOf ls) ps
-gather-issuers ls [] = sym (append-nil (issuersOf ls))
-gather-issuers ls (p ∷ ps) = gather-issuers (place p ls) ps ∙ rw (place-issuers p ls) (go (issuersOf ls) (isAmong (p .issuer) (issuersOf ls)))
+placed-all-issuers : (ls ps : List Lane) → issuersOf (placedAll ls ps) ≡ issuersOf ls ++ appearing (issuersOf ls) ps
+placed-all-issuers ls [] = sym (append-nil (issuersOf ls))
+placed-all-issuers ls (p ∷ ps) = placed-all-issuers (placed p ls) ps ∙ rw (placed-issuers p ls) (go (issuersOf ls) (isAmong (p .issuer) (issuersOf ls)))
   where
     go : (seen : List Issuer) (t : Bool)
         → cond t seen (seen ++ (p .issuer ∷ [])) ++ appearing (cond t seen (seen ++ (p .issuer ∷ []))) ps
@@ -148,11 +148,11 @@ gather-issuers ls (p ∷ ps) = gather-issuers (place p ls) ps ∙ rw (place-issu
     go seen false = append-assoc seen (p .issuer ∷ []) (appearing (seen ++ (p .issuer ∷ [])) ps)
 
 pub in-order-of-appearance : InOrderOfAppearance
-in-order-of-appearance ps = gather-issuers [] ps
+in-order-of-appearance ps = placed-all-issuers [] ps
 
-gather-joins : (ls ps qs : List Lane) → placedAll ls (ps ++ qs) ≡ placedAll (placedAll ls ps) qs
-gather-joins ls [] qs = refl
-gather-joins ls (p ∷ ps) qs = gather-joins (place p ls) ps qs
+placed-all-joins : (ls ps qs : List Lane) → placedAll ls (ps ++ qs) ≡ placedAll (placedAll ls ps) qs
+placed-all-joins ls [] qs = refl
+placed-all-joins ls (p ∷ ps) qs = placed-all-joins (placed p ls) ps qs
 
 pub one-payment-more : OnePaymentMore
-one-payment-more ps p = gather-joins [] ps (p ∷ [])
+one-payment-more ps p = placed-all-joins [] ps (p ∷ [])

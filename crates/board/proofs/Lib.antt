@@ -1,6 +1,7 @@
 pub mod Tallies
-pub mod Find
+pub mod Searches
 pub mod Firsts
+pub mod Caches
 pub mod Slots
 pub mod Lanes
 pub mod Posting

@@ -1,4 +1,4 @@
--- Laws of one payment: what is accepted is placed among the lanes, and the board stays sound. Assumes nothing.
+-- Laws of one payment: if accepted it is added to its lane, and the board stays sound. Assumes nothing.
 use Prim.Native.Nat.{ℕ, suc, _+_, _≤_, _<_}
 use mathlib.Core.Bool.{Bool, true, false, cond, _&&_, and-eq-true-iff}
 use mathlib.Core.List.{List, [], _∷_, _++_}
@@ -20,49 +20,49 @@ use Rattle.board.specs.declared.Tally.{Tally}
 use Rattle.board.specs.declared.Lane.{Lane}
 use Rattle.board.specs.declared.Board.{Board}
 use Rattle.board.proofs.Tallies.{low, low-fits, alike, plus-swap}
-use Rattle.board.proofs.Find.{index-within}
-use Rattle.board.proofs.Lanes.{place-distinct, place-kept}
-use Rattle.board.specs.Lanes.{mostLanes, none, plus, fits, isLaneOf, grown, place, tallySum}
+use Rattle.board.proofs.Searches.{index-within}
+use Rattle.board.proofs.Lanes.{placed-distinct, placed-kept}
+use Rattle.board.specs.Lanes.{mostLanes, emptyTally, plus, fits, isLaneOf, grownLane, placed, tallySum}
 use Rattle.board.specs.Boards.{blank, lanesOf, indexOf, slotOf, ownOf, usedAfter, grownSlot, slotAnswer, postAnswer, boardWith, SoundBoard, RefusalKeepsBoard, PostPlaces, StaysSound}
 
 pub refusal-keeps-board : RefusalKeepsBoard
 refusal-keeps-board b p h = refusal-keeps (postAnswer b p) (boardWith b p) b h
 
 -- the lane of a first payment
-first-grown : (p : Lane) → grown none p ≡ p
+first-grown : (p : Lane) → grownLane emptyTally p ≡ p
 first-grown p = ap {B = Lane} (λ (t : Tally). record { issuer = p .issuer; tally = t }) (alike (omega arith) (omega arith))
 
--- a store at the lane that was found, and a lane more where none was, are `place`
+-- storing the lane that was found, or a new lane if none was, is `placed`
 module _ (p : Lane) where
-  pub place-found : (ls : List Lane) → indexOf (p .issuer) ls < length ls
-      → set ls (indexOf (p .issuer) ls) (grown (getD ls (indexOf (p .issuer) ls) blank .tally) p) ≡ place p ls
-  place-found [] h = absurd (omega arith)
-  place-found (l ∷ ls) h = go (isLaneOf (p .issuer) l) h (place-found ls)
+  pub placed-found : (ls : List Lane) → indexOf (p .issuer) ls < length ls
+      → set ls (indexOf (p .issuer) ls) (grownLane (getD ls (indexOf (p .issuer) ls) blank .tally) p) ≡ placed p ls
+  placed-found [] h = absurd (omega arith)
+  placed-found (l ∷ ls) h = go (isLaneOf (p .issuer) l) h (placed-found ls)
     where
       go : (t : Bool) → cond t 0 (suc (indexOf (p .issuer) ls)) < suc (length ls)
           → (indexOf (p .issuer) ls < length ls
-          → set ls (indexOf (p .issuer) ls) (grown (getD ls (indexOf (p .issuer) ls) blank .tally) p) ≡ place p ls)
+          → set ls (indexOf (p .issuer) ls) (grownLane (getD ls (indexOf (p .issuer) ls) blank .tally) p) ≡ placed p ls)
           → set (l ∷ ls) (cond t 0 (suc (indexOf (p .issuer) ls)))
-          (grown (getD (l ∷ ls) (cond t 0 (suc (indexOf (p .issuer) ls))) blank .tally) p)
-          ≡ cond t (grown (l .tally) p ∷ ls) (l ∷ place p ls)
+          (grownLane (getD (l ∷ ls) (cond t 0 (suc (indexOf (p .issuer) ls))) blank .tally) p)
+          ≡ cond t (grownLane (l .tally) p ∷ ls) (l ∷ placed p ls)
       go true k later = refl
       go false k later = ap (λ (m : List Lane). l ∷ m) (later (omega arith))
 
-  pub place-new : (ls : List Lane) → length ls ≤ indexOf (p .issuer) ls → ls ++ (p ∷ []) ≡ place p ls
-  place-new [] h = refl
-  place-new (l ∷ ls) h = go (isLaneOf (p .issuer) l) h (place-new ls)
+  pub placed-new : (ls : List Lane) → length ls ≤ indexOf (p .issuer) ls → ls ++ (p ∷ []) ≡ placed p ls
+  placed-new [] h = refl
+  placed-new (l ∷ ls) h = go (isLaneOf (p .issuer) l) h (placed-new ls)
     where
       go : (t : Bool) → suc (length ls) ≤ cond t 0 (suc (indexOf (p .issuer) ls))
-          → (length ls ≤ indexOf (p .issuer) ls → ls ++ (p ∷ []) ≡ place p ls)
-          → l ∷ (ls ++ (p ∷ [])) ≡ cond t (grown (l .tally) p ∷ ls) (l ∷ place p ls)
+          → (length ls ≤ indexOf (p .issuer) ls → ls ++ (p ∷ []) ≡ placed p ls)
+          → l ∷ (ls ++ (p ∷ [])) ≡ cond t (grownLane (l .tally) p ∷ ls) (l ∷ placed p ls)
       go true k later = absurd (omega arith)
       go false k later = ap (λ (m : List Lane). l ∷ m) (later (omega arith))
 
--- the lanes in use of a board that is not made up
+-- a sound board has as many lanes in use as it says
 pub length-lanes : (b : Board) → SoundBoard b → length (lanesOf b) ≡ b .used
 length-lanes b s = length-take-le (b .used) (b .lanes) (omega (arith, s .full, s .few))
 
--- what an accepted payment tells
+-- what is known of an accepted payment
 pub record Fit (b : Board) (p : Lane) : Type 0 where
   pub free : indexOf (p .issuer) (lanesOf b) < mostLanes
   pub own : fits (plus (ownOf (slotOf b (p .issuer))) (p .tally)) ≡ true
@@ -84,22 +84,22 @@ fit b p =
       λ f. two .1 (first .1 (lt-ltb _ _ (f .free)), second .1 (both .1 (f .own, f .low))),
     )
 
--- at place k, the issuer's lane or the first that is free
+-- at index k: the issuer's lane or the first free one
 module _ (b : Board) (p : Lane) (s : SoundBoard b) (k : ℕ) (is : k ≡ indexOf (p .issuer) (lanesOf b)) (free : k < mostLanes) where
   stored-placed : (t : Bool) → ltb k (b .used) ≡ t
-      → take (cond t (b .used) (k + 1)) (set (b .lanes) k (grown (cond t (getD (b .lanes) k blank .tally) none) p))
-      ≡ place p (lanesOf b)
+      → take (cond t (b .used) (k + 1)) (set (b .lanes) k (grownLane (cond t (getD (b .lanes) k blank .tally) emptyTally) p))
+      ≡ placed p (lanesOf b)
   stored-placed true e =
       let h : k < b .used = ltb-true k (b .used) e in
-      let found = place-found p (lanesOf b) (omega (arith, length-lanes b s)) in
-      take-set-lt (b .used) (b .lanes) k (grown (getD (b .lanes) k blank .tally) p) h ∙
-      ap (λ (l : Lane). set (lanesOf b) k (grown (l .tally) p)) (sym (getD-take (b .used) (b .lanes) k blank h)) ∙
+      let found = placed-found p (lanesOf b) (omega (arith, length-lanes b s)) in
+      take-set-lt (b .used) (b .lanes) k (grownLane (getD (b .lanes) k blank .tally) p) h ∙
+      ap (λ (l : Lane). set (lanesOf b) k (grownLane (l .tally) p)) (sym (getD-take (b .used) (b .lanes) k blank h)) ∙
       rw (← is) at found
   stored-placed false e =
       let h = ltb-false k (b .used) e in
       let n = length-lanes b s in
       let last : k ≡ b .used = omega (arith, index-within (p .issuer) (lanesOf b)) in
-      let new = place-new p (lanesOf b) (omega arith) in
+      let new = placed-new p (lanesOf b) (omega arith) in
       rw (add-one k, first-grown p) (take-suc-set (b .lanes) k p (omega (arith, s .full)) ∙ rw last new)
 
   stored-few : (t : Bool) → cond t (b .used) (k + 1) ≤ mostLanes
@@ -107,7 +107,7 @@ module _ (b : Board) (p : Lane) (s : SoundBoard b) (k : ℕ) (is : k ≡ indexOf
   stored-few false = omega arith
 
 module _ (b : Board) (p : Lane) (s : SoundBoard b) where
-  pub with-placed : indexOf (p .issuer) (lanesOf b) < mostLanes → lanesOf (boardWith b p) ≡ place p (lanesOf b)
+  pub with-placed : indexOf (p .issuer) (lanesOf b) < mostLanes → lanesOf (boardWith b p) ≡ placed p (lanesOf b)
   unfolding ownOf usedAfter
   with-placed free = stored-placed b p s (indexOf (p .issuer) (lanesOf b)) refl free (ltb (indexOf (p .issuer) (lanesOf b)) (b .used)) refl
 
@@ -120,8 +120,8 @@ module _ (b : Board) (p : Lane) (s : SoundBoard b) where
       record {
         full = simp length-set (s .full);
         few = with-few (f .free);
-        once = rw (with-placed (f .free)) (place-distinct p (lanesOf b) (s .once));
-        total = rw (with-placed (f .free), place-kept p (lanesOf b), s .total) (plus-swap (tallySum (lanesOf b)) (p .tally));
+        once = rw (with-placed (f .free)) (placed-distinct p (lanesOf b) (s .once));
+        total = rw (with-placed (f .free), placed-kept p (lanesOf b), s .total) (plus-swap (tallySum (lanesOf b)) (p .tally));
         low = f .low;
       }
 
@@ -130,7 +130,7 @@ post-places b p s e = with-placed b p s (fit b p .0 e .free)
 
 pub stays-sound : StaysSound
 stays-sound = (
-  record { full = length-replicate mostLanes blank; few = omega arith; once = tt; total = refl; low = low-fits none (record { payments = omega arith; centavos = omega arith }) },
+  record { full = length-replicate mostLanes blank; few = omega arith; once = tt; total = refl; low = low-fits emptyTally (record { payments = omega arith; centavos = omega arith }) },
   λ b p s. go b p s (postAnswer b p) refl,
 )
   where

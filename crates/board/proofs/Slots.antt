@@ -1,4 +1,4 @@
--- Laws of a slot: its answer in the order of the questions, and the board that it is put back to. Assumes nothing.
+-- Laws of a slot: its answer in the order of the refusals, and the board that it is put back to. Assumes nothing.
 use Prim.Native.Nat.{ℕ, _<_}
 use mathlib.Core.Bool.{Bool, true, false, _&&_}
 use mathlib.Core.List.{List}
@@ -18,33 +18,33 @@ use Rattle.board.specs.declared.Slot.{Slot}
 use Rattle.board.specs.declared.SlotResult.{SlotResult}
 use Rattle.board.specs.declared.PostResult.{PostResult}
 use Rattle.board.specs.Lanes.{mostLanes, plus, fits}
-use Rattle.board.specs.Boards.{blank, lanesOf, indexOf, slotAt, stored, ownOf, usedAfter, grownSlot, slotAnswer, slotResultOf, postResultOf}
+use Rattle.board.specs.Boards.{blank, lanesOf, indexOf, slotAt, withSlot, ownOf, usedAfter, grownSlot, slotAnswer, slotResultOf, postResultOf}
 
--- within the board, only the sums are left to ask: of the lane with the payment, then of the total
+-- within the board only the sums are left to check: of the lane with the payment, then of the total
 module _ (s : Slot) (p : Lane) (own : Tally) (free : s .at < mostLanes) (is : own ≡ ownOf s) where
-  asked-sums : slotAnswer s p ≡ require (fits (plus own (p .tally)) && fits (plus (s .total) (p .tally))) BoardTotalPassed receivedPlace
+  sums-left : slotAnswer s p ≡ require (fits (plus own (p .tally)) && fits (plus (s .total) (p .tally))) BoardTotalPassed receivedPlace
   unfolding slotAnswer
-  asked-sums = rw (lt-ltb (s .at) mostLanes free, is)
+  sums-left = rw (lt-ltb (s .at) mostLanes free, is)
 
-  entered : (t u : Bool) → fits (plus own (p .tally)) ≡ t → fits (plus (s .total) (p .tally)) ≡ u
+  result : (t u : Bool) → fits (plus own (p .tally)) ≡ t → fits (plus (s .total) (p .tally)) ≡ u
       → (a : Answer) → a ≡ require (t && u) BoardTotalPassed receivedPlace → record { answer = a; slot = ifAccepted a (grownSlot s p) s } ≡ slotResultOf s p
-  entered t u e f a g =
-      let h : a ≡ slotAnswer s p = g ∙ sym (asked-sums ∙ rw (e, f)) in
+  result t u e f a g =
+      let h : a ≡ slotAnswer s p = g ∙ sym (sums-left ∙ rw (e, f)) in
       rw h
 
   pub own-passed : fits (plus own (p .tally)) ≡ false → record { answer = Refused BoardTotalPassed receivedPlace; slot = s } ≡ slotResultOf s p
-  own-passed e = entered false (fits (plus (s .total) (p .tally))) e refl (Refused BoardTotalPassed receivedPlace) refl
+  own-passed e = result false (fits (plus (s .total) (p .tally))) e refl (Refused BoardTotalPassed receivedPlace) refl
 
   pub total-passed : fits (plus own (p .tally)) ≡ true → fits (plus (s .total) (p .tally)) ≡ false
       → record { answer = Refused BoardTotalPassed receivedPlace; slot = s } ≡ slotResultOf s p
-  total-passed e f = entered true false e f (Refused BoardTotalPassed receivedPlace) refl
+  total-passed e f = result true false e f (Refused BoardTotalPassed receivedPlace) refl
 
   pub within : {u : ℕ} {t v : Tally} → fits (plus own (p .tally)) ≡ true → fits (plus (s .total) (p .tally)) ≡ true
       → t ≡ plus own (p .tally) → u ≡ usedAfter s → v ≡ plus (s .total) (p .tally)
       → record { answer = Accepted; slot = record { at = s .at; lane = record { issuer = p .issuer; tally = t }; used = u; total = v } } ≡ slotResultOf s p
-  within e f t u v = rw (t, u, v, is) (entered true true e f Accepted refl)
+  within e f t u v = rw (t, u, v, is) (result true true e f Accepted refl)
 
--- what a posting left of its slot, put back: where it was refused, the board is as it was
+-- the slot after a posting, put back: if the payment is refused, the board is as it was
 pub put-back : (b : Board) (p : Lane) (at : ℕ) (e : SlotResult) → at ≡ indexOf (p .issuer) (lanesOf b) → e ≡ slotResultOf (slotAt b at) p
     → _≡_ {A = PostResult}
     (record { answer = e .answer; board = record { lanes = set (b .lanes) at (e .slot .lane); used = e .slot .used; total = e .slot .total } })
@@ -61,7 +61,7 @@ put-back b p at e i f = rw (f, i) (go (indexOf (p .issuer) (lanesOf b)) (slotAns
             total = ifAccepted a (grownSlot (slotAt b k) p) (slotAt b k) .total;
           };
         })
-        (record { answer = a; board = ifAccepted a (stored b (grownSlot (slotAt b k) p)) b })
+        (record { answer = a; board = ifAccepted a (withSlot b (grownSlot (slotAt b k) p)) b })
     go k Accepted = refl
     go k (Refused why q) =
         ap

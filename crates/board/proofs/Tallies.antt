@@ -6,9 +6,9 @@ use native.Mathlib.Omega.{arith}
 use borrow.Author.Tests.{le-leb, lt-leb, leb-true, leb-false}
 use lib.Dec.{leb}
 use Rattle.board.specs.declared.Tally.{Tally}
-use Rattle.board.specs.Lanes.{limit, none, plus, fits}
+use Rattle.board.specs.Lanes.{limit, emptyTally, plus, fits}
 
--- room is left for a number exactly when the sum keeps within the limit
+-- a number is at most what is left of the limit exactly if the sum is within it
 pub room : (sum more : ℕ) → sum ≤ limit → leb more (limit - sum) ≡ leb (sum + more) limit
 room sum more h = go (leb more (limit - sum)) refl
   where
@@ -16,7 +16,7 @@ room sum more h = go (leb more (limit - sum)) refl
     go true e = let k = leb-true more (limit - sum) e in sym (le-leb (sum + more) limit (omega arith))
     go false e = let k = leb-false more (limit - sum) e in sym (lt-leb (sum + more) limit (omega arith))
 
--- what fits, number by number
+-- a tally that fits, number by number
 pub record Low (t : Tally) : Type 0 where
   pub payments : t .payments ≤ limit
   pub centavos : t .centavos ≤ limit
@@ -41,5 +41,5 @@ plus-swap a b = alike (omega arith) (omega arith)
 pub plus-groups : (a b c : Tally) → plus (plus a b) c ≡ plus a (plus b c)
 plus-groups a b c = alike (omega arith) (omega arith)
 
-pub plus-none : (a : Tally) → plus a none ≡ a
+pub plus-none : (a : Tally) → plus a emptyTally ≡ a
 plus-none a = alike (omega arith) (omega arith)

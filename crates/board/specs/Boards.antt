@@ -1,4 +1,4 @@
--- The board of document 01: where an issuer's lane stands, and what posting one payment leaves. Assumes nothing.
+-- The board (SPEC.md, "Board"): the index of an issuer's lane, and what posting one payment leaves. Assumes nothing.
 use Prim.Native.Nat.{ℕ, suc, _+_, _≤_, _<_}
 use mathlib.Core.Bool.{true, cond, _&&_}
 use mathlib.Core.List.{List, [], _∷_, _++_}
@@ -18,48 +18,49 @@ use Rattle.board.specs.declared.Board.{Board}
 use Rattle.board.specs.declared.Slot.{Slot}
 use Rattle.board.specs.declared.SlotResult.{SlotResult}
 use Rattle.board.specs.declared.PostResult.{PostResult}
-use Rattle.board.specs.Lanes.{mostLanes, none, plus, fits, isLaneOf, grown, place, lanesFrom, tallySum, issuersOf, isAmong, Distinct}
+use Rattle.board.specs.Lanes.{mostLanes, emptyTally, plus, fits, isLaneOf, grownLane, placed, lanesFrom, tallySum, issuersOf, isAmong, Distinct}
 
--- what stands where no lane is in use
+-- the array's entry where no lane is in use
 abbrev pub blank : Lane
-blank = record { issuer = record { segment = 0; number = 0 }; tally = none }
+blank = record { issuer = record { segment = 0; number = 0 }; tally = emptyTally }
 
 abbrev pub freshBoard : Board
-freshBoard = record { lanes = replicate mostLanes blank; used = 0; total = none }
+freshBoard = record { lanes = replicate mostLanes blank; used = 0; total = emptyTally }
 
 -- the lanes in use
 abbrev pub lanesOf : Board → List Lane
 lanesOf b = take (b .used) (b .lanes)
 
--- where the issuer's lane stands, counted from 0: at the end where it has none
+-- the index of the issuer's lane, counted from 0; the number of lanes if it has none
 abbrev pub indexOf : Issuer → List Lane → ℕ
 indexOf i [] = 0
 indexOf i (l ∷ ls) = cond (isLaneOf i l) 0 (suc (indexOf i ls))
 
--- all that a payment at this place can change
+-- all that a payment at this index can change
 abbrev pub slotAt : Board → ℕ → Slot
 slotAt b at = record { at = at; lane = getD (b .lanes) at blank; used = b .used; total = b .total }
 
 abbrev pub slotOf : Board → Issuer → Slot
 slotOf b i = slotAt b (indexOf i (lanesOf b))
 
--- a slot put back
-abbrev pub stored : Board → Slot → Board
-stored b s = record { lanes = set (b .lanes) (s .at) (s .lane); used = s .used; total = s .total }
+-- the board with a slot put back
+abbrev pub withSlot : Board → Slot → Board
+withSlot b s = record { lanes = set (b .lanes) (s .at) (s .lane); used = s .used; total = s .total }
 
--- what the lane in use at the slot's place has; nothing where the place is free
+-- the tally of the lane at the slot's index; zeros if the index is not in use
 unfoldable pub ownOf : Slot → Tally
-ownOf s = cond (ltb (s .at) (s .used)) (s .lane .tally) none
+ownOf s = cond (ltb (s .at) (s .used)) (s .lane .tally) emptyTally
 
+-- how many lanes are in use once the slot's is
 unfoldable pub usedAfter : Slot → ℕ
 usedAfter s = cond (ltb (s .at) (s .used)) (s .used) (s .at + 1)
 
--- the slot with a payment more
+-- the slot with one more payment
 abbrev pub grownSlot : Slot → Lane → Slot
 grownSlot s p =
-    record { at = s .at; lane = grown (ownOf s) p; used = usedAfter s; total = plus (s .total) (p .tally) }
+    record { at = s .at; lane = grownLane (ownOf s) p; used = usedAfter s; total = plus (s .total) (p .tally) }
 
--- 17, a new issuer when all lanes are taken; 18, a number of the lane or of the total that would pass the limit
+-- 17: a new issuer when all lanes are in use; 18: a number of the lane or of the total that would pass the limit
 unfoldable pub slotAnswer : Slot → Lane → Answer
 slotAnswer s p =
     require (ltb (s .at) mostLanes) BoardFull issuerPlace
@@ -73,12 +74,12 @@ abbrev pub postAnswer : Board → Lane → Answer
 postAnswer b p = slotAnswer (slotOf b (p .issuer)) p
 
 abbrev pub boardWith : Board → Lane → Board
-boardWith b p = stored b (grownSlot (slotOf b (p .issuer)) p)
+boardWith b p = withSlot b (grownSlot (slotOf b (p .issuer)) p)
 
 abbrev pub postResultOf : Board → Lane → PostResult
 postResultOf b p = record { answer = postAnswer b p; board = ifAccepted (postAnswer b p) (boardWith b p) b }
 
--- payments one after the other, in the order in which they come: the first refusal, and the board with them all
+-- payments one after the other, in order of arrival: the first refusal, and the board with them all
 abbrev pub postAnswers : Board → List Lane → Answer
 postAnswers b [] = Accepted
 postAnswers b (p ∷ ps) = postAnswer b p then postAnswers (boardWith b p) ps
@@ -87,13 +88,13 @@ abbrev pub boardWithAll : Board → List Lane → Board
 boardWithAll b [] = b
 boardWithAll b (p ∷ ps) = boardWithAll (boardWith b p) ps
 
--- the answer to a payment after others, with no board: 17, more issuers than there are lanes; 18, a sum that does not fit
+-- the answer to a payment after others, with no board: 17: more issuers than lanes; 18: a sum that would pass the limit
 abbrev pub answerAfter : List Lane → Lane → Answer
 answerAfter ps p =
     require (leb (length (lanesFrom (ps ++ (p ∷ [])))) mostLanes) BoardFull issuerPlace
     then require (fits (tallySum (ps ++ (p ∷ [])))) BoardTotalPassed receivedPlace
 
--- what holds of every board that the methods make
+-- what holds of every board that the methods return from a fresh one
 pub record SoundBoard (b : Board) : Type 0 where
   pub full : length (b .lanes) ≡ mostLanes
   pub few : b .used ≤ mostLanes
@@ -101,14 +102,15 @@ pub record SoundBoard (b : Board) : Type 0 where
   pub total : b .total ≡ tallySum (lanesOf b)
   pub low : fits (b .total) ≡ true
 
--- Promises: of one payment. A refusal changes nothing, and an accepted payment is placed; a sound board stays sound, and accepts exactly
--- where the issuer has a lane or one is free and no total passes the limit.
+-- Promises, of one payment: a refusal changes nothing, and an accepted payment is added to its lane; a sound board stays
+-- sound, and accepts exactly if the issuer has a lane or one is free, and no total passes the limit.
 
 abbrev pub RefusalKeepsBoard : Type 0
 RefusalKeepsBoard = (b : Board) (p : Lane) → (postResultOf b p .answer ≡ Accepted → ⊥) → postResultOf b p .board ≡ b
 
 abbrev pub PostPlaces : Type 0
-PostPlaces = (b : Board) (p : Lane) → SoundBoard b → postAnswer b p ≡ Accepted → lanesOf (boardWith b p) ≡ place p (lanesOf b)
+PostPlaces =
+    (b : Board) (p : Lane) → SoundBoard b → postAnswer b p ≡ Accepted → lanesOf (boardWith b p) ≡ placed p (lanesOf b)
 
 abbrev pub StaysSound : Type 0
 StaysSound = SoundBoard freshBoard × ((b : Board) (p : Lane) → SoundBoard b → SoundBoard (postResultOf b p .board))
@@ -117,19 +119,24 @@ abbrev pub PostAccepts : Type 0
 PostAccepts =
     (b : Board) (p : Lane) → SoundBoard b
     → (postAnswer b p ≡ Accepted)
-    ↔ (((isAmong (p .issuer) (issuersOf (lanesOf b)) ≡ true) ⊎ (b .used < mostLanes)) × (fits (plus (b .total) (p .tally)) ≡ true))
+    ↔ (((isAmong (p .issuer) (issuersOf (lanesOf b)) ≡ true) ⊎ (b .used < mostLanes))
+    × (fits (plus (b .total) (p .tally)) ≡ true))
 
--- Promises: of a board that holds some payments. It answers as they do. A fresh board takes payments exactly where they have few enough
--- issuers and a sum within the limit; its lanes are then the payments gathered by issuer, and its total is their sum.
+-- Promises, of a board that holds some payments: its answers follow from them alone. A fresh board takes payments exactly
+-- if they have at most 64 issuers and a sum within the limit; its lanes are then the payments grouped by issuer, and its
+-- total is their sum.
 
 abbrev pub AnswersAsPayments : Type 0
-AnswersAsPayments = (b : Board) (ps : List Lane) (p : Lane) → SoundBoard b → lanesOf b ≡ lanesFrom ps → postAnswer b p ≡ answerAfter ps p
+AnswersAsPayments =
+    (b : Board) (ps : List Lane) (p : Lane) → SoundBoard b → lanesOf b ≡ lanesFrom ps → postAnswer b p ≡ answerAfter ps p
 
 abbrev pub FreshBoardTakes : Type 0
 FreshBoardTakes =
-    (ps : List Lane) → (postAnswers freshBoard ps ≡ Accepted) ↔ ((length (lanesFrom ps) ≤ mostLanes) × (fits (tallySum ps) ≡ true))
+    (ps : List Lane)
+    → (postAnswers freshBoard ps ≡ Accepted) ↔ ((length (lanesFrom ps) ≤ mostLanes) × (fits (tallySum ps) ≡ true))
 
 abbrev pub FreshBoardHolds : Type 0
 FreshBoardHolds =
     (ps : List Lane) → postAnswers freshBoard ps ≡ Accepted
-    → (lanesOf (boardWithAll freshBoard ps) ≡ lanesFrom ps) × (boardWithAll freshBoard ps .total ≡ tallySum ps) × SoundBoard (boardWithAll freshBoard ps)
+    → (lanesOf (boardWithAll freshBoard ps) ≡ lanesFrom ps) × (boardWithAll freshBoard ps .total ≡ tallySum ps)
+    × SoundBoard (boardWithAll freshBoard ps)

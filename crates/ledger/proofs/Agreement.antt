@@ -29,7 +29,7 @@ use Rattle.board.proofs.Lanes.{split, one-payment-more}
 use Rattle.board.proofs.Posting.{fit, with-sound, post-places, stays-sound}
 use Rattle.board.proofs.Boards.{answers-as-payments}
 use Rattle.session.specs.declared.Session.{Session}
-use Rattle.session.specs.Sessions.{freshSession, openedAt, closedAt, sessionExpects, figuresIn, payAnswer, paying, applyAnswer, nextSession, takeAnswer, takeOf, abandonOf}
+use Rattle.session.specs.Sessions.{freshSession, openedAt, closedAt, sessionExpects, figuresIn, payAnswer, sessionWithPayment, sessionAnswer, sessionWith, takeAnswer, takeOf, abandonOf}
 use Rattle.ledger.specs.Ledgers.{Filed, Ledger, freshLedger, paymentRecords, openRecords, laneOfRecord, lanesOfRecords, receivedIn, awaits, paymentStateAnswer, trailerStateAnswer, stateAnswer, ledgerAnswer, withRecord, Step, taking, abandoning, noted, ledgerAfter, ledgerAnswers}
 use Rattle.ledger.specs.Promises.{stepped, sessionAfter, answersOf, isOpen, allRecords, Agrees, SessionAgrees, AnswersAreTheLedgers, NextAnswerIsTheLedgers}
 
@@ -51,7 +51,7 @@ module _ (s : Session) (files : List Filed) (rec : List ℕ) where
   trailer-asked f h = rw (h .taken, h .total)
 
   record-asked : (o : Option Filed) (n : MaybeRecord) (a : Answer) → Agrees s (record { accepted = files; opened = o })
-      → require (sessionExpects (s .opened) n) NotExpected 1 then applyAnswer s (shownUnlessRefused a (recordShown n rec))
+      → require (sessionExpects (s .opened) n) NotExpected 1 then sessionAnswer s (shownUnlessRefused a (recordShown n rec))
       ≡ require (awaits o n) NotExpected 1 then a then stateAnswer files o n rec
   record-asked none (Is Header) Accepted h = rw (h .opened)
   record-asked none (Is Header) (Refused why p) h = rw (h .opened)
@@ -117,7 +117,7 @@ module _ (s : Session) (files : List Filed) (rec : List ℕ) where
     more : allRecords (withRecord files (some f) (Is Payment) rec) ≡ (paymentRecords files ++ f .payments) ++ (rec ∷ [])
     more = sym (append-assoc (paymentRecords files) (f .payments) (rec ∷ []))
 
-    pays : payAnswer s (laneOfRecord rec) ≡ Accepted → Agrees (paying s (laneOfRecord rec)) (withRecord files (some f) (Is Payment) rec)
+    pays : payAnswer s (laneOfRecord rec) ≡ Accepted → Agrees (sessionWithPayment s (laneOfRecord rec)) (withRecord files (some f) (Is Payment) rec)
     pays e =
         let before = paymentRecords files ++ f .payments in
         let posted = then-accepts (fileAnswer (s .file) (paymentShown rec .received)) (postAnswer (s .work) (laneOfRecord rec)) .0 e .1 in
@@ -135,7 +135,7 @@ module _ (s : Session) (files : List Filed) (rec : List ℕ) where
         }
 
   followed : (o : Option Filed) (n : MaybeRecord) (a : Answer) → Agrees s (record { accepted = files; opened = o }) → sessionExpects (s .opened) n ≡ true
-      → applyAnswer s (shownUnlessRefused a (recordShown n rec)) ≡ Accepted → Agrees (nextSession s (shownUnlessRefused a (recordShown n rec))) (withRecord files o n rec)
+      → sessionAnswer s (shownUnlessRefused a (recordShown n rec)) ≡ Accepted → Agrees (sessionWith s (shownUnlessRefused a (recordShown n rec))) (withRecord files o n rec)
   followed o n (Refused why p) h x e = not-both _ refl e
   followed o Other Accepted h x e = absurd (false≢true x)
   followed none (Is Header) Accepted h x e = opens none h
@@ -156,7 +156,7 @@ pub take-agrees : (s : Session) (k : Ledger) (rec : List ℕ) → Agrees s k →
 take-agrees s k rec h = rw (← answer-agrees s k rec h) (go (takeAnswer s rec) refl)
   where
     go : (a : Answer) → takeAnswer s rec ≡ a
-        → Agrees (ifAccepted a (nextSession s (decodedRecord rec)) s) (ifAccepted a (withRecord (k .accepted) (k .opened) (namedBy (getD rec 0 0)) rec) k)
+        → Agrees (ifAccepted a (sessionWith s (decodedRecord rec)) s) (ifAccepted a (withRecord (k .accepted) (k .opened) (namedBy (getD rec 0 0)) rec) k)
     go (Refused why p) e = h
     go Accepted e =
         let own = passed (eqb (length rec) recordLength) WrongLength 0 e .1 in

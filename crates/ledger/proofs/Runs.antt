@@ -19,8 +19,8 @@ use Rattle.layout.specs.Layouts.{recordLength, namedBy}
 use Rattle.record.specs.Values.{decodedRecord}
 use Rattle.session.specs.declared.Session.{Session}
 use Rattle.session.specs.declared.RunResult.{RunResult}
-use Rattle.session.specs.Sessions.{freshSession, nextSession, takeAnswer, takeOf}
-use Rattle.session.specs.Runs.{piecesOf, closedBy, after, stoppedIfRefused, runAll}
+use Rattle.session.specs.Sessions.{freshSession, sessionWith, takeAnswer, takeOf}
+use Rattle.session.specs.Runs.{piecesOf, filesClosed, addCounts, stoppedIfRefused, runAll}
 use Rattle.ledger.specs.Ledgers.{Filed, Ledger, freshLedger, awaits, ledgerAnswer, withRecord, Step, taking, noted, ledgerAfter, ledgerAnswers}
 use Rattle.ledger.specs.Promises.{sessionAfter, Agrees}
 use Rattle.ledger.specs.WholeFiles.{AllAccepted}
@@ -37,7 +37,7 @@ record Tells (s : Session) (k : Ledger) (recs : List (List ℕ)) (r : RunResult)
 
 -- an accepted Z adds a file to the book, and no other record does
 files-after : (files : List Filed) (o : Option Filed) (n : MaybeRecord) (rec : List ℕ) → awaits o n ≡ true
-    → length (withRecord files o n rec .accepted) ≡ length files + closedBy n
+    → length (withRecord files o n rec .accepted) ≡ length files + filesClosed n
 files-after files none (Is Header) rec e = omega arith
 files-after files none (Is Payment) rec e = absurd (false≢true e)
 files-after files none (Is Trailer) rec e = absurd (false≢true e)
@@ -52,14 +52,14 @@ module _ (rec : List ℕ) (recs : List (List ℕ)) (s next : Session) (k book : 
   one : 1 + r .records ≡ suc (r .records)
   one = omega arith
 
-  steps-more : stepsOf (rec ∷ recs) (after 1 c r) ≡ taking rec ∷ stepsOf recs r
+  steps-more : stepsOf (rec ∷ recs) (addCounts 1 c r) ≡ taking rec ∷ stepsOf recs r
   steps-more = ap (λ (m : ℕ). map taking (take m (rec ∷ recs))) one
 
   more : takeOf s rec .session ≡ next → noted k (taking rec) ≡ book → ledgerAnswer k rec ≡ Accepted
-      → length (book .accepted) ≡ length (k .accepted) + c → Tells next book recs r → Tells s k (rec ∷ recs) (after 1 c r)
+      → length (book .accepted) ≡ length (k .accepted) + c → Tells next book recs r → Tells s k (rec ∷ recs) (addCounts 1 c r)
   more followed entered e grown t =
       let steps = stepsOf recs r in
-      let books : ledgerAfter k (stepsOf (rec ∷ recs) (after 1 c r)) ≡ ledgerAfter book steps =
+      let books : ledgerAfter k (stepsOf (rec ∷ recs) (addCounts 1 c r)) ≡ ledgerAfter book steps =
       ap (ledgerAfter k) steps-more ∙ ap (λ (b : Ledger). ledgerAfter b steps) entered in
       record {
         session = t .session ∙ ap (λ (x : Session). sessionAfter x steps) (sym followed) ∙ ap (sessionAfter s) (sym steps-more);
@@ -76,7 +76,7 @@ tells [] s k h = record { session = refl; files = omega arith; accepted = tt; an
 tells (rec ∷ recs) s k h = go (takeAnswer s rec) refl (tells recs)
   where
     go : (a : Answer) → takeAnswer s rec ≡ a → ((s : Session) (k : Ledger) → Agrees s k → Tells s k recs (runAll s recs))
-        → Tells s k (rec ∷ recs) (stoppedIfRefused a s (after 1 (closedBy (namedBy (getD rec 0 0))) (runAll (nextSession s (decodedRecord rec)) recs)))
+        → Tells s k (rec ∷ recs) (stoppedIfRefused a s (addCounts 1 (filesClosed (namedBy (getD rec 0 0))) (runAll (sessionWith s (decodedRecord rec)) recs)))
     go (Refused why p) e later =
         record {
           session = refl;
@@ -89,13 +89,13 @@ tells (rec ∷ recs) s k h = go (takeAnswer s rec) refl (tells recs)
         let n = namedBy (getD rec 0 0) in
         let book = withRecord (k .accepted) (k .opened) n rec in
         let own : ledgerAnswer k rec ≡ Accepted = sym (answer-agrees s k rec h) ∙ e in
-        let followed : takeOf s rec .session ≡ nextSession s (decodedRecord rec) = accepted-takes (takeAnswer s rec) (nextSession s (decodedRecord rec)) s e in
+        let followed : takeOf s rec .session ≡ sessionWith s (decodedRecord rec) = accepted-takes (takeAnswer s rec) (sessionWith s (decodedRecord rec)) s e in
         let entered : noted k (taking rec) ≡ book = accepted-takes (ledgerAnswer k rec) book k own in
-        let agrees : Agrees (nextSession s (decodedRecord rec)) book =
+        let agrees : Agrees (sessionWith s (decodedRecord rec)) book =
         subst (λ (x : Session). Agrees x book) followed (subst (λ (b : Ledger). Agrees (takeOf s rec .session) b) entered (take-agrees s k rec h)) in
         let expected = passed (awaits (k .opened) n) NotExpected 1 (passed (eqb (length rec) recordLength) WrongLength 0 own .1) .0 in
-        more rec recs s (nextSession s (decodedRecord rec)) k book (closedBy n) (runAll (nextSession s (decodedRecord rec)) recs) followed entered own
-        (files-after (k .accepted) (k .opened) n rec expected) (later (nextSession s (decodedRecord rec)) book agrees)
+        more rec recs s (sessionWith s (decodedRecord rec)) k book (filesClosed n) (runAll (sessionWith s (decodedRecord rec)) recs) followed entered own
+        (files-after (k .accepted) (k .opened) n rec expected) (later (sessionWith s (decodedRecord rec)) book agrees)
 
 pub run-is-the-books : RunIsTheLedgers
 run-is-the-books bytes =

@@ -25,7 +25,7 @@ use Rattle.record.specs.Records.{recordAnswer}
 use Rattle.record.specs.Values.{trailerShown, recordShown, shownUnlessRefused, decodedRecord}
 use Rattle.record.proofs.Shown.{accepted-is}
 use Rattle.session.specs.declared.Session.{Session}
-use Rattle.session.specs.Sessions.{closedAt, sessionExpects, applyAnswer, nextSession, takeAnswer, takeOf, abandonOf}
+use Rattle.session.specs.Sessions.{closedAt, sessionExpects, sessionAnswer, sessionWith, takeAnswer, takeOf, abandonOf}
 use Rattle.ledger.specs.Ledgers.{Filed, Ledger, receivedIn, trailerStateAnswer, ledgerAnswer, taking, abandoning}
 use Rattle.ledger.specs.Promises.{ledgerOf, TrueTrailersOnly, RefusalKeepsSession, OnlyTrailersShow, TrailersShowAll, NothingShowsBefore, AbandonKeepsBoard, AbandonDropsFile, AbandonNothing, FinishKeepsSession, FinishAnswers}
 use Rattle.ledger.proofs.Agreement.{next-answer-is-the-books}
@@ -56,11 +56,11 @@ true-trailers-only steps f rec o e n = rw (next-answer-is-the-books steps rec, t
 -- Any session.
 
 pub refusal-keeps-session : RefusalKeepsSession
-refusal-keeps-session s rec h = refusal-keeps (takeAnswer s rec) (nextSession s (decodedRecord rec)) s h
+refusal-keeps-session s rec h = refusal-keeps (takeAnswer s rec) (sessionWith s (decodedRecord rec)) s h
 
 -- what a record leaves of the board shown
 module _ (s : Session) (rec : List ℕ) where
-  stays : (n : MaybeRecord) (own a : Answer) → (n ≡ Is Trailer → ⊥) → ifAccepted a (nextSession s (shownUnlessRefused own (recordShown n rec))) s .shown ≡ s .shown
+  stays : (n : MaybeRecord) (own a : Answer) → (n ≡ Is Trailer → ⊥) → ifAccepted a (sessionWith s (shownUnlessRefused own (recordShown n rec))) s .shown ≡ s .shown
   stays n own (Refused why p) h = refl
   stays n (Refused why p) Accepted h = refl
   stays (Is Header) Accepted Accepted h = refl
@@ -71,7 +71,7 @@ module _ (s : Session) (rec : List ℕ) where
 pub only-trailers-show : OnlyTrailersShow
 only-trailers-show s rec h = stays s rec (namedBy (getD rec 0 0)) (recordAnswer rec) (takeAnswer s rec) h
 
-own-accepts : (s : Session) (a : Answer) (d : Decoded) → applyAnswer s (shownUnlessRefused a d) ≡ Accepted → a ≡ Accepted
+own-accepts : (s : Session) (a : Answer) (d : Decoded) → sessionAnswer s (shownUnlessRefused a d) ≡ Accepted → a ≡ Accepted
 own-accepts s Accepted d e = refl
 own-accepts s (Refused why p) d e = e
 

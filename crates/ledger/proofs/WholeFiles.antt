@@ -28,15 +28,15 @@ use Rattle.board.proofs.Lanes.{payments-add, centavos-add, sum-read}
 use Rattle.board.proofs.Boards.{fresh-board-takes, fresh-board-holds}
 use Rattle.session.specs.declared.Session.{Session}
 use Rattle.session.specs.declared.TakeResult.{TakeResult}
-use Rattle.session.specs.Sessions.{closedAt, openedAt, expectsThe, figuresIn, payAnswer, paying, applyAnswer, nextSession, takeResult, takeOf}
+use Rattle.session.specs.Sessions.{closedAt, openedAt, sessionExpects, figuresIn, payAnswer, sessionWithPayment, sessionAnswer, sessionWith, takeResult, takeOf}
 use Rattle.ledger.specs.Ledgers.{laneOfRecord, lanesOfRecords, receivedIn, Step, taking}
 use Rattle.ledger.specs.Promises.{sessionAfter, answersOf}
 use Rattle.ledger.specs.WholeFiles.{IsRight, Whole, receivedEach, TrueFigures, AllAccepted, FileAccepted, FilePosted, FreshSessionAccepts, FreshSessionShows}
 use Rattle.ledger.proofs.Shown.{count-paid, sum-paid}
 
 -- a record that is right and expected meets the session
-taken : (s : Session) (r : Record) (rec : List ℕ) → IsRight r rec → expectsThe (s .opened) r ≡ true
-    → takeOf s rec ≡ takeResult (applyAnswer s (recordShown (Is r) rec)) (nextSession s (recordShown (Is r) rec)) s
+taken : (s : Session) (r : Record) (rec : List ℕ) → IsRight r rec → sessionExpects (s .opened) (Is r) ≡ true
+    → takeOf s rec ≡ takeResult (sessionAnswer s (recordShown (Is r) rec)) (sessionWith s (recordShown (Is r) rec)) s
 taken s r rec h e = rw (h .1, h .0, e, eq-eqb (length rec) recordLength (accepted-is rec (h .0) .0))
 
 -- in an open file: these boards, this file
@@ -57,14 +57,14 @@ module _ (shown : Board) (z : List ℕ) (right : IsRight Trailer z) where
   closing b f = taken (inside shown b f) Trailer z right refl
 
   module _ (b : Board) (f : File) (rec : List ℕ) (h : IsRight Payment rec) where
-    paying-takes : takeOf (inside shown b f) rec ≡ takeResult (payAnswer (inside shown b f) (laneOfRecord rec)) (paying (inside shown b f) (laneOfRecord rec)) (inside shown b f)
+    paying-takes : takeOf (inside shown b f) rec ≡ takeResult (payAnswer (inside shown b f) (laneOfRecord rec)) (sessionWithPayment (inside shown b f) (laneOfRecord rec)) (inside shown b f)
     paying-takes = taken (inside shown b f) Payment rec h refl
 
     paid-next : payAnswer (inside shown b f) (laneOfRecord rec) ≡ Accepted
         → takeOf (inside shown b f) rec .session ≡ inside shown (boardWith b (laneOfRecord rec)) (fileWith f (paymentShown rec .received))
     paid-next e =
         ap (λ (t : TakeResult). t .session) paying-takes ∙
-        accepted-takes (payAnswer (inside shown b f) (laneOfRecord rec)) (paying (inside shown b f) (laneOfRecord rec)) (inside shown b f) e
+        accepted-takes (payAnswer (inside shown b f) (laneOfRecord rec)) (sessionWithPayment (inside shown b f) (laneOfRecord rec)) (inside shown b f) e
 
   asked-rest : (recs : List (List ℕ)) → Each (IsRight Payment) recs → (b : Board) (f : File)
       → AllAccepted (answersOf (inside shown b f) (rest z recs)) ↔ Passes z b f recs

@@ -17,19 +17,19 @@ use Rattle.record.specs.Values.{decodedRecord}
 use Rattle.session.specs.declared.Session.{Session}
 use Rattle.session.specs.declared.TakeResult.{TakeResult}
 use Rattle.session.specs.declared.RunResult.{RunResult}
-use Rattle.session.specs.Sessions.{takeAnswer, nextSession, finishOf}
-use Rattle.session.specs.Runs.{piecesUpTo, piecesOf, closedBy, after, stoppedIfRefused, runAll, runOf}
+use Rattle.session.specs.Sessions.{takeAnswer, sessionWith, finishOf}
+use Rattle.session.specs.Runs.{piecesUpTo, piecesOf, filesClosed, addCounts, stoppedIfRefused, runAll, runOf}
 use Rattle.quadro.specs.declared.ReadResult.{ReadResult}
 use Rattle.quadro.specs.declared.ReadResult.the-variants.{Ended}
 use Rattle.quadro.specs.Days.{runBufferOf, endedOf, Counted, CountsWithin}
 
-closed-few : (n : MaybeRecord) → closedBy n ≤ 1
+closed-few : (n : MaybeRecord) → filesClosed n ≤ 1
 closed-few (Is Header) = omega arith
 closed-few (Is Payment) = omega arith
 closed-few (Is Trailer) = omega arith
 closed-few Other = omega arith
 
-one-more : (a : Answer) (s : Session) (closed n : ℕ) (next : RunResult) → closed ≤ 1 → Counted n next → Counted (suc n) (stoppedIfRefused a s (after 1 closed next))
+one-more : (a : Answer) (s : Session) (closed n : ℕ) (next : RunResult) → closed ≤ 1 → Counted n next → Counted (suc n) (stoppedIfRefused a s (addCounts 1 closed next))
 one-more Accepted s closed n next h c = (omega arith, omega arith)
 one-more (Refused why place) s closed n next h c = (omega arith, omega arith)
 
@@ -37,7 +37,7 @@ all-few : (s : Session) (rs : List (List ℕ)) → Counted (length rs) (runAll s
 all-few s [] = (omega arith, omega arith)
 all-few s (r ∷ rs) =
     let named = namedBy (getD r 0 0) in
-    one-more (takeAnswer s r) s (closedBy named) (length rs) (runAll (nextSession s (decodedRecord r)) rs) (closed-few named) (all-few (nextSession s (decodedRecord r)) rs)
+    one-more (takeAnswer s r) s (filesClosed named) (length rs) (runAll (sessionWith s (decodedRecord r)) rs) (closed-few named) (all-few (sessionWith s (decodedRecord r)) rs)
 
 pieces-few : (n : ℕ) (bytes : List ℕ) → length (piecesUpTo n bytes) ≤ n
 pieces-few zero bytes = omega arith
@@ -59,8 +59,8 @@ counted s bytes e = rw e (run-few s bytes)
 pub few-fed : (s : Session) (buf : List ℕ) (n : ℕ) {r : RunResult} → n ≤ length buf → r ≡ runOf s (take n buf) → Counted n r
 few-fed s buf n h e = rw (length-take-le n buf h) at (counted s (take n buf) e)
 
-pub fed : (day : RunResult) (bytes : List ℕ) {r : RunResult} → r ≡ runOf (day .session) bytes → after (day .records) (day .files) r ≡ runBufferOf day bytes
-fed day bytes e = ap (after (day .records) (day .files)) e
+pub fed : (day : RunResult) (bytes : List ℕ) {r : RunResult} → r ≡ runOf (day .session) bytes → addCounts (day .records) (day .files) r ≡ runBufferOf day bytes
+fed day bytes e = ap (addCounts (day .records) (day .files)) e
 
 pub ended-refused : (day : RunResult) {why : Reason} {place : ℕ} → day .answer ≡ Refused why place → day ≡ endedOf day
 ended-refused day e =

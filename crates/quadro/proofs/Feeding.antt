@@ -13,14 +13,14 @@ use Rattle.layout.specs.Layouts.{recordLength, namedBy}
 use Rattle.record.specs.Values.{decodedRecord}
 use Rattle.session.specs.declared.Session.{Session}
 use Rattle.session.specs.declared.RunResult.{RunResult}
-use Rattle.session.specs.Sessions.{takeAnswer, nextSession}
-use Rattle.session.specs.Runs.{closedBy, ranOut, after, runOf}
-use Rattle.session.proofs.Runs.{run-refused, run-on, after-after, after-none}
+use Rattle.session.specs.Sessions.{takeAnswer, sessionWith}
+use Rattle.session.specs.Runs.{filesClosed, emptyRun, addCounts, runOf}
+use Rattle.session.proofs.Runs.{run-refused, run-on, counts-add, counts-none}
 use Rattle.quadro.specs.Days.{runBufferOf, FeedingIsOneRun, FullBufferIsWhole}
 
 -- the run over what is left behind a run
 abbrev behind : RunResult → List ℕ → RunResult
-behind r rest = after (r .records) (r .files) (runOf (r .session) rest)
+behind r rest = addCounts (r .records) (r .files) (runOf (r .session) rest)
 
 -- a front of at least one record, and the rest behind it
 module _ (s : Session) (front rest : List ℕ) (whole : recordLength ≤ length front) where
@@ -28,10 +28,10 @@ module _ (s : Session) (front rest : List ℕ) (whole : recordLength ≤ length 
   piece = take recordLength front
 
   abbrev next : Session
-  next = nextSession s (decodedRecord piece)
+  next = sessionWith s (decodedRecord piece)
 
   abbrev closed : ℕ
-  closed = closedBy (namedBy (getD piece 0 0))
+  closed = filesClosed (namedBy (getD piece 0 0))
 
   abbrev front-left : List ℕ
   front-left = drop recordLength front
@@ -45,21 +45,21 @@ module _ (s : Session) (front rest : List ℕ) (whole : recordLength ≤ length 
   same-piece : take recordLength (front ++ rest) ≡ piece
   same-piece = take-append-le recordLength front rest whole
 
-  goes : takeAnswer s piece ≡ Accepted → runOf s front ≡ after 1 closed (runOf next front-left)
+  goes : takeAnswer s piece ≡ Accepted → runOf s front ≡ addCounts 1 closed (runOf next front-left)
   goes e = run-on s front more e
 
-  goes-on : takeAnswer s piece ≡ Accepted → runOf s (front ++ rest) ≡ after 1 closed (runOf next (front-left ++ rest))
+  goes-on : takeAnswer s piece ≡ Accepted → runOf s (front ++ rest) ≡ addCounts 1 closed (runOf next (front-left ++ rest))
   goes-on e =
       let h : takeAnswer s (take recordLength (front ++ rest)) ≡ Accepted = ap (takeAnswer s) same-piece ∙ e in
       run-on s (front ++ rest) more-on h
-      ∙ ap (λ (r : List ℕ). after 1 (closedBy (namedBy (getD r 0 0))) (runOf (nextSession s (decodedRecord r)) (drop recordLength (front ++ rest)))) same-piece
-      ∙ ap (λ (l : List ℕ). after 1 closed (runOf next l)) (drop-append-le recordLength front rest whole)
+      ∙ ap (λ (r : List ℕ). addCounts 1 (filesClosed (namedBy (getD r 0 0))) (runOf (sessionWith s (decodedRecord r)) (drop recordLength (front ++ rest)))) same-piece
+      ∙ ap (λ (l : List ℕ). addCounts 1 closed (runOf next l)) (drop-append-le recordLength front rest whole)
 
   module _ {why : Reason} {p : ℕ} (e : takeAnswer s piece ≡ Refused why p) where
-    stops : runOf s front ≡ ranOut (takeAnswer s piece) s
+    stops : runOf s front ≡ emptyRun (takeAnswer s piece) s
     stops = run-refused s front more refl e
 
-    stops-too : runOf s (front ++ rest) ≡ ranOut (takeAnswer s piece) s
+    stops-too : runOf s (front ++ rest) ≡ emptyRun (takeAnswer s piece) s
     stops-too = run-refused s (front ++ rest) more-on (ap (takeAnswer s) (sym same-piece)) e
 
   join-piece : (x : Answer) → takeAnswer s piece ≡ x
@@ -68,8 +68,8 @@ module _ (s : Session) (front rest : List ℕ) (whole : recordLength ≤ length 
   join-piece Accepted e on a =
       let r = runOf next front-left in
       let g = goes e in
-      goes-on e ∙ ap (after 1 closed) (on (ap (λ (x : RunResult). x .answer) (sym g) ∙ a))
-      ∙ after-after 1 closed (r .records) (r .files) (runOf (r .session) rest) ∙ ap (λ (x : RunResult). behind x rest) (sym g)
+      goes-on e ∙ ap (addCounts 1 closed) (on (ap (λ (x : RunResult). x .answer) (sym g) ∙ a))
+      ∙ counts-add 1 closed (r .records) (r .files) (runOf (r .session) rest) ∙ ap (λ (x : RunResult). behind x rest) (sym g)
   join-piece (Refused why p) e on a = not-both (takeAnswer s piece) e (ap (λ (x : RunResult). x .answer) (sym (stops e)) ∙ a)
 
   end-piece : (x : Answer) → takeAnswer s piece ≡ x
@@ -77,7 +77,7 @@ module _ (s : Session) (front rest : List ℕ) (whole : recordLength ≤ length 
       → (runOf s front .answer ≡ Accepted → ⊥) → runOf s (front ++ rest) ≡ runOf s front
   end-piece Accepted e on a =
       let g = goes e in
-      goes-on e ∙ ap (after 1 closed) (on (λ (b : runOf next front-left .answer ≡ Accepted). a (ap (λ (x : RunResult). x .answer) g ∙ b))) ∙ sym g
+      goes-on e ∙ ap (addCounts 1 closed) (on (λ (b : runOf next front-left .answer ≡ Accepted). a (ap (λ (x : RunResult). x .answer) g ∙ b))) ∙ sym g
   end-piece (Refused why p) e on a = stops-too e ∙ sym (stops e)
 
 left : (n : ℕ) (front : List ℕ) → length front ≡ suc n * recordLength → length (drop recordLength front) ≡ n * recordLength
@@ -85,11 +85,11 @@ left n front h = let l = length-drop recordLength front in omega arith
 
 joins : (n : ℕ) (s : Session) (front rest : List ℕ) → length front ≡ n * recordLength → runOf s front .answer ≡ Accepted
     → runOf s (front ++ rest) ≡ behind (runOf s front) rest
-joins zero s [] rest h a = sym (after-none (runOf s rest))
+joins zero s [] rest h a = sym (counts-none (runOf s rest))
 joins zero s (b ∷ front) rest h a = absurd (omega arith)
 joins (suc n) s front rest h a =
     join-piece s front rest (omega arith) (takeAnswer s (take recordLength front)) refl
-    (joins n (nextSession s (decodedRecord (take recordLength front))) (drop recordLength front) rest (left n front h)) a
+    (joins n (sessionWith s (decodedRecord (take recordLength front))) (drop recordLength front) rest (left n front h)) a
 
 ends : (n : ℕ) (s : Session) (front rest : List ℕ) → length front ≡ n * recordLength → (runOf s front .answer ≡ Accepted → ⊥)
     → runOf s (front ++ rest) ≡ runOf s front
@@ -97,16 +97,16 @@ ends zero s [] rest h a = absurd (a refl)
 ends zero s (b ∷ front) rest h a = absurd (omega arith)
 ends (suc n) s front rest h a =
     end-piece s front rest (omega arith) (takeAnswer s (take recordLength front)) refl
-    (ends n (nextSession s (decodedRecord (take recordLength front))) (drop recordLength front) rest (left n front h)) a
+    (ends n (sessionWith s (decodedRecord (take recordLength front))) (drop recordLength front) rest (left n front h)) a
 
 pub feeding-is-one-run : FeedingIsOneRun
 feeding-is-one-run day n front rest h =
     let r = runOf (day .session) front in (
       λ (a : runBufferOf day front .answer ≡ Accepted).
           sym
-          (ap (after (day .records) (day .files)) (joins n (day .session) front rest h a)
-          ∙ after-after (day .records) (day .files) (r .records) (r .files) (runOf (r .session) rest)),
-      λ (a : runBufferOf day front .answer ≡ Accepted → ⊥). ap (after (day .records) (day .files)) (ends n (day .session) front rest h a),
+          (ap (addCounts (day .records) (day .files)) (joins n (day .session) front rest h a)
+          ∙ counts-add (day .records) (day .files) (r .records) (r .files) (runOf (r .session) rest)),
+      λ (a : runBufferOf day front .answer ≡ Accepted → ⊥). ap (addCounts (day .records) (day .files)) (ends n (day .session) front rest h a),
     )
 
 pub full-buffer-is-whole : FullBufferIsWhole

@@ -8,17 +8,17 @@ use Rattle.answer.specs.Orders.{_then_}
 use Rattle.layout.specs.Layouts.{recordLength}
 use Rattle.session.specs.declared.RunResult.{RunResult}
 use Rattle.session.specs.Sessions.{freshSession, finishOf}
-use Rattle.session.specs.Runs.{ranOut, after, runOf}
+use Rattle.session.specs.Runs.{emptyRun, addCounts, runOf}
 use Rattle.quadro.specs.declared.ReadResult.{ReadResult}
 use Rattle.quadro.specs.declared.ReadResult.the-variants.{Full, Ended, Failed}
 
 -- nothing taken
 abbrev pub freshDay : RunResult
-freshDay = ranOut Accepted freshSession
+freshDay = emptyRun Accepted freshSession
 
 -- a piece more, taken by the session that the pieces before it left
 abbrev pub runBufferOf : RunResult → List ℕ → RunResult
-runBufferOf day piece = after (day .records) (day .files) (runOf (day .session) piece)
+runBufferOf day piece = addCounts (day .records) (day .files) (runOf (day .session) piece)
 
 -- the end of the input: 19 while a file is open, where nothing was refused
 abbrev pub endedOf : RunResult → RunResult

@@ -17,9 +17,10 @@ use Rattle.record.specs.Values.{decodedRecord}
 use Rattle.session.specs.declared.Session.{Session}
 use Rattle.session.specs.declared.RunResult.{RunResult}
 use Rattle.session.specs.declared.TakeResult.{TakeResult}
-use Rattle.session.specs.declared.running.PaidPrefix.{PaidPrefix}
-use Rattle.session.specs.Sessions.{takeAnswer, nextSession, takeOf}
-use Rattle.session.specs.Runs.{piecesUpTo, piecesOf, closedBy, ranOut, after, stoppedIfRefused, runAll, runOf, AllTaken, takenAll, nextAnswer, RunIsItsTakes, withPaidPrefix, PaidPrefixOf}
+use Rattle.session.specs.declared.leading.LeadingPayments.{LeadingPayments}
+use Rattle.session.specs.Sessions.{takeAnswer, sessionWith, takeOf}
+use Rattle.session.specs.Runs.{piecesUpTo, piecesOf, filesClosed, emptyRun, addCounts, stoppedIfRefused, runAll, runOf, AllTaken, sessionAfterAll, nextAnswer, RunIsItsTakes}
+use Rattle.session.specs.LeadingPayments.{withLeading, LeadingPaymentsOf}
 
 -- more fuel than bytes changes nothing
 fuel : (n m : ℕ) (bytes : List ℕ) → length bytes ≤ n → length bytes ≤ m → piecesUpTo n bytes ≡ piecesUpTo m bytes
@@ -42,15 +43,15 @@ pieces-cons (b ∷ bytes) h =
 
 -- the next piece is refused, or the run goes on behind it
 module _ (s : Session) (bytes : List ℕ) (more : 0 < length bytes) where
-  pub run-refused : {a : Answer} {why : Reason} {p : ℕ} → a ≡ takeAnswer s (take recordLength bytes) → a ≡ Refused why p → runOf s bytes ≡ ranOut a s
+  pub run-refused : {a : Answer} {why : Reason} {p : ℕ} → a ≡ takeAnswer s (take recordLength bytes) → a ≡ Refused why p → runOf s bytes ≡ emptyRun a s
   run-refused {a} {why} {p} e f = let g : takeAnswer s (take recordLength bytes) ≡ Refused why p = sym e ∙ f in rw (pieces-cons bytes more, g, f)
 
   pub run-on : takeAnswer s (take recordLength bytes) ≡ Accepted
-      → runOf s bytes ≡ after 1 (closedBy (namedBy (getD (take recordLength bytes) 0 0))) (runOf (nextSession s (decodedRecord (take recordLength bytes))) (drop recordLength bytes))
+      → runOf s bytes ≡ addCounts 1 (filesClosed (namedBy (getD (take recordLength bytes) 0 0))) (runOf (sessionWith s (decodedRecord (take recordLength bytes))) (drop recordLength bytes))
   run-on g = rw (pieces-cons bytes more, g)
 
-pub after-after : (a b c d : ℕ) (r : RunResult) → after a b (after c d r) ≡ after (a + c) (b + d) r
-after-after a b c d r = rw (add-assoc a c (r .records), add-assoc b d (r .files))
+pub counts-add : (a b c d : ℕ) (r : RunResult) → addCounts a b (addCounts c d r) ≡ addCounts (a + c) (b + d) r
+counts-add a b c d r = rw (add-assoc a c (r .records), add-assoc b d (r .files))
 
 -- the piece that starts at an index, as the code cuts it
 module _ (bytes : List ℕ) (at : ℕ) (inside : at < length bytes) {end : ℕ} (e : end ≡ at + min recordLength (length bytes - at)) where
@@ -77,24 +78,27 @@ module _ (bytes : List ℕ) (at : ℕ) (inside : at < length bytes) {end : ℕ} 
   pub piece-first : getD (take recordLength (drop at bytes)) 0 0 ≡ getD bytes at 0
   piece-first = getD-take recordLength (drop at bytes) 0 0 (omega arith) ∙ getD-drop at bytes 0 0 ∙ ap (λ (k : ℕ). getD bytes k 0) (add-zero at)
 
-pub after-none : (r : RunResult) → after 0 0 r ≡ r
-after-none r = rw (zero-add (r .records), zero-add (r .files))
+pub counts-none : (r : RunResult) → addCounts 0 0 r ≡ r
+counts-none r = rw (zero-add (r .records), zero-add (r .files))
 
-pub after-out : (records files : ℕ) (a : Answer) (s : Session) → _≡_ {A = RunResult} (record { answer = a; session = s; records = records; files = files }) (after records files (ranOut a s))
-after-out records files a s = rw (add-zero records, add-zero files)
+pub counts-empty : (records files : ℕ) (a : Answer) (s : Session) → _≡_ {A = RunResult} (record { answer = a; session = s; records = records; files = files }) (addCounts records files (emptyRun a s))
+counts-empty records files a s = rw (add-zero records, add-zero files)
 
--- The loop at an index, after so many records and files: nothing is left, it goes on behind payments, it stops, or it goes on behind a piece.
-module _ (self s : Session) (bytes : List ℕ) (at records files : ℕ) (inv : after records files (runOf s (drop at bytes)) ≡ runOf self bytes) where
+-- The loop at an index, after so many records and files: nothing is left, it goes on behind payments, it stops, or it
+-- goes on behind a piece.
+module _ (self s : Session) (bytes : List ℕ) (at records files : ℕ) (inv : addCounts records files (runOf s (drop at bytes)) ≡ runOf self bytes) where
   pub run-ends : length bytes ≤ at → _≡_ {A = RunResult} (record { answer = Accepted; session = s; records = records; files = files }) (runOf self bytes)
-  run-ends h = after-out records files Accepted s ∙ (rw (drop-of-length-le bytes h) at inv)
+  run-ends h = counts-empty records files Accepted s ∙ (rw (drop-of-length-le bytes h) at inv)
 
-  pub run-paid : {p : PaidPrefix} → PaidPrefixOf s (take (length bytes - at) (drop at bytes)) p → after (records + p .records) files (runOf (withPaidPrefix s p) (drop (at + p .at) bytes)) ≡ runOf self bytes
+  pub run-paid : {p : LeadingPayments} → LeadingPaymentsOf s (take (length bytes - at) (drop at bytes)) p
+      → addCounts (records + p .progress .records) files (runOf (withLeading s p) (drop (at + p .progress .at) bytes)) ≡ runOf self bytes
   run-paid {p} h =
-      let r = runOf (withPaidPrefix s p) (drop (p .at) (drop at bytes)) in
+      let n = p .progress .records in
+      let r = runOf (withLeading s p) (drop (p .progress .at) (drop at bytes)) in
       let whole : take (length bytes - at) (drop at bytes) ≡ drop at bytes = take-all (length bytes - at) (drop at bytes) (omega (arith, length-drop at bytes)) in
-      let rest : after (p .records) 0 r ≡ runOf s (drop at bytes) = rw whole at (h .rest) in
-      let none : after records files (after (p .records) 0 r) ≡ after (records + p .records) files r = after-after records files (p .records) 0 r ∙ rw (add-zero files) in
-      rw (← drop-drop (p .at) at bytes) (sym none ∙ ap (after records files) rest ∙ inv)
+      let rest : addCounts n 0 r ≡ runOf s (drop at bytes) = rw whole at (h .rest) in
+      let none : addCounts records files (addCounts n 0 r) ≡ addCounts (records + n) files r = counts-add records files n 0 r ∙ rw (add-zero files) in
+      rw (← drop-drop (p .progress .at) at bytes) (sym none ∙ ap (addCounts records files) rest ∙ inv)
 
   module _ (inside : at < length bytes) {end : ℕ} (e : end ≡ at + min recordLength (length bytes - at)) {t : TakeResult} (took : t ≡ takeOf s (take (end - at) (drop at bytes))) where
     more : 0 < length (drop at bytes)
@@ -105,49 +109,49 @@ module _ (self s : Session) (bytes : List ℕ) (at records files : ℕ) (inv : a
 
     pub run-stops : {why : Reason} {p : ℕ} → t .answer ≡ Refused why p
         → _≡_ {A = RunResult} (record { answer = t .answer; session = s; records = records; files = files }) (runOf self bytes)
-    run-stops f = after-out records files (t .answer) s ∙ ap (after records files) (sym (run-refused s (drop at bytes) more answered f)) ∙ inv
+    run-stops f = counts-empty records files (t .answer) s ∙ ap (addCounts records files) (sym (run-refused s (drop at bytes) more answered f)) ∙ inv
 
-    pub run-goes : {k : ℕ} → t .answer ≡ Accepted → k ≡ closedBy (namedBy (getD bytes at 0))
-        → after (records + 1) (files + k) (runOf (t .session) (drop end bytes)) ≡ runOf self bytes
+    pub run-goes : {k : ℕ} → t .answer ≡ Accepted → k ≡ filesClosed (namedBy (getD bytes at 0))
+        → addCounts (records + 1) (files + k) (runOf (t .session) (drop end bytes)) ≡ runOf self bytes
     run-goes {k} f g =
         let r = take recordLength (drop at bytes) in
         let a : takeAnswer s r ≡ Accepted = sym answered ∙ f in
-        let next : t .session ≡ nextSession s (decodedRecord r) =
+        let next : t .session ≡ sessionWith s (decodedRecord r) =
         ap (λ (x : TakeResult). x .session) took ∙ ap (λ (x : List ℕ). takeOf s x .session) (piece-part bytes at inside e) ∙ rw a in
-        let n : closedBy (namedBy (getD r 0 0)) ≡ k = ap (λ (b : ℕ). closedBy (namedBy b)) (piece-first bytes at inside e) ∙ sym g in
-        rw (next, ← piece-rest bytes at inside e, ← n, ← after-after records files 1 (closedBy (namedBy (getD r 0 0))) (runOf (nextSession s (decodedRecord r)) (drop recordLength (drop at bytes))))
-        (ap (after records files) (sym (run-on s (drop at bytes) more a)) ∙ inv)
+        let n : filesClosed (namedBy (getD r 0 0)) ≡ k = ap (λ (b : ℕ). filesClosed (namedBy b)) (piece-first bytes at inside e) ∙ sym g in
+        rw (next, ← piece-rest bytes at inside e, ← n, ← counts-add records files 1 (filesClosed (namedBy (getD r 0 0))) (runOf (sessionWith s (decodedRecord r)) (drop recordLength (drop at bytes))))
+        (ap (addCounts records files) (sym (run-on s (drop at bytes) more a)) ∙ inv)
 
--- What a run tells of the records that it took.
-record Tells (s : Session) (recs : List (List ℕ)) (r : RunResult) : Type 0 where
+-- What is known of the records that a run took.
+record TakenBy (s : Session) (recs : List (List ℕ)) (r : RunResult) : Type 0 where
   taken : AllTaken s (take (r .records) recs)
-  session : r .session ≡ takenAll s (take (r .records) recs)
+  session : r .session ≡ sessionAfterAll s (take (r .records) recs)
   answer : r .answer ≡ nextAnswer (r .session) (drop (r .records) recs)
   whole : r .answer ≡ Accepted → r .records ≡ length recs
 
--- one record more in front
-tells-more : (rec : List ℕ) (recs : List (List ℕ)) (s : Session) (c : ℕ) (r : RunResult) → takeOf s rec .answer ≡ Accepted → Tells (takeOf s rec .session) recs r
-    → Tells s (rec ∷ recs) (after 1 c r)
-tells-more rec recs s c r e t =
+-- one more record in front
+taken-more : (rec : List ℕ) (recs : List (List ℕ)) (s : Session) (c : ℕ) (r : RunResult) → takeOf s rec .answer ≡ Accepted → TakenBy (takeOf s rec .session) recs r
+    → TakenBy s (rec ∷ recs) (addCounts 1 c r)
+taken-more rec recs s c r e t =
     let one : 1 + r .records ≡ suc (r .records) = omega arith in
     record {
       taken = subst (λ (m : ℕ). AllTaken s (take m (rec ∷ recs))) (sym one) (e, t .taken);
-      session = t .session ∙ ap (λ (m : ℕ). takenAll s (take m (rec ∷ recs))) (sym one);
+      session = t .session ∙ ap (λ (m : ℕ). sessionAfterAll s (take m (rec ∷ recs))) (sym one);
       answer = t .answer ∙ ap (λ (m : ℕ). nextAnswer (r .session) (drop m (rec ∷ recs))) (sym one);
       whole = λ x. omega (arith, t .whole x);
     }
 
-tells : (recs : List (List ℕ)) (s : Session) → Tells s recs (runAll s recs)
-tells [] s = record { taken = tt; session = refl; answer = refl; whole = λ e. refl }
-tells (rec ∷ recs) s = go (takeAnswer s rec) refl (tells recs)
+taken-by : (recs : List (List ℕ)) (s : Session) → TakenBy s recs (runAll s recs)
+taken-by [] s = record { taken = tt; session = refl; answer = refl; whole = λ e. refl }
+taken-by (rec ∷ recs) s = go (takeAnswer s rec) refl (taken-by recs)
   where
-    go : (a : Answer) → takeAnswer s rec ≡ a → ((s : Session) → Tells s recs (runAll s recs))
-        → Tells s (rec ∷ recs) (stoppedIfRefused a s (after 1 (closedBy (namedBy (getD rec 0 0))) (runAll (nextSession s (decodedRecord rec)) recs)))
+    go : (a : Answer) → takeAnswer s rec ≡ a → ((s : Session) → TakenBy s recs (runAll s recs))
+        → TakenBy s (rec ∷ recs) (stoppedIfRefused a s (addCounts 1 (filesClosed (namedBy (getD rec 0 0))) (runAll (sessionWith s (decodedRecord rec)) recs)))
     go (Refused why p) e later = record { taken = tt; session = refl; answer = sym e; whole = λ x. not-both _ refl x }
     go Accepted e later =
-        let next = accepted-takes (takeAnswer s rec) (nextSession s (decodedRecord rec)) s e in
-        tells-more rec recs s (closedBy (namedBy (getD rec 0 0))) (runAll (nextSession s (decodedRecord rec)) recs) e
-        (subst (λ (x : Session). Tells x recs (runAll (nextSession s (decodedRecord rec)) recs)) (sym next) (later (nextSession s (decodedRecord rec))))
+        let next = accepted-takes (takeAnswer s rec) (sessionWith s (decodedRecord rec)) s e in
+        taken-more rec recs s (filesClosed (namedBy (getD rec 0 0))) (runAll (sessionWith s (decodedRecord rec)) recs) e
+        (subst (λ (x : Session). TakenBy x recs (runAll (sessionWith s (decodedRecord rec)) recs)) (sym next) (later (sessionWith s (decodedRecord rec))))
 
 pub run-is-its-takes : RunIsItsTakes
-run-is-its-takes s bytes = let t = tells (piecesOf bytes) s in (t .taken, t .session, t .answer, t .whole)
+run-is-its-takes s bytes = let t = taken-by (piecesOf bytes) s in (t .taken, t .session, t .answer, t .whole)

@@ -18,9 +18,9 @@ use Rattle.record.specs.declared.Decoded.{Decoded}
 use Rattle.record.specs.Values.{decodedRecord}
 use Rattle.session.specs.declared.Session.{Session}
 use Rattle.session.specs.declared.TakeResult.{TakeResult}
-use Rattle.session.specs.Sessions.{applyAnswer, nextSession, takeResult}
+use Rattle.session.specs.Sessions.{sessionAnswer, sessionWith, takeResult}
 
--- an answer handed on, with the session as it was or with the next
+-- an answer passed on, with the old session or with the next
 pub took-refused : {a b : Answer} {why : Reason} {p : ℕ} (new old : Session) → a ≡ b → a ≡ Refused why p
     → _≡_ {A = TakeResult} (record { answer = a; session = old }) (takeResult b new old)
 took-refused {a} {b} {why} {p} new old e f = let g : b ≡ Refused why p = cc in rw (g, f)
@@ -29,7 +29,7 @@ pub took-next : {a b : Answer} {s new : Session} (old : Session) → a ≡ b →
     → _≡_ {A = TakeResult} (record { answer = a; session = s }) (takeResult b new old)
 took-next {a} {b} old e f h = let g : b ≡ Accepted = cc in rw (g, f, h)
 
--- a question before the rest: it stops, or the rest is what was taken
+-- a check before the rest: it refuses, or the rest decides
 pub took-stop : {t : Bool} (why : Reason) (p : ℕ) (next : Answer) (new old : Session) → t ≡ false
     → _≡_ {A = TakeResult} (record { answer = Refused why p; session = old }) (takeResult (require t why p then next) new old)
 took-stop why p next new old e = rw e
@@ -38,11 +38,11 @@ pub took-go : {t : Bool} {r : TakeResult} (why : Reason) (p : ℕ) (next : Answe
     → r ≡ takeResult (require t why p then next) new old
 took-go why p next new old e f = rw e f
 
--- the file took it: what is left is the board's
+-- the file accepted: the board's answer is left
 pub took-then : {a b : Answer} {r : TakeResult} (next : Answer) (new old : Session) → a ≡ b → a ≡ Accepted → r ≡ takeResult next new old → r ≡ takeResult (b then next) new old
 took-then {a} {b} next new old e f h = let g : b ≡ Accepted = cc in rw g h
 
--- what was posted, where it is accepted
+-- the board after an accepted posting, and the file after an accepted payment
 pub posted-board : {r : PostResult} (b : Board) (p : Lane) → r ≡ postResultOf b p → r .answer ≡ Accepted → r .board ≡ boardWith b p
 posted-board {r} b p e f =
     let g : postAnswer b p ≡ Accepted = sym (ap (λ (x : PostResult). x .answer) e) ∙ f in
@@ -53,7 +53,7 @@ taken-file {r} f x e h =
     let g : fileAnswer f x ≡ Accepted = sym (ap (λ (t : FileResult). t .answer) e) ∙ h in
     ap (λ (t : FileResult). t .file) e ∙ rw g
 
--- a record that was decoded as this
-pub met : (s : Session) (rec : List ℕ) {e d : Decoded} {r : TakeResult} → e ≡ decodedRecord rec → e ≡ d → r ≡ takeResult (applyAnswer s d) (nextSession s d) s
-    → r ≡ takeResult (applyAnswer s (decodedRecord rec)) (nextSession s (decodedRecord rec)) s
-met s rec {e} {d} q f h = let g : decodedRecord rec ≡ d = sym q ∙ f in rw g h
+-- a record by what it was decoded as
+pub decoded-as : (s : Session) (rec : List ℕ) {e d : Decoded} {r : TakeResult} → e ≡ decodedRecord rec → e ≡ d → r ≡ takeResult (sessionAnswer s d) (sessionWith s d) s
+    → r ≡ takeResult (sessionAnswer s (decodedRecord rec)) (sessionWith s (decodedRecord rec)) s
+decoded-as s rec {e} {d} q f h = let g : decodedRecord rec ≡ d = sym q ∙ f in rw g h

@@ -1,2 +1,3 @@
-pub mod Runs
 pub mod Sessions
+pub mod Runs
+pub mod LeadingPayments

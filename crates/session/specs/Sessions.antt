@@ -1,4 +1,4 @@
--- Sessions (document 01, "Sessions and the board"). Assumes nothing.
+-- Sessions: the answer to a record, and the session that follows (SPEC.md, "Sessions"). Assumes nothing.
 use Prim.Native.Nat.{ℕ}
 use mathlib.Core.Bool.{Bool, true, false, cond, not}
 use mathlib.Core.List.{List}
@@ -10,7 +10,6 @@ use Rattle.answer.specs.declared.Answer.the-variants as answer
 use Rattle.answer.specs.Orders.{require, _then_, ifAccepted}
 use Rattle.layout.specs.declared.MaybeRecord.{MaybeRecord}
 use Rattle.layout.specs.declared.MaybeRecord.the-variants.{Is, Other}
-use Rattle.layout.specs.declared.Record.{Record}
 use Rattle.layout.specs.declared.Record.the-variants as layout
 use Rattle.layout.specs.Layouts.{recordLength, namedBy}
 use Rattle.record.specs.declared.Payment.{Payment}
@@ -28,29 +27,26 @@ use Rattle.board.specs.Boards.{freshBoard, postAnswer, boardWith}
 use Rattle.session.specs.declared.Session.{Session}
 use Rattle.session.specs.declared.TakeResult.{TakeResult}
 
--- a session with no file open shows this board; the working board is the board shown
+-- no file open, and this board shown; the working board is the board shown
 abbrev pub closedAt : Board → Session
 closedAt b = record { shown = b; work = b; opened = false; file = freshFile }
 
--- a fresh session, with no file open and an empty board
+-- a fresh session: no file open and an empty board
 abbrev pub freshSession : Session
 freshSession = closedAt freshBoard
 
--- a file just opened: the working board starts from the board shown
+-- a file just opened, and this board shown: the working board starts from it
 abbrev pub openedAt : Board → Session
 openedAt b = record { shown = b; work = b; opened = true; file = freshFile }
 
--- it expects A; after A it expects G or Z; after an accepted Z it expects A again
-abbrev pub expectsThe : Bool → Record → Bool
-expectsThe opened layout.Header = not opened
-expectsThe opened layout.Payment = opened
-expectsThe opened layout.Trailer = opened
-
+-- with no file open A is expected; in an open file G or Z
 abbrev pub sessionExpects : Bool → MaybeRecord → Bool
-sessionExpects opened (Is which) = expectsThe opened which
+sessionExpects opened (Is layout.Header) = not opened
+sessionExpects opened (Is layout.Payment) = opened
+sessionExpects opened (Is layout.Trailer) = opened
 sessionExpects opened Other = false
 
--- what a G pays to a lane, and the figures that a Z shows
+-- a G as a lane of one, and the figures that a Z shows
 abbrev pub laneOfPayment : Payment → Lane
 laneOfPayment p = laneOfOne (p .barcode .issuer) (p .received)
 
@@ -61,40 +57,54 @@ figuresIn t = record { count = t .count; total = t .total }
 abbrev pub payAnswer : Session → Lane → Answer
 payAnswer s p = fileAnswer (s .file) (p .tally .centavos) then postAnswer (s .work) p
 
--- the session with a payment on its working board, and this file; with the payment in both
-abbrev pub posting : Session → Lane → File → Session
-posting s p file = record { shown = s .shown; work = boardWith (s .work) p; opened = s .opened; file = file }
+-- the session with a payment on its working board, and with this file
+abbrev pub sessionWithPosted : Session → Lane → File → Session
+sessionWithPosted s p file = record { shown = s .shown; work = boardWith (s .work) p; opened = s .opened; file = file }
 
-abbrev pub paying : Session → Lane → Session
-paying s p = posting s p (fileWith (s .file) (p .tally .centavos))
+-- the session with a payment on its working board and in its file
+abbrev pub sessionWithPayment : Session → Lane → Session
+sessionWithPayment s p = sessionWithPosted s p (fileWith (s .file) (p .tally .centavos))
 
--- what a record meets in the session, its own refusals first; Z: 13, 14
-abbrev pub applyAnswer : Session → Decoded → Answer
-applyAnswer s (decoded.Header h) = answer.Accepted
-applyAnswer s (decoded.Payment p) = payAnswer s (laneOfPayment p)
-applyAnswer s (decoded.Trailer t) = figuresAnswer (s .file) (figuresIn t)
-applyAnswer s (decoded.Refused why place) = answer.Refused why place
+-- the answer to a decoded record: its own refusal first; G: 15 to 18; Z: 13, 14
+abbrev pub sessionAnswer : Session → Decoded → Answer
+sessionAnswer s (decoded.Header h) = answer.Accepted
+sessionAnswer s (decoded.Payment p) = payAnswer s (laneOfPayment p)
+sessionAnswer s (decoded.Trailer t) = figuresAnswer (s .file) (figuresIn t)
+sessionAnswer s (decoded.Refused why place) = answer.Refused why place
 
--- the session that follows: payments of an open file appear together when its Z is accepted
-abbrev pub nextSession : Session → Decoded → Session
-nextSession s (decoded.Header h) = openedAt (s .shown)
-nextSession s (decoded.Payment p) = paying s (laneOfPayment p)
-nextSession s (decoded.Trailer t) = closedAt (s .work)
-nextSession s (decoded.Refused why place) = s
+-- the session with an accepted record: payments of an open file are shown together when its Z is accepted
+abbrev pub sessionWith : Session → Decoded → Session
+sessionWith s (decoded.Header h) = openedAt (s .shown)
+sessionWith s (decoded.Payment p) = sessionWithPayment s (laneOfPayment p)
+sessionWith s (decoded.Trailer t) = closedAt (s .work)
+sessionWith s (decoded.Refused why place) = s
 
--- an answer with the session that it leaves
+-- an answer, and the new session if it is accepted, else the old one
 abbrev pub takeResult : Answer → Session → Session → TakeResult
 takeResult a new old = record { answer = a; session = ifAccepted a new old }
 
--- record: 1, 9, then its own and the session's
+-- the results of the parts of `take`
+abbrev pub postingResult : Session → Lane → File → TakeResult
+postingResult s p file = takeResult (postAnswer (s .work) p) (sessionWithPosted s p file) s
+
+abbrev pub paymentResult : Session → Lane → TakeResult
+paymentResult s p = takeResult (payAnswer s p) (sessionWithPayment s p) s
+
+abbrev pub trailerResult : Session → Figures → TakeResult
+trailerResult s shown = takeResult (figuresAnswer (s .file) shown) (closedAt (s .work)) s
+
+abbrev pub recordResult : Session → Decoded → TakeResult
+recordResult s d = takeResult (sessionAnswer s d) (sessionWith s d) s
+
+-- taking a record: 1, 9, then its own refusals and the session's
 abbrev pub takeAnswer : Session → List ℕ → Answer
 takeAnswer s rec =
     require (eqb (length rec) recordLength) WrongLength 0
     then require (sessionExpects (s .opened) (namedBy (getD rec 0 0))) NotExpected 1
-    then applyAnswer s (decodedRecord rec)
+    then sessionAnswer s (decodedRecord rec)
 
 abbrev pub takeOf : Session → List ℕ → TakeResult
-takeOf s rec = takeResult (takeAnswer s rec) (nextSession s (decodedRecord rec)) s
+takeOf s rec = takeResult (takeAnswer s rec) (sessionWith s (decodedRecord rec)) s
 
 -- abandoning drops an open file and does nothing otherwise
 abbrev pub abandonOf : Session → Session

@@ -9,14 +9,14 @@ use Rattle.board.specs.Lanes.{mostLanes, laneOfOne}
 use Rattle.board.proofs.Board.post.Statement.{statement}
 use Rattle.board.proofs.Board.post.Tie as tie
 
-find-requires : tie.Need-find-requires
-find-requires c κs = search needs
+lane-index-requires : tie.Need-lane-index-requires
+lane-index-requires c κs = search needs
 
 returns : tie.Need-returns
 unfolding slotAnswer
 returns c =
     let a = c .before .before .args in
-    let e : mostLanes ≤ indexOf (a .issuer) (lanesOf (a .t1)) = omega (arith, c .before .find .ensures) in
+    let e : mostLanes ≤ indexOf (a .issuer) (lanesOf (a .t1)) = omega (arith, c .before .lane-index .ensures) in
     rw (le-ltb _ _ e)
 
 mul-lane : tie.Need-mul-lane
@@ -24,6 +24,9 @@ mul-lane c = search needs
 
 element-copy-out-lane : tie.Need-element-copy-out-lane
 element-copy-out-lane c = search needs
+
+of-payment-requires : tie.Need-of-payment-requires
+of-payment-requires c κs = search needs
 
 post-requires : tie.Need-post-requires
 post-requires c κs = search needs
@@ -36,17 +39,19 @@ element-set-from-lane c = search needs
 
 returns-2 : tie.Need-returns-2
 returns-2 c =
-    let a = c .before .before .before .before .before .before .before .before .args in
-    put-back (a .t1) (laneOfOne (a .issuer) (a .centavos)) _ _ (c .before .before .before .before .before .before .before .find .ensures) (c .before .before .before .post .ensures)
+    let found = c .before .before .before .before .before .before .before .before in
+    let a = found .before .args in
+    put-back (a .t1) (laneOfOne (a .issuer) (a .centavos)) _ _ (found .lane-index .ensures) (rw (c .before .before .before .before .of-payment .ensures) at (c .before .before .before .post .ensures))
 
 pub post-spec : {M : Type 1} → statement M
 post-spec =
     tie.close
     (tie.spec
-    find-requires
+    lane-index-requires
     returns
     mul-lane
     element-copy-out-lane
+    of-payment-requires
     post-requires
     mul-lane-2
     element-set-from-lane

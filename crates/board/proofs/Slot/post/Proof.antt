@@ -15,39 +15,39 @@ returns c =
     let a = c .before .before .args in
     rw (le-ltb (a .self .at) mostLanes (omega arith))
 
-own-requires : tie.Need-own-requires
-own-requires c κs = search needs
+own-tally-requires : tie.Need-own-tally-requires
+own-tally-requires c κs = search needs
 
-fits-with-requires : tie.Need-fits-with-requires
-fits-with-requires c κs = search needs
+has-room-for-requires : tie.Need-has-room-for-requires
+has-room-for-requires c κs = search needs
 
 returns-2 : tie.Need-returns-2
 returns-2 c =
     let own = c .before .before .before in
     let a = own .before .before .before .args in
-    let passed = sym (c .before .fits-with .ensures) ∙ not-true _ (c .if2 .taken) in
-    own-passed (a .self) (a .payment) _ (own .before .if1 .left) (own .own .ensures) passed
+    let passed = sym (c .before .has-room-for .ensures) ∙ not-true _ (c .if2 .taken) in
+    own-passed (a .self) (a .payment) _ (own .before .if1 .left) (own .own-tally .ensures) passed
 
-fits-with-requires-2 : tie.Need-fits-with-requires-2
-fits-with-requires-2 c κs = search needs
+has-room-for-requires-2 : tie.Need-has-room-for-requires-2
+has-room-for-requires-2 c κs = search needs
 
 returns-3 : tie.Need-returns-3
 returns-3 c =
     let fits = c .before .before in
     let own = fits .before .before .before in
     let a = own .before .before .before .args in
-    let lane = sym (fits .before .fits-with .ensures) ∙ not-false _ (fits .if2 .left) in
-    let passed = sym (c .before .fits-with2 .ensures) ∙ not-true _ (c .if3 .taken) in
-    total-passed (a .self) (a .payment) _ (own .before .if1 .left) (own .own .ensures) lane passed
+    let lane = sym (fits .before .has-room-for .ensures) ∙ not-false _ (fits .if2 .left) in
+    let passed = sym (c .before .has-room-for2 .ensures) ∙ not-true _ (c .if3 .taken) in
+    total-passed (a .self) (a .payment) _ (own .before .if1 .left) (own .own-tally .ensures) lane passed
 
 plus-requires : tie.Need-plus-requires
-plus-requires c κs = sym (c .before .before .before .before .fits-with .ensures) ∙ not-false _ (c .before .before .before .if2 .left)
+plus-requires c κs = sym (c .before .before .before .before .has-room-for .ensures) ∙ not-false _ (c .before .before .before .if2 .left)
 
 used-after-requires : tie.Need-used-after-requires
 used-after-requires c κs = search needs
 
 plus-requires-2 : tie.Need-plus-requires-2
-plus-requires-2 c κs = sym (c .before .before .before .before .fits-with2 .ensures) ∙ not-false _ (c .before .before .before .if3 .left)
+plus-requires-2 c κs = sym (c .before .before .before .before .has-room-for2 .ensures) ∙ not-false _ (c .before .before .before .if3 .left)
 
 returns-4 : tie.Need-returns-4
 returns-4 c =
@@ -55,9 +55,9 @@ returns-4 c =
     let fits = all-fits .before .before in
     let own = fits .before .before .before in
     let a = own .before .before .before .args in
-    let lane = sym (fits .before .fits-with .ensures) ∙ not-false _ (fits .if2 .left) in
-    let total = sym (all-fits .before .fits-with2 .ensures) ∙ not-false _ (all-fits .if3 .left) in
-    within (a .self) (a .payment) _ (own .before .if1 .left) (own .own .ensures) lane total
+    let lane = sym (fits .before .has-room-for .ensures) ∙ not-false _ (fits .if2 .left) in
+    let total = sym (all-fits .before .has-room-for2 .ensures) ∙ not-false _ (all-fits .if3 .left) in
+    within (a .self) (a .payment) _ (own .before .if1 .left) (own .own-tally .ensures) lane total
     (c .before .before .plus .ensures) (c .before .used-after .ensures) (c .plus2 .ensures)
 
 pub post-spec : {M : Type 1} → statement M
@@ -65,10 +65,10 @@ post-spec =
     tie.close
     (tie.spec
     returns
-    own-requires
-    fits-with-requires
+    own-tally-requires
+    has-room-for-requires
     returns-2
-    fits-with-requires-2
+    has-room-for-requires-2
     returns-3
     plus-requires
     used-after-requires

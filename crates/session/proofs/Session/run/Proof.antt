@@ -1,48 +1,44 @@
 -- `session::Session::run` meets its contract. Assumes nothing.
 use Prim.Native.Nat.{_≤_, _-_}
-use mathlib.Core.Path.{_≡_, ap, _∙_}
+use mathlib.Core.Path.{_≡_, refl, ap, _∙_}
 use native.Mathlib.Omega.{arith}
 use borrow.Author.Needs.{needs}
 use lib.ListN.{length, drop}
-use Rattle.session.proofs.Runs.{after-none, run-paid, run-stops, run-goes, run-ends}
-use Rattle.session.specs.Runs.{closedBy, after, runOf, withPaidPrefix}
+use Rattle.answer.specs.declared.Answer.the-variants.{Accepted}
+use Rattle.session.proofs.Runs.{counts-none, run-paid, run-stops, run-goes, run-ends}
+use Rattle.session.specs.Runs.{filesClosed, addCounts, runOf}
+use Rattle.session.specs.LeadingPayments.{withLeading}
 use Rattle.session.proofs.Session.run.Statement.{statement}
 use Rattle.session.proofs.Session.run.Tie as tie
 
 abbrev Inv-loop : tie.InvT-loop
-Inv-loop bytes session₀ records₀ files₀ at₀ session records files at =
-    (at ≤ length bytes) × (records ≤ at) × (files ≤ records) × (after records files (runOf session (drop at bytes)) ≡ runOf session₀ bytes)
+Inv-loop bytes session₀ answer₀ records₀ files₀ at₀ session answer records files at =
+    (at ≤ length bytes) × (records ≤ at) × (files ≤ records) × (addCounts records files (runOf session (drop at bytes)) ≡ runOf session₀ bytes)
+    × (answer ≡ Accepted)
 
 abbrev μ-loop : tie.MeasureT-loop
-μ-loop bytes session₀ records₀ files₀ at₀ session records files at = length bytes - at
+μ-loop bytes session₀ answer₀ records₀ files₀ at₀ session answer records files at = length bytes - at
 
 loop-holds : tie.Need-loop-holds Inv-loop μ-loop
-loop-holds c = (search needs, search needs, search needs, after-none (runOf (c .before .args .self) (c .before .args .bytes .now)))
+loop-holds c = (search needs, search needs, search needs, counts-none (runOf (c .before .args .self) (c .before .args .bytes .now)), refl)
 
-sub-pay-prefix : tie.Need-sub-pay-prefix Inv-loop μ-loop
-sub-pay-prefix c = search needs
+sub-take-leading-payments : tie.Need-sub-take-leading-payments Inv-loop μ-loop
+sub-take-leading-payments c = search needs
 
-part-pay-prefix-start : tie.Need-part-pay-prefix-start Inv-loop μ-loop
-part-pay-prefix-start c = search needs
+part-take-leading-payments-start : tie.Need-part-take-leading-payments-start Inv-loop μ-loop
+part-take-leading-payments-start c = search needs
 
-part-pay-prefix-end : tie.Need-part-pay-prefix-end Inv-loop μ-loop
-part-pay-prefix-end c = search needs
+part-take-leading-payments-end : tie.Need-part-take-leading-payments-end Inv-loop μ-loop
+part-take-leading-payments-end c = search needs
 
-pay-prefix-requires : tie.Need-pay-prefix-requires Inv-loop μ-loop
-pay-prefix-requires c κs = search needs
+take-leading-payments-requires : tie.Need-take-leading-payments-requires Inv-loop μ-loop
+take-leading-payments-requires c κs = search needs
 
 add-records : tie.Need-add-records Inv-loop μ-loop
 add-records c = search needs
 
 add-at : tie.Need-add-at Inv-loop μ-loop
 add-at c = search needs
-
-returns : tie.Need-returns Inv-loop μ-loop
-returns c =
-    let paid = c .before .before .before .before .before .pay-prefix in
-    let l = c .before .before .before .before .before .before .before .loop in
-    let a = c .before .before .before .before .before .before .before .before .before .args in
-    run-ends (a .self) (withPaidPrefix (l .session) (paid .result)) (a .bytes .now) _ _ _ (run-paid (a .self) (l .session) (a .bytes .now) (l .at) (l .records) (l .files) (l .inv .3) (paid .ensures)) (c .if1 .taken)
 
 piece-end-requires : tie.Need-piece-end-requires Inv-loop μ-loop
 piece-end-requires c κs = search needs
@@ -65,14 +61,6 @@ enum-told c = search needs
 enum-told-2 : tie.Need-enum-told-2 Inv-loop μ-loop
 enum-told-2 c = search needs
 
-returns-2 : tie.Need-returns-2 Inv-loop μ-loop
-returns-2 c =
-    let paid = c .before .before .before .before .before .before .before .before .before .before .pay-prefix in
-    let l = c .before .before .before .before .before .before .before .before .before .before .before .before .loop in
-    let a = c .before .before .before .before .before .before .before .before .before .before .before .before .before .before .args in
-    run-stops (a .self) (withPaidPrefix (l .session) (paid .result)) (a .bytes .now) _ _ _ (run-paid (a .self) (l .session) (a .bytes .now) (l .at) (l .records) (l .files) (l .inv .3) (paid .ensures))
-    (c .before .before .before .before .before .if1 .left) (c .before .before .before .before .piece-end .ensures .0) (c .before .before .take .ensures) (c .enum-told2 .given .1)
-
 shared-slice-read-named-by : tie.Need-shared-slice-read-named-by Inv-loop μ-loop
 shared-slice-read-named-by c = search needs
 
@@ -91,7 +79,7 @@ add-files c =
 add-records-2 : tie.Need-add-records-2 Inv-loop μ-loop
 add-records-2 c =
     let cut = c .before .before .before .before .before .before .before .before in
-    omega (arith, cut .piece-end .ensures .1, cut .piece-end .ok, cut .before .before .before .before .before .before .before .before .loop .inv .1, cut .before .before .before .before .before .before .pay-prefix .ensures .few)
+    omega (arith, cut .piece-end .ensures .1, cut .piece-end .ok, cut .before .before .before .before .before .before .before .before .loop .inv .1, cut .before .before .before .before .before .before .take-leading-payments .ensures .few)
 
 loop-less : tie.Need-loop-less Inv-loop μ-loop
 loop-less c = search needs
@@ -100,15 +88,32 @@ loop-again : tie.Need-loop-again Inv-loop μ-loop
 loop-again c =
     let cut = c .before .before .before .before .before .before .before .before in
     let e = cut .piece-end .ensures in
-    let paid = cut .before .before .before .before .before .before .pay-prefix in
+    let paid = cut .before .before .before .before .before .before .take-leading-payments in
     let l = cut .before .before .before .before .before .before .before .before .loop in
     let a = cut .before .before .before .before .before .before .before .before .before .before .args in (
       e .2,
       omega (arith, e .1, paid .ensures .few, l .inv .1),
       omega (arith, c .files-closed .ensures .1, l .inv .2),
-      run-goes (a .self) (withPaidPrefix (l .session) (paid .result)) (a .bytes .now) _ _ _ (run-paid (a .self) (l .session) (a .bytes .now) (l .at) (l .records) (l .files) (l .inv .3) (paid .ensures))
-          (cut .before .if1 .left) (e .0) (c .before .before .before .before .before .before .take .ensures) (c .before .before .before .before .enum-told .given .1) (c .files-closed .ensures .0 ∙ ap closedBy (c .before .named-by .ensures)),
+      run-goes (a .self) (withLeading (l .session) (paid .result)) (a .bytes .now) _ _ _ (run-paid (a .self) (l .session) (a .bytes .now) (l .at) (l .records) (l .files) (l .inv .3) (paid .ensures))
+          (cut .before .if1 .left) (e .0) (c .before .before .before .before .before .before .take .ensures) (c .before .before .before .before .enum-told .given .1) (c .files-closed .ensures .0 ∙ ap filesClosed (c .before .named-by .ensures)),
+      c .before .before .before .before .enum-told .given .1,
     )
+
+returns : tie.Need-returns Inv-loop μ-loop
+returns c =
+    let paid = c .before .before .before .before .before .take-leading-payments in
+    let l = c .before .before .before .before .before .before .before .loop in
+    let a = c .before .before .before .before .before .before .before .before .before .args in
+    rw (l .inv .4)
+    (run-ends (a .self) (withLeading (l .session) (paid .result)) (a .bytes .now) _ _ _ (run-paid (a .self) (l .session) (a .bytes .now) (l .at) (l .records) (l .files) (l .inv .3) (paid .ensures)) (c .if1 .taken))
+
+returns-2 : tie.Need-returns-2 Inv-loop μ-loop
+returns-2 c =
+    let paid = c .before .before .before .before .before .before .before .before .before .before .take-leading-payments in
+    let l = c .before .before .before .before .before .before .before .before .before .before .before .before .loop in
+    let a = c .before .before .before .before .before .before .before .before .before .before .before .before .before .before .args in
+    run-stops (a .self) (withLeading (l .session) (paid .result)) (a .bytes .now) _ _ _ (run-paid (a .self) (l .session) (a .bytes .now) (l .at) (l .records) (l .files) (l .inv .3) (paid .ensures))
+    (c .before .before .before .before .before .if1 .left) (c .before .before .before .before .piece-end .ensures .0) (c .before .before .take .ensures) (c .enum-told2 .given .1)
 
 pub run-spec : {M : Type 1} → statement M
 run-spec =
@@ -117,13 +122,12 @@ run-spec =
     Inv-loop
     μ-loop
     loop-holds
-    sub-pay-prefix
-    part-pay-prefix-start
-    part-pay-prefix-end
-    pay-prefix-requires
+    sub-take-leading-payments
+    part-take-leading-payments-start
+    part-take-leading-payments-end
+    take-leading-payments-requires
     add-records
     add-at
-    returns
     piece-end-requires
     sub-take
     part-take-start
@@ -131,11 +135,12 @@ run-spec =
     take-requires
     enum-told
     enum-told-2
-    returns-2
     shared-slice-read-named-by
     named-by-requires
     files-closed-requires
     add-files
     add-records-2
     loop-less
-    loop-again)
+    loop-again
+    returns
+    returns-2)

@@ -21,20 +21,20 @@ is-expected-requires c κs = search needs
 
 returns-2 : tie.Need-returns-2
 returns-2 c =
-    let asked = c .before in
-    let sized = asked .before .before .before in
-    let expected = asked .is-expected .ensures ∙ ap (sessionExpects (sized .before .before .args .self .opened)) (asked .before .named-by .ensures) in
+    let expects = c .before in
+    let sized = expects .before .before .before in
+    let expected = expects .is-expected .ensures ∙ ap (sessionExpects (sized .before .before .args .self .opened)) (expects .before .named-by .ensures) in
     took-go _ _ _ _ _ (eq-eqb _ _ (sized .if1 .left)) (took-stop _ _ _ _ _ (sym expected ∙ not-true _ (c .if2 .taken)))
 
-apply-requires : tie.Need-apply-requires
-apply-requires c κs = search needs
+take-expected-requires : tie.Need-take-expected-requires
+take-expected-requires c κs = search needs
 
 returns-3 : tie.Need-returns-3
 returns-3 c =
-    let asked = c .before .before in
-    let sized = asked .before .before .before in
-    let expected = asked .is-expected .ensures ∙ ap (sessionExpects (sized .before .before .args .self .opened)) (asked .before .named-by .ensures) in
-    took-go _ _ _ _ _ (eq-eqb _ _ (sized .if1 .left)) (took-go _ _ _ _ _ (sym expected ∙ not-false _ (c .before .if2 .left)) (c .apply .ensures))
+    let expects = c .before .before in
+    let sized = expects .before .before .before in
+    let expected = expects .is-expected .ensures ∙ ap (sessionExpects (sized .before .before .args .self .opened)) (expects .before .named-by .ensures) in
+    took-go _ _ _ _ _ (eq-eqb _ _ (sized .if1 .left)) (took-go _ _ _ _ _ (sym expected ∙ not-false _ (c .before .if2 .left)) (c .take-expected .ensures))
 
 pub take-spec : {M : Type 1} → statement M
 take-spec =
@@ -45,5 +45,5 @@ take-spec =
     named-by-requires
     is-expected-requires
     returns-2
-    apply-requires
+    take-expected-requires
     returns-3)

@@ -1,0 +1,140 @@
+// One lane: sums within the limit, and a payment posted to a slot.
+ghost use mathlib.Core.Path.{_≡_};
+ghost use mathlib.Core.Bool.{true};
+ghost use Prim.Native.Nat.{_+_, _<_};
+ghost use lib.Dec.{leb};
+ghost use Rattle.board.specs.Lanes.{limit, mostLanes, plus, fits, isLaneOf, laneOfOne};
+ghost use Rattle.board.specs.Boards.{ownOf, usedAfter, slotResultOf};
+use crate::Board;
+use crate::Lane;
+use crate::Slot;
+use crate::SlotResult;
+use crate::Tally;
+use answer::Answer;
+use answer::Reason;
+use barcode::Issuer;
+
+// Whether a sum stays within the limit. The sum itself is not made: it might not fit 64 bits.
+fn has_room(sum: u64, more: u64) -> bool
+    ensures { λ r. ⌜ r ≡ leb (sum + more) limit ⌝ }
+{
+    if Board::TOTAL < sum {
+        return false;
+    }
+    more <= Board::TOTAL - sum
+}
+
+impl Tally {
+    // Whether both sums stay within the limit.
+    fn has_room_for(self, more: Tally) -> bool
+        ensures { λ r. ⌜ r ≡ fits (plus self more) ⌝ }
+    {
+        if has_room(self.payments, more.payments) {
+            return has_room(self.centavos, more.centavos);
+        }
+        false
+    }
+
+    fn plus(self, more: Tally) -> Tally
+        requires { ⌜ fits (plus self more) ≡ true ⌝ }
+        ensures { λ r. ⌜ r ≡ plus self more ⌝ }
+    {
+        Tally {
+            payments: self.payments + more.payments,
+            centavos: self.centavos + more.centavos,
+        }
+    }
+}
+
+impl Lane {
+    // A payment as a lane of one.
+    pub(crate) fn of_payment(issuer: Issuer, centavos: u64) -> Lane
+        ensures { λ r. ⌜ r ≡ laneOfOne issuer centavos ⌝ }
+    {
+        Lane {
+            issuer,
+            tally: Tally {
+                payments: 1,
+                centavos,
+            },
+        }
+    }
+
+    // Whether the lane is this issuer's: segment and number are equal. Says nothing of whether the lane is in use.
+    pub fn is_of(self, issuer: Issuer) -> bool
+        ensures { λ r. ⌜ r ≡ isLaneOf issuer self ⌝ }
+    {
+        if self.issuer.segment == issuer.segment {
+            return self.issuer.number == issuer.number;
+        }
+        false
+    }
+}
+
+impl Slot {
+    // The tally of the lane at the slot's index; zeros if the index is not in use.
+    fn own_tally(self) -> Tally
+        ensures { λ r. ⌜ r ≡ ownOf self ⌝ }
+    {
+        if self.at < self.used {
+            let lane = self.lane;
+            return lane.tally;
+        }
+        Tally {
+            payments: 0,
+            centavos: 0,
+        }
+    }
+
+    // How many lanes are in use once the slot's is.
+    fn used_after(self) -> usize
+        requires { ⌜ self .at < mostLanes ⌝ }
+        ensures { λ r. ⌜ r ≡ usedAfter self ⌝ }
+    {
+        if self.at < self.used {
+            return self.used;
+        }
+        self.at + 1
+    }
+
+    // Posts a payment at the index of its issuer's lane, or of the first free lane: the slot with the payment, or 17
+    // (the index is past the last lane) or 18 (a number of the lane or of the total would pass the limit) and the slot
+    // as it was. The caller searches the index; the lane gets the payment's issuer whatever was there.
+    pub fn post(self, payment: Lane) -> SlotResult
+        ensures { λ r. ⌜ r ≡ slotResultOf self payment ⌝ }
+    {
+        if Board::LANES <= self.at {
+            return SlotResult {
+                answer: Answer::Refused(Reason::BoardFull, answer::ISSUER_PLACE),
+                slot: self,
+            };
+        }
+        let own = self.own_tally();
+        let total = self.total;
+        if !own.has_room_for(payment.tally) {
+            return SlotResult {
+                answer: Answer::Refused(Reason::BoardTotalPassed, answer::RECEIVED_PLACE),
+                slot: self,
+            };
+        }
+        if !total.has_room_for(payment.tally) {
+            return SlotResult {
+                answer: Answer::Refused(Reason::BoardTotalPassed, answer::RECEIVED_PLACE),
+                slot: self,
+            };
+        }
+        let issuer = payment.issuer;
+        SlotResult {
+            answer: Answer::Accepted,
+            slot: Slot {
+                at: self.at,
+                lane: Lane {
+                    issuer,
+                    tally: own.plus(payment.tally),
+                },
+                used: self.used_after(),
+                total: total.plus(payment.tally),
+            },
+        }
+    }
+}

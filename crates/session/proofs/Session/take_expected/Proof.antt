@@ -1,0 +1,59 @@
+-- `session::Session::take_expected` meets its contract. Assumes nothing.
+use mathlib.Core.Path.{refl}
+use borrow.Author.Needs.{needs}
+use Rattle.session.proofs.Steps.{decoded-as}
+use Rattle.session.proofs.Session.take_expected.Statement.{statement}
+use Rattle.session.proofs.Session.take_expected.Tie as tie
+
+decode-requires : tie.Need-decode-requires
+decode-requires c κs = search needs
+
+enum-known-why : tie.Need-enum-known-why
+enum-known-why c = search needs
+
+enum-told : tie.Need-enum-told
+enum-told c = search needs
+
+with-file-open-requires : tie.Need-with-file-open-requires
+with-file-open-requires c κs = search needs
+
+enum-known-p : tie.Need-enum-known-p
+enum-known-p c = search needs
+
+take-payment-requires : tie.Need-take-payment-requires
+take-payment-requires c κs = search needs
+
+enum-known-t : tie.Need-enum-known-t
+enum-known-t c = search needs
+
+take-trailer-requires : tie.Need-take-trailer-requires
+take-trailer-requires c κs = search needs
+
+returns : tie.Need-returns
+returns c = decoded-as (c .before .before .before .before .before .args .self) (c .before .before .before .before .before .args .rec .now) (c .before .before .before .decode .ensures) (c .before .why .given .1) refl
+
+returns-2 : tie.Need-returns-2
+returns-2 c = decoded-as (c .before .before .before .before .before .args .self) (c .before .before .before .before .before .args .rec .now) (c .before .before .before .decode .ensures) (c .before .enum-told .given .1) (rw (c .with-file-open .ensures))
+
+returns-3 : tie.Need-returns-3
+returns-3 c = decoded-as (c .before .before .before .before .before .before .args .self) (c .before .before .before .before .before .before .args .rec .now) (c .before .before .before .before .decode .ensures) (c .before .before .p .given .1) (c .take-payment .ensures)
+
+returns-4 : tie.Need-returns-4
+returns-4 c = decoded-as (c .before .before .before .before .before .before .args .self) (c .before .before .before .before .before .before .args .rec .now) (c .before .before .before .before .decode .ensures) (c .before .before .t .given .1) (c .take-trailer .ensures)
+
+pub take-expected-spec : {M : Type 1} → statement M
+take-expected-spec =
+    tie.close
+    (tie.spec
+    decode-requires
+    enum-known-why
+    enum-told
+    with-file-open-requires
+    enum-known-p
+    take-payment-requires
+    enum-known-t
+    take-trailer-requires
+    returns
+    returns-2
+    returns-3
+    returns-4)

@@ -1,0 +1,27 @@
+-- `session::Session::take_trailer` meets its contract. Assumes nothing.
+use borrow.Author.Needs.{needs}
+use Rattle.session.proofs.Steps.{took-refused, took-next}
+use Rattle.session.proofs.Session.take_trailer.Statement.{statement}
+use Rattle.session.proofs.Session.take_trailer.Tie as tie
+
+check-trailer-requires : tie.Need-check-trailer-requires
+check-trailer-requires c κs = search needs
+
+enum-told : tie.Need-enum-told
+enum-told c = search needs
+
+enum-told-2 : tie.Need-enum-told-2
+enum-told-2 c = search needs
+
+new-requires : tie.Need-new-requires
+new-requires c κs = search needs
+
+returns : tie.Need-returns
+returns c = took-refused _ _ (c .before .before .check-trailer .ensures) (c .enum-told .given .1)
+
+returns-2 : tie.Need-returns-2
+returns-2 c = took-next (c .before .before .before .before .before .before .args .self) (c .before .before .before .before .check-trailer .ensures) (c .before .before .enum-told2 .given .1) (rw (c .new .ensures))
+
+pub take-trailer-spec : {M : Type 1} → statement M
+take-trailer-spec =
+    tie.close (tie.spec check-trailer-requires enum-told enum-told-2 new-requires returns returns-2)

@@ -1,0 +1,153 @@
+// The fast path of a run: the accepted payments at the front of a slice, posted in place on one copy of the working board.
+// It mirrors what `Session::take` (taking.rt) does with an accepted payment: the kind is expected, `record::decode`,
+// `File::take`, `Board::post`. Everything else, refused payments included, is left to `Session::take`: no refusal is made
+// here. What must change together: if `take` checks one more thing of a payment, so does `next_payment`; if a payment
+// changes one more member of the session, so does the loop, and `run` (running.rt) takes it over from
+// `LeadingPayments`. proofs/Payments.antt ties the two: by `payment-taken` and `payment-leaves`, a payment posted here is
+// accepted by `takeAnswer` and leaves the session that `take` leaves, `sessionWith`.
+// What is slow and so avoided: a board by value is 2 KB, and each call that takes one copies it. So the loop itself reads
+// and stores lanes, and the board's functions get numbers and one lane (board, src/searching.rt and `Slot::post`).
+ghost use mathlib.Core.Path.{_≡_};
+ghost use Prim.Native.Nat.{_≤_};
+ghost use Rattle.board.specs.Lanes.{laneOfOne};
+ghost use Rattle.board.specs.Boards.{slotResultOf};
+ghost use Rattle.session.specs.LeadingPayments.{NextPaymentOf, LeadingPaymentsOf};
+use crate::Session;
+use crate::pieces;
+use answer::Answer;
+use barcode::Issuer;
+use board::Board;
+use board::Lane;
+use board::Slot;
+use board::SlotResult;
+use board::Tally;
+use file::File;
+use record::PaymentDue;
+
+// How far the payments came: the open file with them, their number, and the index behind the last.
+pub(crate) struct Progress {
+    pub(crate) file: File,
+    pub(crate) records: u64,
+    pub(crate) at: usize,
+}
+
+// What accepted payments leave: the working board with them, and how far they came.
+pub(crate) struct LeadingPayments {
+    pub(crate) work: Board,
+    pub(crate) progress: Progress,
+}
+
+// A payment that the open file takes, as a lane of one, with the progress behind it.
+enum MaybePayment {
+    Is(Lane, Progress),
+    Other,
+}
+
+// The progress of no payments.
+fn no_progress(file: File) -> Progress
+    ensures { λ r. ⌜ r ≡ record { file = file; records = 0; at = 0 } ⌝ }
+{
+    Progress {
+        file,
+        records: 0,
+        at: 0,
+    }
+}
+
+// A payment as a lane of one.
+fn payment_lane(issuer: Issuer, received: u64) -> Lane
+    ensures { λ r. ⌜ r ≡ laneOfOne issuer received ⌝ }
+{
+    Lane {
+        issuer,
+        tally: Tally {
+            payments: 1,
+            centavos: received,
+        },
+    }
+}
+
+// The next payment, if the file is open, its record is accepted and the file takes it.
+fn next_payment(opened: bool, done: Progress, bytes: &[u8]) -> MaybePayment
+    requires { ⌜ done .records ≤ done .at ⌝ }
+    ensures { λ r. ⌜ NextPaymentOf opened done (now (bytes .entry)) r ⌝ }
+{
+    let at = done.at;
+    if !opened {
+        return MaybePayment::Other;
+    }
+    if bytes.len() <= at {
+        return MaybePayment::Other;
+    }
+    let end = pieces::piece_end(at, bytes.len());
+    let PaymentDue::To(issuer, received) = record::accepted_payment(&bytes[at..end]) else {
+        return MaybePayment::Other;
+    };
+    let file = done.file;
+    let taken = file.take(received);
+    let answer = taken.answer;
+    let Answer::Accepted = answer else {
+        return MaybePayment::Other;
+    };
+    let file = taken.file;
+    let records = done.records + 1;
+    let next = Progress {
+        file,
+        records,
+        at: end,
+    };
+    MaybePayment::Is(payment_lane(issuer, received), next)
+}
+
+// A payment posted at an index of a board that has this lane there, so many lanes in use and this total.
+fn post_at(at: usize, lane: Lane, used: usize, total: Tally, payment: Lane) -> SlotResult
+    ensures { λ r. ⌜ r ≡ slotResultOf (record { at = at; lane = lane; used = used; total = total }) payment ⌝ }
+{
+    let slot = Slot {
+        at,
+        lane,
+        used,
+        total,
+    };
+    slot.post(payment)
+}
+
+impl Session {
+    // Takes the accepted payments at the front, up to the first record of any other kind, or refused, or not expected.
+    pub(crate) fn take_leading_payments(self, bytes: &[u8]) -> LeadingPayments
+        ensures { λ r. ⌜ LeadingPaymentsOf self (now (bytes .entry)) r ⌝ }
+    {
+        let mut work = self.work;
+        let mut progress = no_progress(self.file);
+        // Where each issuer's lane was found last. No payment moves a lane, so an index once found stays right.
+        let mut cache = [0u8; board::CACHE_LENGTH];
+        loop {
+            let MaybePayment::Is(payment, next) = next_payment(self.opened, progress, bytes) else {
+                break;
+            };
+            let entry = board::cache_index(payment.issuer);
+            let guess = cache[entry] as usize;
+            let search = board::search_for(payment.issuer, guess, work.lanes[guess], work.used);
+            let mut at = search.from;
+            while at < search.to && !work.lanes[at].is_of(payment.issuer) {
+                at += 1;
+            }
+            if Self::LANES <= at {
+                break;
+            }
+            let posted = post_at(at, work.lanes[at], work.used, work.total, payment);
+            let answer = posted.answer;
+            let Answer::Accepted = answer else {
+                break;
+            };
+            let lane = posted.slot.lane;
+            let total = posted.slot.total;
+            work.lanes[at] = lane;
+            work.used = posted.slot.used;
+            work.total = total;
+            cache[entry] = at as u8;
+            progress = next;
+        }
+        LeadingPayments { work, progress }
+    }
+}
