@@ -19,7 +19,7 @@ use Rattle.barcode.specs.declared.Decoded.the-variants.{Read, Refused}
 use Rattle.barcode.specs.Codes.{codeLength, isSegment, isKind, value, issuer, free, fieldsOf, freeOf, barcodeAnswer, noFields, decodedBarcode, shownFree}
 use Rattle.barcode.specs.Building.{builtOf, buildAnswer}
 
--- the paper's answer to a decoded barcode, by its cases, and the fields that it shows
+-- the answer that a decoded barcode gives, and the fields that it shows
 abbrev pub answerOfBarcode : Decoded → Answer
 answerOfBarcode (Read fields) = answer.Accepted
 answerOfBarcode (Refused why place) = answer.Refused why place
@@ -67,7 +67,7 @@ FieldsWithinRangesBuild =
     → i .number < 10 ^ widthOf (issuer (i .segment)) → length rest ≡ widthOf (free (i .segment)) → all (isOf Digit) rest ≡ true
     → buildAnswer codeLength i kind amount rest ≡ answer.Accepted
 
--- a refused build leaves every lent byte as it was
+-- a refused build leaves every byte of the caller's buffer as it was
 abbrev pub RefusedBuildKeeps : Type 0
 RefusedBuildKeeps =
     (out : List ℕ) (i : Issuer) (kind amount : ℕ) (rest : List ℕ) → (buildAnswer (length out) i kind amount rest ≡ answer.Accepted → ⊥)

@@ -48,7 +48,7 @@ FieldsGiveALine =
     → i .number < 10 ^ widthOf (issuer (i .segment)) → length rest ≡ widthOf (free (i .segment)) → all (isOf Digit) rest ≡ true
     → decodedLine (lineOf (builtOf i kind amount rest)) ≡ Read (record { kind = kind; value = amount; issuer = i; due = dateOf (take 8 rest) })
 
--- a refused conversion leaves every lent byte as it was
+-- a refused conversion leaves every byte of the caller's buffer as it was
 abbrev pub RefusedConversionsKeep : Type 0
 RefusedConversionsKeep =
     (out line code : List ℕ)

@@ -194,8 +194,8 @@ pub fn accepted_payment(rec: &[u8]) -> PaymentDue
         return PaymentDue::Nothing;
     }
     match barcode::accepted_issuer(walk::part_of(rec, g::BARCODE)) {
-        MaybeIssuer::To(issuer) => PaymentDue::To(issuer, number_of(rec, g::RECEIVED)),
-        MaybeIssuer::Nobody => PaymentDue::Nothing,
+        MaybeIssuer::Is(issuer) => PaymentDue::To(issuer, number_of(rec, g::RECEIVED)),
+        MaybeIssuer::NoIssuer => PaymentDue::Nothing,
     }
 }
 

@@ -23,6 +23,12 @@ part-result-end c = search needs
 enum-told-2 : tie.Need-enum-told-2
 enum-told-2 c = search needs
 
+digit-requires : tie.Need-digit-requires
+digit-requires c κs = search needs
+
+issuer-end-requires : tie.Need-issuer-end-requires
+issuer-end-requires c κs = search needs
+
 sub-result-2 : tie.Need-sub-result-2
 sub-result-2 c = search needs
 
@@ -30,38 +36,20 @@ part-result-start-2 : tie.Need-part-result-start-2
 part-result-start-2 c = search needs
 
 part-result-end-2 : tie.Need-part-result-end-2
-part-result-end-2 c = search needs
+part-result-end-2 c =
+    let told = c .before .before in
+    let checked = told .before .before in
+    let n = accepted-length (checked .before .before .args .code .now) (sym (checked .check .ensures) ∙ told .enum-told2 .given .1) in
+    search needs
 
 returns : tie.Need-returns
-returns c =
-    let asked = c .before .before .before .before in
-    let accepted = sym (asked .check .ensures) ∙ c .before .before .enum-told2 .given .1 in
-    absurd (c .before .if1 .taken (accepted-length (asked .before .before .args .code .now) accepted))
-
-digit-requires : tie.Need-digit-requires
-digit-requires c κs = search needs
-
-issuer-end-requires : tie.Need-issuer-end-requires
-issuer-end-requires c κs = search needs
-
-sub-result-3 : tie.Need-sub-result-3
-sub-result-3 c = search needs
-
-part-result-start-3 : tie.Need-part-result-start-3
-part-result-start-3 c = search needs
-
-part-result-end-3 : tie.Need-part-result-end-3
-part-result-end-3 c = search needs
+returns c = no-free (c .before .before .before .before .before .args .code .now) (c .before .before .before .check .ensures) (c .before .enum-told .given .1)
 
 returns-2 : tie.Need-returns-2
-returns-2 c = no-free (c .before .before .before .before .before .args .code .now) (c .before .before .before .check .ensures) (c .before .enum-told .given .1)
-
-returns-3 : tie.Need-returns-3
-returns-3 c =
-    let accepted = c .before .before .before .before in
-    let asked = accepted .before .before in
-    let code = asked .before .before .args .code .now in
-    as-free code (asked .check .ensures) (accepted .enum-told2 .given .1) (c .before .issuer-end .ensures .0) (c .before .before .digit .ensures)
+returns-2 c =
+    let told = c .before .before .before in
+    let checked = told .before .before in
+    as-free (checked .before .before .args .code .now) (sym (checked .check .ensures) ∙ told .enum-told2 .given .1) (c .before .issuer-end .ensures .0) (c .before .before .digit .ensures)
 
 pub free-field-spec : {M : Type 1} → statement M
 free-field-spec =
@@ -73,14 +61,10 @@ free-field-spec =
     part-result-start
     part-result-end
     enum-told-2
+    digit-requires
+    issuer-end-requires
     sub-result-2
     part-result-start-2
     part-result-end-2
     returns
-    digit-requires
-    issuer-end-requires
-    sub-result-3
-    part-result-start-3
-    part-result-end-3
-    returns-2
-    returns-3)
+    returns-2)
