@@ -1,6 +1,6 @@
 -- Laws of the builder: the pieces it writes, and what its answer tells. Assumes nothing.
 use Prim.Native.Nat.{ℕ, _+_, _-_, _^_, _≤_, _<_}
-use mathlib.Core.Bool.{Bool, true, false, and-eq-true-iff}
+use mathlib.Core.Bool.{true, false, and-eq-true-iff}
 use mathlib.Core.Logic.{⊎-elim}
 use mathlib.Core.List.{List, [], _∷_, _++_, append-assoc, append-nil}
 use mathlib.Core.Path.{_≡_, refl, sym, ap, _∙_}
@@ -11,7 +11,6 @@ use lib.ListN.{length, set, take, drop, length-append, drop-of-length-le}
 use lib.Seq.{take-all}
 use Rattle.answer.specs.declared.Answer.{Answer}
 use Rattle.answer.specs.declared.Answer.the-variants.{Accepted, Refused}
-use Rattle.answer.specs.declared.Reason.{Reason}
 use Rattle.answer.specs.declared.Reason.the-variants.{WrongLength, NoDigit, UnknownSegment, UnknownKind, CheckTwoPlaces, TooWide}
 use Rattle.answer.specs.Orders.{require, _then_, behind, movedBy, ifAccepted}
 use Rattle.answer.proofs.Orders.{then-accepts, moved-accepts}
@@ -28,6 +27,7 @@ use Rattle.barcode.specs.declared.Issuer.{Issuer}
 use Rattle.modulus.proofs.Sums.{check-is-one-digit}
 use Rattle.barcode.specs.Codes.{codeLength, isSegment, isKind, modulusOf, value, issuerEnd, issuer, free, generalCheck}
 use Rattle.barcode.specs.Building.{headOf, tailOf, checkFor, codeWith, builtOf, buildAnswer}
+use Rattle.barcode.specs.RoundTrips.{WithinRanges, FieldsWithinRangesBuild}
 use Rattle.barcode.proofs.Codes.{issuer-end-range}
 
 pub four-set : (l : List ℕ) (a b c d : ℕ) → length l ≡ 44 → set (set (set (set l 0 a) 1 b) 2 c) 3 d ≡ a ∷ b ∷ c ∷ d ∷ drop 4 l
@@ -37,54 +37,54 @@ four-set (p ∷ q ∷ []) a b c d h = absurd (omega arith)
 four-set (p ∷ q ∷ r ∷ []) a b c d h = absurd (omega arith)
 four-set (p ∷ q ∷ r ∷ s ∷ l) a b c d h = refl
 
--- What an accepting answer tells.
+-- no check needs two places
+one-place : (i : Issuer) (kind amount : ℕ) (rest : List ℕ) → leb (checkFor i kind amount rest) 9 ≡ true
+one-place i kind amount rest = le-leb _ _ (check-is-one-digit (modulusOf kind) (headOf (i .segment) kind ++ tailOf i amount rest))
 
-segment-small : (s : ℕ) → isSegment s ≡ true → s ≤ 9
+pub fields-within-ranges-build : FieldsWithinRangesBuild
+unfolding buildAnswer
+fields-within-ranges-build i kind amount rest =
+    let end = issuerEnd (i .segment) in
+    let free-digits = each-accepts (isOf Digit) NoDigit 1 rest in
+    let moved = moved-accepts (behind end) (eachIs (isOf Digit) NoDigit 1 rest) in (
+      λ e.
+          let s = passed (isSegment (i .segment)) UnknownSegment 2 e in
+          let k = passed (isKind kind) UnknownKind 3 (s .1) in
+          let r = passed (eqb (length rest) (widthOf (free (i .segment)))) WrongLength 0 (k .1) in
+          let a = passed (ltb amount (10 ^ widthOf value)) TooWide 5 (r .1) in
+          let n = passed (ltb (i .number) (10 ^ widthOf (issuer (i .segment)))) TooWide 16 (a .1) in
+          let d = then-accepts (movedBy (behind end) (eachIs (isOf Digit) NoDigit 1 rest)) (require (leb (checkFor i kind amount rest) 9) CheckTwoPlaces 4) .0 (n .1) .0 in
+          record {
+            segment = s .0;
+            kinds = k .0;
+            amounts = ltb-true _ _ (a .0);
+            number = ltb-true _ _ (n .0);
+            long = eqb-true _ _ (r .0);
+            digits = free-digits .0 (moved .0 d);
+          },
+      λ w.
+          let digits = moved .1 (free-digits .1 (w .digits)) in
+          rw (w .segment, w .kinds, eq-eqb _ _ (w .long), lt-ltb _ _ (w .amounts), lt-ltb _ _ (w .number), digits, one-place i kind amount rest),
+    )
+
+pub ranges-of : (i : Issuer) (kind amount : ℕ) (rest : List ℕ) → buildAnswer codeLength i kind amount rest ≡ Accepted → WithinRanges i kind amount rest
+ranges-of i kind amount rest = fields-within-ranges-build i kind amount rest .0
+
+-- segment and kind are one digit each
+pub segment-small : (s : ℕ) → isSegment s ≡ true → s ≤ 9
 segment-small s h =
     ⊎-elim (λ e. omega (arith, leb-true s 7 (and-eq-true-iff (leb 1 s) (leb s 7) .0 e .1))) (λ e. omega (arith, eqb-true s 9 e))
     (or-cases (within 1 7 s) (eqb s 9) h)
 
-kind-small : (k : ℕ) → isKind k ≡ true → k ≤ 9
+pub kind-small : (k : ℕ) → isKind k ≡ true → k ≤ 9
 kind-small k h = leb-true k 9 (and-eq-true-iff (leb 6 k) (leb k 9) .0 h .1)
-
--- each field fits its places, and the free field is of digits
-pub record Fit (i : Issuer) (kind amount : ℕ) (rest : List ℕ) : Type 0 where
-  pub is-segment : isSegment (i .segment) ≡ true
-  pub segment : i .segment ≤ 9
-  pub is-kind : isKind kind ≡ true
-  pub kinds : kind ≤ 9
-  pub room : length rest ≡ widthOf (free (i .segment))
-  pub amounts : amount < 10 ^ widthOf value
-  pub number : i .number < 10 ^ widthOf (issuer (i .segment))
-  pub digits : all (isOf Digit) rest ≡ true
-
-pub fit-of : (i : Issuer) (kind amount : ℕ) (rest : List ℕ) → buildAnswer codeLength i kind amount rest ≡ Accepted → Fit i kind amount rest
-unfolding buildAnswer
-fit-of i kind amount rest e =
-    let s = passed (isSegment (i .segment)) UnknownSegment 2 e in
-    let k = passed (isKind kind) UnknownKind 3 (s .1) in
-    let r = passed (eqb (length rest) (widthOf (free (i .segment)))) WrongLength 0 (k .1) in
-    let a = passed (ltb amount (10 ^ widthOf value)) TooWide 5 (r .1) in
-    let n = passed (ltb (i .number) (10 ^ widthOf (issuer (i .segment)))) TooWide 16 (a .1) in
-    let moved = movedBy (behind (issuerEnd (i .segment))) (eachIs (isOf Digit) NoDigit 1 rest) in
-    let d = then-accepts moved (require (leb (checkFor i kind amount rest) 9) CheckTwoPlaces 4) .0 (n .1) .0 in
-    record {
-      is-segment = s .0;
-      segment = segment-small (i .segment) (s .0);
-      is-kind = k .0;
-      kinds = kind-small kind (k .0);
-      room = eqb-true _ _ (r .0);
-      amounts = ltb-true _ _ (a .0);
-      number = ltb-true _ _ (n .0);
-      digits = each-accepts (isOf Digit) NoDigit 1 rest .0 (moved-accepts (behind (issuerEnd (i .segment))) (eachIs (isOf Digit) NoDigit 1 rest) .0 d);
-    }
 
 -- The pieces, one behind the other.
 
 number-put : (w n at : ℕ) (l : List ℕ) {r : Answer} {q : List ℕ} → n < 10 ^ w → r ≡ widthAnswer w n → q ≡ ifAccepted r (putAt at (digitsOf w n) l) l → q ≡ putAt at (digitsOf w n) l
 number-put w n at l h e f = f ∙ rw (e, lt-ltb n (10 ^ w) h)
 
-pub pieces : (i : Issuer) (kind amount : ℕ) (rest old : List ℕ) → Fit i kind amount rest → length old ≡ 44
+pub pieces : (i : Issuer) (kind amount : ℕ) (rest old : List ℕ) → WithinRanges i kind amount rest → length old ≡ 44
     → {w : ℕ} {r s : Answer} {one two three four : List ℕ} → w ≡ widthOf (issuer (i .segment)) → one ≡ headOf (i .segment) kind ++ 48 ∷ drop 4 old
     → r ≡ widthAnswer 11 amount → two ≡ ifAccepted r (putAt 4 (digitsOf 11 amount) one) one
     → s ≡ widthAnswer w (i .number) → three ≡ ifAccepted s (putAt 15 (digitsOf w (i .number)) two) two
@@ -96,7 +96,7 @@ pieces i kind amount rest old fit n {w} {r} {s} {one} {two} {three} {four} ew e1
     let k = digitsOf w (i .number) in
     let ld = digits-fill 11 amount .0 in
     let lk = digits-fill w (i .number) .0 in
-    let room : length rest ≡ 29 - w = fit .room ∙ omega arith in
+    let left : length rest ≡ 29 - w = fit .long ∙ omega arith in
     let small : i .number < 10 ^ w = rw ew (fit .number) in
     let lhd : 15 ≡ length (h ++ d) = omega (arith, length-append h d) in
     let lhdk : 15 + w ≡ length ((h ++ d) ++ k) = omega (arith, length-append (h ++ d) k) in
@@ -108,40 +108,36 @@ pieces i kind amount rest old fit n {w} {r} {s} {one} {two} {three} {four} ew e1
     let end : drop (length (((h ++ d) ++ k) ++ rest)) old ≡ [] = drop-of-length-le old past in
     f4 ∙ rw (end, append-nil (((h ++ d) ++ k) ++ rest), append-assoc (h ++ d) k rest, append-assoc h d (k ++ rest), ew)
 
--- the free field's room, as the code counts it
+-- the free field's length, as the code counts it
 module _ (s : ℕ) (rest : List ℕ) {e : ℕ} (ee : e ≡ issuerEnd s) where
-  room-width : widthOf (free s) ≡ 44 - e
-  room-width = omega arith
+  free-width : widthOf (free s) ≡ 44 - e
+  free-width = omega arith
 
-  pub no-room : (length rest ≡ 44 - e → ⊥) → eqb (length rest) (widthOf (free s)) ≡ false
-  no-room h = ne-eqb _ _ (λ q. h (q ∙ room-width))
+  pub free-wrong : (length rest ≡ 44 - e → ⊥) → eqb (length rest) (widthOf (free s)) ≡ false
+  free-wrong h = ne-eqb _ _ (λ q. h (q ∙ free-width))
 
-  pub has-room : length rest ≡ 44 - e → eqb (length rest) (widthOf (free s)) ≡ true
-  has-room h = eq-eqb _ _ (h ∙ sym room-width)
+  pub free-right : length rest ≡ 44 - e → eqb (length rest) (widthOf (free s)) ≡ true
+  free-right h = eq-eqb _ _ (h ∙ sym free-width)
 
--- a question that holds changes nothing where it is the last
-pub last-passes : (a : Answer) (t : Bool) (why : Reason) (p : ℕ) → t ≡ true → a ≡ a then require t why p
-last-passes Accepted t why p h = rw h
-last-passes (Refused q r) t why p h = refl
-
--- no check needs two places
-pub one-place : (i : Issuer) (kind amount : ℕ) (rest : List ℕ) → leb (checkFor i kind amount rest) 9 ≡ true
-one-place i kind amount rest = le-leb _ _ (check-is-one-digit (modulusOf kind) (headOf (i .segment) kind ++ tailOf i amount rest))
+-- the last question of the order holds, and changes nothing
+pub one-place-last : (i : Issuer) (kind amount : ℕ) (rest : List ℕ) (a : Answer) → a ≡ a then require (leb (checkFor i kind amount rest) 9) CheckTwoPlaces 4
+one-place-last i kind amount rest Accepted = rw (one-place i kind amount rest)
+one-place-last i kind amount rest (Refused why p) = refl
 
 -- The code that was written.
-module _ (i : Issuer) (kind amount : ℕ) (rest : List ℕ) (fit : Fit i kind amount rest) where
+module _ (i : Issuer) (kind amount : ℕ) (rest : List ℕ) (fit : WithinRanges i kind amount rest) where
   pub tail-length : length (tailOf i amount rest) ≡ 40
   tail-length =
       let w = widthOf (issuer (i .segment)) in
       let range = issuer-end-range (i .segment) in
       let d = digitsOf 11 amount in
       let k = digitsOf w (i .number) in
-      omega (arith, fit .room, digits-fill 11 amount .0, digits-fill w (i .number) .0, length-append d (k ++ rest), length-append k rest)
+      omega (arith, fit .long, digits-fill 11 amount .0, digits-fill w (i .number) .0, length-append d (k ++ rest), length-append k rest)
 
   pub written-check : (x : ℕ) → generalCheck (codeWith x i kind amount rest) ≡ checkFor i kind amount rest
   written-check x =
       let t : take 40 (tailOf i amount rest) ++ [] ≡ tailOf i amount rest = append-nil (take 40 (tailOf i amount rest)) ∙ take-all 40 (tailOf i amount rest) (omega (arith, tail-length)) in
-      rw (digit-back kind (fit .kinds) .1, t)
+      rw (digit-back kind (kind-small kind (fit .kinds)) .1, t)
 
   pub code-length : (x : ℕ) → length (codeWith x i kind amount rest) ≡ 44
   code-length x = omega (arith, tail-length)

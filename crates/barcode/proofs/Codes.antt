@@ -15,7 +15,7 @@ use Rattle.answer.specs.declared.Reason.the-variants.{WrongLength, NoDigit, Wro
 use Rattle.answer.specs.declared.Answer.{Answer}
 use Rattle.answer.specs.declared.Answer.the-variants.{Accepted, Refused}
 use Rattle.answer.specs.Refusals.{answerPlace}
-use Rattle.answer.specs.Orders.{require, _then_}
+use Rattle.answer.specs.Orders.{require, _then_, ifAccepted}
 use Rattle.answer.proofs.Orders.{asked-accepts, then-accepts, asked-place, then-place}
 use Rattle.answer.proofs.Steps.{passed}
 use Rattle.decimal.specs.declared.Class.the-variants.{Digit}
@@ -32,7 +32,7 @@ use Rattle.modulus.proofs.Sums.{parts-compose}
 use Rattle.barcode.specs.declared.Fields.{Fields}
 use Rattle.barcode.specs.declared.Issuer.{Issuer}
 use Rattle.barcode.specs.declared.Decoded.the-variants as decoding
-use Rattle.barcode.specs.Codes.{issuerOf, digitAt, product, isSegment, isKind, modulusOf, checked, issuerEnd, firstThreeAnswer, generalCheck, generalRight, prefixAnswer, fullLengthAnswer, barcodeAnswer, fieldsOf, decodedBarcode, shownFree}
+use Rattle.barcode.specs.Codes.{issuerOf, digitAt, product, isSegment, isKind, modulusOf, checked, issuerEnd, firstThreeAnswer, generalCheck, generalRight, prefixAnswer, fullLengthAnswer, barcodeAnswer, freeOf, fieldsOf, decodedBarcode, shownFree}
 
 -- past the end
 pub no-digit : 0 ≡ valueOf 0
@@ -162,16 +162,29 @@ module _ (code : List ℕ) (n : length code ≡ 44) (a : all (isOf Digit) code �
       let f : e ≡ issuerEnd (digitAt 2 code) = ee ∙ ap (λ (x : Issuer). issuerEnd (x .segment)) ei in
       rw (ek, fv, fd, f, ei)
 
+-- 7 is what is left when nothing before it is refused
+pub general-wrong : (code : List ℕ) → length code ≡ 44 → prefixAnswer code ≡ Accepted → (barcodeAnswer code ≡ Accepted → ⊥)
+    → Refused WrongGeneralCheck 4 ≡ barcodeAnswer code
+general-wrong code n e h = go (generalRight code) refl
+  where
+    go : (t : Bool) → generalRight code ≡ t → Refused WrongGeneralCheck 4 ≡ barcodeAnswer code
+    go true g = absurd (h (rw (eq-eqb _ _ n, e, g)))
+    go false g = rw (eq-eqb _ _ n, e, g)
+
 -- What is shown, from the answer.
 module _ (code : List ℕ) where
-  pub as-refused : {a : Answer} {why : Reason} {p : ℕ} → a ≡ barcodeAnswer code → a ≡ Refused why p → decoding.Refused why p ≡ decodedBarcode code
-  as-refused {a} {why} {p} e f = let g : barcodeAnswer code ≡ Refused why p = cc in rw g
+  pub as-refused : {why : Reason} {p : ℕ} → Refused why p ≡ barcodeAnswer code → decoding.Refused why p ≡ decodedBarcode code
+  as-refused e = rw (← e)
 
   pub as-read : {f : Fields} → barcodeAnswer code ≡ Accepted → f ≡ fieldsOf code → decoding.Read f ≡ decodedBarcode code
   as-read e h = rw (h, e)
 
-  pub no-free : {a : Answer} {why : Reason} {p : ℕ} → a ≡ barcodeAnswer code → a ≡ Refused why p → [] ≡ shownFree code
-  no-free {a} {why} {p} e f = let g : barcodeAnswer code ≡ Refused why p = cc in rw g
+  pub no-free : (barcodeAnswer code ≡ Accepted → ⊥) → [] ≡ shownFree code
+  no-free h = go (barcodeAnswer code) h
+    where
+      go : (a : Answer) → (a ≡ Accepted → ⊥) → [] ≡ ifAccepted a (freeOf code) []
+      go Accepted h = absurd (h refl)
+      go (Refused why p) h = refl
 
   pub as-free : {e s : ℕ} → barcodeAnswer code ≡ Accepted → e ≡ issuerEnd s → s ≡ digitAt 2 code → take (44 - e) (drop e code) ≡ shownFree code
   as-free {e} g h i =

@@ -4,19 +4,17 @@ use mathlib.Core.Bool.{true}
 use mathlib.Core.List.{List, [], _∷_, _++_, append-nil}
 use mathlib.Core.Path.{_≡_, refl, sym, ap, _∙_}
 use native.Mathlib.Omega.{arith}
-use borrow.Author.Tests.{eqb-true, eq-eqb, lt-ltb}
+use borrow.Author.Tests.{eqb-true, eq-eqb}
 use lib.ListN.{length, getD, take, drop, length-drop, take-append-drop}
 use lib.Seq.{length-take-le, take-all, take-at, drop-at, drop-drop}
-use Rattle.answer.specs.declared.Reason.the-variants.{NoDigit}
 use Rattle.answer.specs.declared.Answer.{Answer}
 use Rattle.answer.specs.declared.Answer.the-variants.{Accepted, Refused}
-use Rattle.answer.specs.Orders.{behind}
-use Rattle.answer.proofs.Orders.{moved-accepts, refusal-keeps}
+use Rattle.answer.proofs.Orders.{refusal-keeps}
 use Rattle.decimal.specs.declared.Class.the-variants.{Digit}
-use Rattle.decimal.specs.Bytes.{isOf, all, eachIs}
+use Rattle.decimal.specs.Bytes.{isOf, all}
 use Rattle.decimal.specs.Numbers.{valueOf, numberOf, digitsOf}
 use Rattle.decimal.specs.Places.{widthOf, partAt, gather}
-use Rattle.decimal.proofs.Bytes.{each-accepts, all-at, all-joins, all-of-part}
+use Rattle.decimal.proofs.Bytes.{all-at, all-joins, all-of-part}
 use Rattle.decimal.proofs.Places.{joins}
 use Rattle.decimal.proofs.Numbers.{digit-range, value-digit, digit-back, digits-fill, number-of-digits, digits-of-number, number-fits}
 use Rattle.modulus.specs.Checks.{checkOf}
@@ -24,9 +22,9 @@ use Rattle.modulus.proofs.Sums.{check-is-one-digit}
 use Rattle.barcode.specs.declared.Issuer.{Issuer}
 use Rattle.barcode.specs.Codes.{digitAt, product, modulusOf, checked, value, issuerEnd, issuer, free, issuerOf, freeOf, fieldsOf, generalCheck, generalRight, barcodeAnswer, decoded}
 use Rattle.barcode.specs.Building.{headOf, tailOf, checkFor, builtOf, buildAnswer}
-use Rattle.barcode.specs.RoundTrips.{answerOfBarcode, ShowsItsPlaces, DecodedAnswers, FieldsAreItsPlaces, CodeIsItsFields, BuiltIsRead, FieldsWithinRangesBuild, RefusedBuildKeeps}
+use Rattle.barcode.specs.RoundTrips.{answerOfBarcode, ShowsItsPlaces, DecodedAnswers, FieldsAreItsPlaces, CodeIsItsFields, BuiltIsRead, WithinRanges, RefusedBuildKeeps}
 use Rattle.barcode.proofs.Codes.{issuer-end-range, first-three-accepts, Good, good, accepted}
-use Rattle.barcode.proofs.Building.{Fit, fit-of, one-place, written-check, code-length}
+use Rattle.barcode.proofs.Building.{fields-within-ranges-build, ranges-of, segment-small, kind-small, written-check, code-length}
 
 pub decoded-answers : DecodedAnswers
 decoded-answers code = go (barcodeAnswer code)
@@ -110,14 +108,6 @@ module _ (code : List ℕ) (g : Good code) where
   built-back : builtOf (issuerOf code) (digitAt 3 code) (numberOf (partAt value code)) (freeOf code) ≡ code
   built-back = joins head-back (heads check-back tail-back) ∙ sym whole
 
--- Of fields.
-
-pub fields-within-ranges-build : FieldsWithinRangesBuild
-unfolding buildAnswer
-fields-within-ranges-build i kind amount rest s k a n l d =
-    let digits = moved-accepts (behind (issuerEnd (i .segment))) (eachIs (isOf Digit) NoDigit 1 rest) .1 (each-accepts (isOf Digit) NoDigit 1 rest .1 d) in
-    rw (s, k, eq-eqb _ _ l, lt-ltb _ _ a, lt-ltb _ _ n, digits, one-place i kind amount rest)
-
 part-length : (code : List ℕ) (from count : ℕ) → length code ≡ 44 → from + count ≤ 44 → length (take count (drop from code)) ≡ count
 part-length code from count n h = length-take-le count (drop from code) (omega (arith, length-drop from code))
 
@@ -131,9 +121,14 @@ code-is-its-fields code e =
     let s = digitAt 2 code in
     let range = issuer-end-range s in
     let n = g .long in (
-      fields-within-ranges-build (issuerOf code) (digitAt 3 code) (numberOf (partAt value code)) (freeOf code) (three .1) (three .2) (part-below code 4 11 n (omega arith))
-          (part-below code 15 (issuerEnd s - 15) n (omega arith)) (part-length code (issuerEnd s + 1 - 1) (44 - (issuerEnd s + 1 - 1)) n (omega arith))
-          (all-of-part (isOf Digit) (issuerEnd s + 1 - 1) (44 - (issuerEnd s + 1 - 1)) code (g .digits)),
+      fields-within-ranges-build (issuerOf code) (digitAt 3 code) (numberOf (partAt value code)) (freeOf code) .1 (record {
+        segment = three .1;
+        kinds = three .2;
+        amounts = part-below code 4 11 n (omega arith);
+        number = part-below code 15 (issuerEnd s - 15) n (omega arith);
+        long = part-length code (issuerEnd s + 1 - 1) (44 - (issuerEnd s + 1 - 1)) n (omega arith);
+        digits = all-of-part (isOf Digit) (issuerEnd s + 1 - 1) (44 - (issuerEnd s + 1 - 1)) code (g .digits);
+      }),
       built-back code g,
     )
 
@@ -146,7 +141,7 @@ fields-are-its-places code h =
     rw e shows
 
 -- What was built.
-module _ (i : Issuer) (kind amount : ℕ) (rest : List ℕ) (fit : Fit i kind amount rest) where
+module _ (i : Issuer) (kind amount : ℕ) (rest : List ℕ) (fit : WithinRanges i kind amount rest) where
   tail-digits : all (isOf Digit) (tailOf i amount rest) ≡ true
   tail-digits =
       let w = widthOf (issuer (i .segment)) in
@@ -156,7 +151,7 @@ module _ (i : Issuer) (kind amount : ℕ) (rest : List ℕ) (fit : Fit i kind am
   built-digits : all (isOf Digit) (builtOf i kind amount rest) ≡ true
   built-digits =
       let one = check-is-one-digit (modulusOf kind) (headOf (i .segment) kind ++ tailOf i amount rest) in
-      rw (digit-back 8 (omega arith) .0, digit-back (i .segment) (fit .segment) .0, digit-back kind (fit .kinds) .0, digit-back (checkFor i kind amount rest) one .0, tail-digits)
+      rw (digit-back 8 (omega arith) .0, digit-back (i .segment) (segment-small (i .segment) (fit .segment)) .0, digit-back kind (kind-small kind (fit .kinds)) .0, digit-back (checkFor i kind amount rest) one .0, tail-digits)
 
   built-good : Good (builtOf i kind amount rest)
   unfolding generalRight
@@ -165,8 +160,8 @@ module _ (i : Issuer) (kind amount : ℕ) (rest : List ℕ) (fit : Fit i kind am
     digits = built-digits;
     first-three = first-three-accepts (builtOf i kind amount rest) .1 (
       digit-back 8 (omega arith) .1,
-      rw (digit-back (i .segment) (fit .segment) .1) (fit .is-segment),
-      rw (digit-back kind (fit .kinds) .1) (fit .is-kind),
+      rw (digit-back (i .segment) (segment-small (i .segment) (fit .segment)) .1) (fit .segment),
+      rw (digit-back kind (kind-small kind (fit .kinds)) .1) (fit .kinds),
     );
     general = eq-eqb _ _ (ap (λ (n : ℕ). 48 + n) (sym (written-check i kind amount rest fit (checkFor i kind amount rest))));
   }
@@ -195,15 +190,15 @@ module _ (i : Issuer) (kind amount : ℕ) (rest : List ℕ) (fit : Fit i kind am
       let n : 15 + w ≡ e = omega arith in
       let f : drop e code ≡ rest =
       ap (λ (x : ℕ). drop x code) (sym n) ∙ sym (drop-drop w 15 code) ∙ ap (drop w) behind-amount ∙ drop-at (digitsOf w (i .number)) rest w (digits-fill w (i .number) .0) in
-      rw (b, f) (take-all (44 - e) rest (omega (arith, fit .room)))
+      rw (b, f) (take-all (44 - e) rest (omega (arith, fit .long)))
 
 pub built-is-read : BuiltIsRead
 built-is-read i kind amount rest e =
-    let fit = fit-of i kind amount rest e in
+    let fit = ranges-of i kind amount rest e in
     let a = accepted (builtOf i kind amount rest) (built-good i kind amount rest fit) in
-    let sg = digit-back (i .segment) (fit .segment) .1 in
+    let sg = digit-back (i .segment) (segment-small (i .segment) (fit .segment)) .1 in
     let free = free-read i kind amount rest fit in
     let number = number-read i kind amount rest fit in
     let amounts = amount-read i kind amount rest fit in
-    let kinds = digit-back kind (fit .kinds) .1 in
+    let kinds = digit-back kind (kind-small kind (fit .kinds)) .1 in
     (rw (a, kinds, amounts, sg, number, free), rw (a, sg) free)

@@ -3,9 +3,10 @@ use Prim.Native.Nat.{ℕ, _+_, _^_}
 use mathlib.Core.List.{List, [], _∷_, _++_}
 use lib.Dec.{leb, ltb, eqb}
 use lib.ListN.{length}
-use Rattle.answer.specs.declared.Reason.the-variants.{WrongLength, NoDigit, UnknownSegment, UnknownKind, CheckTwoPlaces, TooWide}
+use Rattle.answer.specs.declared.Reason.the-variants.{WrongLength, NoDigit, UnknownSegment, UnknownKind}
+use Rattle.answer.specs.declared.Reason.the-variants.{CheckTwoPlaces, TooWide}
 use Rattle.answer.specs.declared.Answer.{Answer}
-use Rattle.answer.specs.Orders.{require, _then_, behind, movedBy}
+use Rattle.answer.specs.Orders.{require, _then_, behind, movedBy, ifAccepted}
 use Rattle.decimal.specs.declared.Class.the-variants.{Digit}
 use Rattle.decimal.specs.Bytes.{isOf, eachIs}
 use Rattle.decimal.specs.Numbers.{digitsOf}
@@ -42,3 +43,7 @@ buildAnswer size i kind amount rest =
     then require (ltb (i .number) (10 ^ widthOf (issuer (i .segment)))) TooWide ((issuer (i .segment)) .first)
     then movedBy (behind (issuerEnd (i .segment))) (eachIs (isOf Digit) NoDigit 1 rest)
     then require (leb (checkFor i kind amount rest) 9) CheckTwoPlaces 4
+
+-- the caller's buffer after it: the barcode, or what it held before if the answer is a refusal
+abbrev pub builtInto : Answer → Issuer → ℕ → ℕ → List ℕ → List ℕ → List ℕ
+builtInto result i kind amount rest old = ifAccepted result (builtOf i kind amount rest) old

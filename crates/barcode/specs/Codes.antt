@@ -4,7 +4,8 @@ use mathlib.Core.Bool.{Bool, cond, _||_}
 use mathlib.Core.List.{List, [], _∷_}
 use lib.Dec.{leb, eqb}
 use lib.ListN.{length, getD, take}
-use Rattle.answer.specs.declared.Reason.the-variants.{WrongLength, NoDigit, WrongProduct, UnknownSegment, UnknownKind, WrongGeneralCheck}
+use Rattle.answer.specs.declared.Reason.the-variants.{WrongLength, NoDigit, WrongProduct, UnknownSegment, UnknownKind}
+use Rattle.answer.specs.declared.Reason.the-variants.{WrongGeneralCheck}
 use Rattle.answer.specs.declared.Answer.{Answer}
 use Rattle.answer.specs.declared.Answer.the-variants as answer
 use Rattle.answer.specs.Orders.{require, _then_, ifAccepted}
@@ -76,7 +77,12 @@ freeOf code = partAt (free (digitAt 2 code)) code
 -- if the free field's first eight digits are a real date, that is the due date
 abbrev pub fieldsOf : List ℕ → Fields
 fieldsOf code =
-    record { kind = digitAt 3 code; value = numberOf (partAt value code); issuer = issuerOf code; due = dateOf (take 8 (freeOf code)) }
+    record {
+      kind = digitAt 3 code;
+      value = numberOf (partAt value code);
+      issuer = issuerOf code;
+      due = dateOf (take 8 (freeOf code));
+    }
 
 -- The answer.
 

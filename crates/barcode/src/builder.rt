@@ -4,9 +4,8 @@ ghost use Prim.Native.Nat.{_≤_};
 ghost use lib.ListN.{length, drop};
 ghost use mathlib.Core.List.{_∷_, _++_};
 ghost use Rattle.answer.specs.declared.Answer.the-variants as answers;
-ghost use Rattle.answer.specs.Orders.{ifAccepted};
-ghost use Rattle.barcode.specs.Codes.{codeLength};
-ghost use Rattle.barcode.specs.Building.{headOf, codeWith, builtOf, buildAnswer};
+ghost use Rattle.barcode.specs.Codes.{codeLength, generalCheck};
+ghost use Rattle.barcode.specs.Building.{headOf, codeWith, builtOf, buildAnswer, builtInto};
 use crate::Issuer;
 use crate::parts;
 use answer::Answer;
@@ -62,6 +61,18 @@ fn put_fields(issuer: Issuer, kind: u64, value: u64, free: &[u8], code: &mut [u8
     decimal::put(free, code, 15 + width);
 }
 
+// The check digit of the 43 digits without place 4.
+fn general_check(code: &[u8]) -> u64
+    requires { ⌜ length (now code) ≡ codeLength ⌝ }
+    ensures { λ r. ⌜ r ≡ generalCheck (now (code .entry)) ⌝ }
+    ensures small { λ r. ⌜ r ≤ 9 ⌝ }
+{
+    let m = parts::modulus_of_kind(parts::digit(code, 2));
+    let left = modulus::weighted_remainder(m, &code[0..3], 40);
+    let right = modulus::weighted_remainder(m, &code[4..parts::LENGTH], 0);
+    modulus::digit_of_remainder(m, modulus::remainder(m, left + right))
+}
+
 // The barcode with its check, put into the caller's buffer once the check is known. A check has one digit, so 20 is
 // never given; it keeps its place in the order.
 fn finish(issuer: Issuer, kind: u64, value: u64, free: &[u8], out: &mut [u8]) -> Answer
@@ -72,7 +83,7 @@ fn finish(issuer: Issuer, kind: u64, value: u64, free: &[u8], out: &mut [u8]) ->
 {
     let mut code = [48u8; parts::LENGTH];
     put_fields(issuer, kind, value, free, &mut code);
-    let check = parts::general_check(&code);
+    let check = general_check(&code);
     if 9 < check {
         return Answer::Refused(Reason::CheckTwoPlaces, 4);
     }
@@ -85,7 +96,7 @@ fn finish(issuer: Issuer, kind: u64, value: u64, free: &[u8], out: &mut [u8]) ->
 // was; its place is a place in the barcode, and 0 for a wrong length of the buffer or of the free field.
 pub fn build(issuer: Issuer, kind: u64, value: u64, free: &[u8], out: &mut [u8]) -> Answer
     ensures answer { λ r. ⌜ r ≡ buildAnswer (length (now (out .entry))) issuer kind value (now (free .entry)) ⌝ }
-    ensures bytes { λ r. ⌜ now (out .exit) ≡ ifAccepted r (builtOf issuer kind value (now (free .entry))) (now (out .entry)) ⌝ }
+    ensures bytes { λ r. ⌜ now (out .exit) ≡ builtInto r issuer kind value (now (free .entry)) (now (out .entry)) ⌝ }
 {
     if out.len() != parts::LENGTH {
         return Answer::Refused(Reason::WrongLength, 0);

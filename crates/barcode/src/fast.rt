@@ -1,11 +1,13 @@
-// The fast path: whether a barcode is accepted, in one pass over its digits, with no place of what is wrong.
+// The fast path: whether a barcode is accepted, in one pass over its digits. Of a refused one it says nothing more:
+// `first_refusal` in in_order.rt then finds the reason and its place.
 //
-// It mirrors the checks of in_order.rt: a check that changes there must change in `is_accepted` too. The contracts of
-// both cite one definition, `barcodeAnswer`, and the laws that tie the fast path to it are in proofs/OnePass.antt.
-// Three things differ from the checks in order. Places 5 to 44 are tested and summed at once, by
+// The two must change together: what `is_accepted` refuses and `first_refusal` does not look for would be called a
+// wrong general check. The contracts of both cite one definition, `barcodeAnswer`; the laws that tie this path to it
+// are in proofs/OnePass.antt, those of `first_refusal` in proofs/Codes.antt.
+//
+// Two things are not as in the specification's order. Places 5 to 44 are tested and summed in one go, by
 // `modulus::sums_of_forty`. Places 1 to 4 are not tested for digits: a byte that is none has the value 0, which is no
-// product, segment or value kind, and the fourth must equal a check digit. Nothing is said of a refused barcode:
-// `check_in_order` then looks for the first refusal.
+// product, segment or value kind, and the fourth must equal a check digit.
 ghost use mathlib.Core.Bool.{true};
 ghost use mathlib.Core.Logic.{_↔_};
 ghost use mathlib.Core.Path.{_≡_};
@@ -18,6 +20,13 @@ use answer::Answer;
 use modulus::MaybeSums;
 use modulus::Modulus;
 
+// A byte as a number.
+fn wide(b: u8) -> u64
+    ensures { λ r. ⌜ r ≡ b ⌝ }
+{
+    b as u64
+}
+
 // Whether the general check is right, from the sum of the forty digits behind it.
 fn is_general_check_right(m: Modulus, code: &[u8], sum: u64) -> bool
     requires { ⌜ length (now code) ≡ codeLength ⌝ }
@@ -26,9 +35,10 @@ fn is_general_check_right(m: Modulus, code: &[u8], sum: u64) -> bool
     ensures { λ r. ⌜ r ≡ generalRight (now (code .entry)) ⌝ }
 {
     let left = modulus::weighted_remainder(m, &code[0..3], 40);
-    parts::wide(code[3]) == 48 + modulus::digit_of_remainder(m, modulus::remainder(m, left + sum))
+    wide(code[3]) == 48 + modulus::digit_of_remainder(m, modulus::remainder(m, left + sum))
 }
 
+// Whether all checks of a barcode hold.
 pub(crate) fn is_accepted(code: &[u8]) -> bool
     ensures { λ r. ⌜ (r ≡ true) ↔ (barcodeAnswer (now (code .entry)) ≡ answers.Accepted) ⌝ }
 {

@@ -1,42 +1,33 @@
-// The checks of a barcode in their order (SPEC.md, "Refusals"): they find the first refusal and its place. The fast
-// path accepts the same barcodes; see fast.rt.
+// The first refusal of a barcode, by the checks in their order (SPEC.md, "Refusals"). It is looked for only when the
+// fast path has not accepted the barcode; see fast.rt.
 ghost use mathlib.Core.Path.{_≡_};
-ghost use lib.ListN.{length};
-ghost use Rattle.barcode.specs.Codes.{codeLength, generalRight, fullLengthAnswer, barcodeAnswer};
+ghost use Rattle.answer.specs.declared.Answer.the-variants as answers;
+ghost use Rattle.barcode.specs.Codes.{barcodeAnswer};
 use crate::parts;
 use answer::Answer;
 use answer::Reason;
 
-fn is_general_check_right(code: &[u8]) -> bool
-    requires { ⌜ length (now code) ≡ codeLength ⌝ }
-    ensures { λ r. ⌜ r ≡ generalRight (now (code .entry)) ⌝ }
-{
-    parts::wide(code[3]) == 48 + parts::general_check(code)
+pub(crate) struct Refusal {
+    pub why: Reason,
+    pub place: usize,
 }
 
-// All checks but that of the length.
-fn check_full_length(code: &[u8]) -> Answer
-    requires { ⌜ length (now code) ≡ codeLength ⌝ }
-    ensures { λ r. ⌜ r ≡ fullLengthAnswer (now (code .entry)) ⌝ }
-{
-    let prefix = parts::check_prefix(code);
-    match prefix {
-        Answer::Refused(_, _) => prefix,
-        Answer::Accepted => {
-            if is_general_check_right(code) {
-                Answer::Accepted
-            } else {
-                Answer::Refused(Reason::WrongGeneralCheck, 4)
-            }
-        }
-    }
-}
-
-pub(crate) fn check_in_order(code: &[u8]) -> Answer
-    ensures { λ r. ⌜ r ≡ barcodeAnswer (now (code .entry)) ⌝ }
+// 1, 2, 3, 4, 5, 7. A barcode that passes all but the last has a wrong general check: there is nothing else to refuse.
+pub(crate) fn first_refusal(code: &[u8]) -> Refusal
+    requires { ⌜ (barcodeAnswer (now code) ≡ answers.Accepted → ⊥) ⌝ }
+    ensures { λ r. ⌜ answers.Refused (r .why) (r .place) ≡ barcodeAnswer (now (code .entry)) ⌝ }
 {
     if code.len() != parts::LENGTH {
-        return Answer::Refused(Reason::WrongLength, 0);
+        return Refusal {
+            why: Reason::WrongLength,
+            place: 0,
+        };
     }
-    check_full_length(code)
+    match parts::check_prefix(code) {
+        Answer::Refused(why, place) => Refusal { why, place },
+        Answer::Accepted => Refusal {
+            why: Reason::WrongGeneralCheck,
+            place: 4,
+        },
+    }
 }

@@ -53,7 +53,9 @@ pub fn check(code: &[u8]) -> Answer
     if fast::is_accepted(code) {
         return Answer::Accepted;
     }
-    in_order::check_in_order(code)
+    let refusal = in_order::first_refusal(code);
+    let why = refusal.why;
+    Answer::Refused(why, refusal.place)
 }
 
 // The issuer of 44 digits, accepted or not.
@@ -100,21 +102,21 @@ pub fn accepted_issuer(code: &[u8]) -> MaybeIssuer
 pub fn decode(code: &[u8]) -> Decoded
     ensures { λ r. ⌜ r ≡ decodedBarcode (now (code .entry)) ⌝ }
 {
-    match check(code) {
-        Answer::Refused(why, place) => Decoded::Refused(why, place),
-        Answer::Accepted => Decoded::Read(fields_of(code)),
+    if fast::is_accepted(code) {
+        return Decoded::Read(fields_of(code));
     }
+    let refusal = in_order::first_refusal(code);
+    let why = refusal.why;
+    Decoded::Refused(why, refusal.place)
 }
 
 // The free field as a part of the caller's bytes: 25 of them, in segment 6 21. Empty for a refused barcode.
 pub fn free_field(code: &[u8]) -> &[u8]
     ensures { λ r. ⌜ now r ≡ shownFree (now (code .entry)) ⌝ }
 {
-    match check(code) {
-        Answer::Refused(_, _) => &code[0..0],
-        Answer::Accepted => {
-            let end = parts::issuer_end(parts::digit(code, 1));
-            &code[end..LENGTH]
-        }
+    if !fast::is_accepted(code) {
+        return &code[0..0];
     }
+    let end = parts::issuer_end(parts::digit(code, 1));
+    &code[end..LENGTH]
 }

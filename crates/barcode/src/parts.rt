@@ -1,12 +1,12 @@
-// What the checks in order, the fast path and the builder share: a barcode's length, its first digits, the places of
-// the issuer and the general check (SPEC.md, "Barcode").
+// What the checks in order, the fast path and the builder share: a barcode's length, its first digits and the places of
+// the issuer (SPEC.md, "Barcode").
 ghost use mathlib.Core.Path.{_≡_};
 ghost use Prim.Native.Nat.{_≤_};
-ghost use lib.ListN.{length, getD};
+ghost use lib.ListN.{getD};
 ghost use Rattle.decimal.specs.Numbers.{valueOf};
 ghost use Rattle.decimal.specs.Places.{widthOf};
-ghost use Rattle.barcode.specs.Codes.{codeLength, isSegment, isKind, modulusOf, issuer, issuerEnd};
-ghost use Rattle.barcode.specs.Codes.{firstThreeAnswer, prefixAnswer, generalCheck};
+ghost use Rattle.barcode.specs.Codes.{isSegment, isKind, modulusOf, issuer, issuerEnd};
+ghost use Rattle.barcode.specs.Codes.{firstThreeAnswer, prefixAnswer};
 use answer::Answer;
 use answer::Reason;
 use decimal::Class;
@@ -58,12 +58,6 @@ pub(crate) fn issuer_end(segment: u64) -> usize
     15 + issuer_width(segment)
 }
 
-pub(crate) fn wide(b: u8) -> u64
-    ensures { λ r. ⌜ r ≡ b ⌝ }
-{
-    b as u64
-}
-
 // The value of the digit at an index; 0 for a byte that is no digit, and past the end.
 pub(crate) fn digit(l: &[u8], i: usize) -> u64
     ensures { λ r. ⌜ r ≡ valueOf (getD (now (l .entry)) i 0) ⌝ }
@@ -97,16 +91,4 @@ pub fn check_prefix(l: &[u8]) -> Answer
         Answer::Refused(_, _) => digits,
         Answer::Accepted => check_first_three(l),
     }
-}
-
-// The check digit of the 43 digits without place 4.
-pub(crate) fn general_check(code: &[u8]) -> u64
-    requires { ⌜ length (now code) ≡ codeLength ⌝ }
-    ensures { λ r. ⌜ r ≡ generalCheck (now (code .entry)) ⌝ }
-    ensures small { λ r. ⌜ r ≤ 9 ⌝ }
-{
-    let m = modulus_of_kind(digit(code, 2));
-    let left = modulus::weighted_remainder(m, &code[0..3], 40);
-    let right = modulus::weighted_remainder(m, &code[4..LENGTH], 0);
-    modulus::digit_of_remainder(m, modulus::remainder(m, left + right))
 }

@@ -25,7 +25,8 @@ use Rattle.modulus.specs.declared.Modulus.{Modulus}
 use Rattle.modulus.specs.Checks.{checkOf}
 use Rattle.modulus.proofs.Sums.{check-is-one-digit}
 use Rattle.barcode.specs.Codes.{digitAt, modulusOf, firstThreeAnswer, prefixAnswer, fullLengthAnswer, barcodeAnswer, fieldsOf, decoded, decodedBarcode}
-use Rattle.barcode.proofs.RoundTrips.{decoded-answers, code-is-its-fields, built-is-read, fields-within-ranges-build}
+use Rattle.barcode.proofs.Building.{fields-within-ranges-build}
+use Rattle.barcode.proofs.RoundTrips.{decoded-answers, code-is-its-fields, built-is-read}
 use Rattle.barcode.proofs.Codes.{first-three-same, prefix-accepts, good, accepted-length}
 use Rattle.barcode.specs.Building.{builtOf}
 use Rattle.barcode.specs.RoundTrips.{answerOfBarcode}
@@ -269,9 +270,9 @@ line-is-its-fields line e =
     (built .0, ap lineOf (built .1) ∙ back .1)
 
 pub fields-give-a-line : FieldsGiveALine
-fields-give-a-line i kind amount rest s k a n l d =
+fields-give-a-line i kind amount rest w =
     let code = builtOf i kind amount rest in
-    let read = built-is-read i kind amount rest (fields-within-ranges-build i kind amount rest s k a n l d) .0 in
+    let read = built-is-read i kind amount rest (fields-within-ranges-build i kind amount rest .1 w) .0 in
     let e : barcodeAnswer code ≡ Accepted = sym (decoded-answers code) ∙ ap answerOfBarcode read in
     let there = code-to-line-and-back code e in
     rw (there .0, there .1) (sym (ap (λ (x : Answer). decoded x (fieldsOf code)) e) ∙ read)

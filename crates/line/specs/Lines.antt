@@ -11,7 +11,8 @@ use Rattle.decimal.specs.Places.{Stretch, partAt, gather}
 use Rattle.modulus.specs.declared.Modulus.{Modulus}
 use Rattle.modulus.specs.Checks.{checkOf}
 use Rattle.barcode.specs.declared.Decoded.{Decoded}
-use Rattle.barcode.specs.Codes.{codeLength, digitAt, modulusOf, fieldsOf, prefixAnswer, fullLengthAnswer, barcodeAnswer, decoded}
+use Rattle.barcode.specs.Codes.{codeLength, digitAt, modulusOf, fieldsOf, prefixAnswer, fullLengthAnswer}
+use Rattle.barcode.specs.Codes.{barcodeAnswer, decoded}
 
 abbrev pub lineLength : ℕ
 lineLength = 48

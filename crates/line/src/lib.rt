@@ -8,8 +8,9 @@ ghost use Rattle.decimal.specs.Places.{putAt};
 ghost use Rattle.modulus.specs.Checks.{checkOf};
 ghost use Rattle.barcode.specs.Codes.{codeLength, digitAt, modulusOf, barcodeAnswer};
 ghost use Rattle.barcode.specs.RoundTrips.{answerOfBarcode};
-ghost use Rattle.line.specs.Lines.{lineLength, boxes, codeOf, inLine, boxRight, boxAnswer, checksAnswer, lineBody};
-ghost use Rattle.line.specs.Lines.{lineAnswer, decodedLine, checkedBox, lineOf, toLineAnswer, toCodeAnswer};
+ghost use Rattle.line.specs.Lines.{lineLength, boxes, codeOf, inLine, boxRight, boxAnswer, checksAnswer};
+ghost use Rattle.line.specs.Lines.{lineBody, lineAnswer, decodedLine, checkedBox, lineOf};
+ghost use Rattle.line.specs.Lines.{toLineAnswer, toCodeAnswer};
 use answer::Answer;
 use answer::Reason;
 use barcode::Decoded;
@@ -102,8 +103,8 @@ fn check_check_digits(line: &[u8], code: Answer) -> Answer
     }
 }
 
-// All checks but that of the length, given the answer of the line's barcode. A line whose check digits are right is right
-// in all (`LineIsBoxesAndCode`); only before a wrong one the digits are looked through for an earlier refusal.
+// All checks but that of the length, given the answer of the line's barcode. A line whose check digits are right is
+// accepted (`LineIsBoxesAndCode`); only if one is wrong is an earlier refusal looked for.
 fn check_full_length(line: &[u8], code: Answer) -> Answer
     requires { ⌜ (length (now line) ≡ lineLength) × (code ≡ barcodeAnswer (codeOf (now line))) ⌝ }
     ensures { λ r. ⌜ r ≡ lineBody (now (line .entry)) ⌝ }

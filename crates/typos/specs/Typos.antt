@@ -78,7 +78,8 @@ BoxesAreNumbered =
 
 -- a line passes exactly when it has 48 bytes, its prefix is accepted and it passes the five checks
 abbrev pub PassesByChecks : Type 0
-PassesByChecks = (line : List ℕ) → Passes line ↔ ((length line ≡ lineLength) × (prefixAnswer line ≡ Accepted) × PassesChecks line)
+PassesByChecks =
+    (line : List ℕ) → Passes line ↔ ((length line ≡ lineLength) × (prefixAnswer line ≡ Accepted) × PassesChecks line)
 
 -- Under modulo 10, change one digit, so that the third digit still names modulo 10: it is always refused. It is so for
 -- every byte put in.

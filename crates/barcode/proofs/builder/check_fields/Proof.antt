@@ -5,7 +5,7 @@ use native.Mathlib.Omega.{arith}
 use borrow.Author.Needs.{needs}
 use borrow.Author.Tests.{not-true, not-false}
 use lib.Dec.{ltb}
-use Rattle.answer.specs.declared.Reason.the-variants.{NoDigit, CheckTwoPlaces}
+use Rattle.answer.specs.declared.Reason.the-variants.{NoDigit}
 use Rattle.answer.specs.Orders.{behind, cappedBehind, movedBy}
 use Rattle.answer.proofs.Orders.{behind-is-held}
 use Rattle.answer.proofs.Steps.{stops, goes}
@@ -13,7 +13,7 @@ use Rattle.decimal.specs.declared.Class.the-variants.{Digit}
 use Rattle.decimal.specs.Bytes.{isOf, eachIs}
 use Rattle.decimal.proofs.Bytes.{each-place}
 use Rattle.barcode.specs.Building.{buildAnswer}
-use Rattle.barcode.proofs.Building.{no-room, has-room, one-place, last-passes}
+use Rattle.barcode.proofs.Building.{free-wrong, free-right, one-place-last}
 use Rattle.barcode.proofs.builder.check_fields.Statement.{statement}
 use Rattle.barcode.proofs.builder.check_fields.Tie as tie
 
@@ -50,8 +50,8 @@ returns-3 c =
     let a = first .before .before .before .args in
     let segment = sym (first .before .is-segment .ensures) ∙ not-false _ (first .if1 .left) in
     let kind = sym (kinded .before .is-kind .ensures) ∙ not-false _ (kinded .if2 .left) in
-    let room = no-room (a .issuer .segment) (a .free .now) (end .issuer-end .ensures .0) (c .if3 .taken) in
-    goes _ _ _ segment (goes _ _ _ kind (stops _ _ _ _ room))
+    let length = free-wrong (a .issuer .segment) (a .free .now) (end .issuer-end .ensures .0) (c .if3 .taken) in
+    goes _ _ _ segment (goes _ _ _ kind (stops _ _ _ _ length))
 
 fits-width-requires : tie.Need-fits-width-requires
 fits-width-requires c κs = search needs
@@ -66,9 +66,9 @@ returns-4 c =
     let a = first .before .before .before .args in
     let segment = sym (first .before .is-segment .ensures) ∙ not-false _ (first .if1 .left) in
     let kind = sym (kinded .before .is-kind .ensures) ∙ not-false _ (kinded .if2 .left) in
-    let room = has-room (a .issuer .segment) (a .free .now) (end .issuer-end .ensures .0) (sized .if3 .left) in
+    let length = free-right (a .issuer .segment) (a .free .now) (end .issuer-end .ensures .0) (sized .if3 .left) in
     let value = sym (c .before .fits-width .ensures) ∙ not-true _ (c .if4 .taken) in
-    goes _ _ _ segment (goes _ _ _ kind (goes _ _ _ room (stops _ _ _ _ value)))
+    goes _ _ _ segment (goes _ _ _ kind (goes _ _ _ length (stops _ _ _ _ value)))
 
 issuer-width-requires : tie.Need-issuer-width-requires
 issuer-width-requires c κs = search needs
@@ -88,11 +88,11 @@ returns-5 c =
     let a = first .before .before .before .args in
     let segment = sym (first .before .is-segment .ensures) ∙ not-false _ (first .if1 .left) in
     let kind = sym (kinded .before .is-kind .ensures) ∙ not-false _ (kinded .if2 .left) in
-    let room = has-room (a .issuer .segment) (a .free .now) (end .issuer-end .ensures .0) (sized .if3 .left) in
+    let length = free-right (a .issuer .segment) (a .free .now) (end .issuer-end .ensures .0) (sized .if3 .left) in
     let value = sym (valued .before .fits-width .ensures) ∙ not-false _ (valued .if4 .left) in
     let fits = ap (λ (w : ℕ). ltb (a .issuer .number) (10 ^ w)) (sym (width .issuer-width .ensures)) in
     let number = fits ∙ sym (c .before .fits-width2 .ensures) ∙ not-true _ (c .if5 .taken) in
-    goes _ _ _ segment (goes _ _ _ kind (goes _ _ _ room (goes _ _ _ value (stops _ _ _ _ number))))
+    goes _ _ _ segment (goes _ _ _ kind (goes _ _ _ length (goes _ _ _ value (stops _ _ _ _ number))))
 
 require-class-requires : tie.Need-require-class-requires
 require-class-requires c κs = search needs
@@ -115,7 +115,7 @@ returns-6 c =
     let kind = sym (kinded .before .is-kind .ensures) ∙ not-false _ (kinded .if2 .left) in
     let free = a .free .now in
     let told = end .issuer-end .ensures .0 in
-    let room = has-room (a .issuer .segment) free told (sized .if3 .left) in
+    let length = free-right (a .issuer .segment) free told (sized .if3 .left) in
     let value = sym (valued .before .fits-width .ensures) ∙ not-false _ (valued .if4 .left) in
     let fits = ap (λ (w : ℕ). ltb (a .issuer .number) (10 ^ w)) (sym (width .issuer-width .ensures)) in
     let number = fits ∙ sym (numbered .before .fits-width2 .ensures) ∙ not-false _ (numbered .if5 .left) in
@@ -123,8 +123,8 @@ returns-6 c =
     let held = behind-is-held (end .issuer-end .result) (eachIs (isOf Digit) NoDigit 1 free) (omega (arith, near, sized .if3 .left)) in
     let place = ap (λ (e : ℕ). movedBy (behind e) (eachIs (isOf Digit) NoDigit 1 free)) told in
     let digits = c .behind .ensures ∙ ap (movedBy (cappedBehind (end .issuer-end .result))) (c .before .require-class .ensures) ∙ held ∙ place in
-    let last = digits ∙ last-passes _ _ CheckTwoPlaces 4 (one-place (a .issuer) (a .kind) (a .value) free) in
-    goes _ _ _ segment (goes _ _ _ kind (goes _ _ _ room (goes _ _ _ value (goes _ _ _ number last))))
+    let last = digits ∙ one-place-last (a .issuer) (a .kind) (a .value) free _ in
+    goes _ _ _ segment (goes _ _ _ kind (goes _ _ _ length (goes _ _ _ value (goes _ _ _ number last))))
 
 pub check-fields-spec : {M : Type 1} → statement M
 check-fields-spec =

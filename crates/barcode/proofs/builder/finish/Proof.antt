@@ -2,7 +2,7 @@
 use mathlib.Core.Path.{refl}
 use native.Mathlib.Omega.{arith}
 use borrow.Author.Needs.{needs}
-use Rattle.barcode.proofs.Building.{fit-of, finished}
+use Rattle.barcode.proofs.Building.{ranges-of, finished}
 use Rattle.barcode.proofs.builder.finish.Statement.{statement}
 use Rattle.barcode.proofs.builder.finish.Tie as tie
 
@@ -45,7 +45,7 @@ returns-2 c =
     let put = checked .before .before .before in
     let start = put .before .before .before .before in
     let a = start .args in
-    let fit = fit-of _ _ _ _ (start .pre .1) in (
+    let fit = ranges-of _ _ _ _ (start .pre .1) in (
       refl,
       finished (a .issuer) (a .kind) (a .value) (a .free .now) fit (a .out .now) (start .pre .0)
           (put .put-fields .ensures) (checked .general-check .ensures .0) (c .before .before .put .ensures),

@@ -2,7 +2,7 @@
 use native.Mathlib.Omega.{arith}
 use borrow.Author.Needs.{needs}
 use Rattle.barcode.proofs.Codes.{issuer-end-range}
-use Rattle.barcode.proofs.Building.{fit-of, pieces}
+use Rattle.barcode.proofs.Building.{ranges-of, segment-small, kind-small, pieces}
 use Rattle.barcode.proofs.builder.put_fields.Statement.{statement}
 use Rattle.barcode.proofs.builder.put_fields.Tie as tie
 
@@ -12,8 +12,8 @@ issuer-width-requires c κs = search needs
 put-head-requires : tie.Need-put-head-requires
 put-head-requires c κs =
     let start = c .before .before .before .before in
-    let fit = fit-of _ _ _ _ (start .pre .1) in
-    (start .pre .0, fit .segment, fit .kinds)
+    let fit = ranges-of _ _ _ _ (start .pre .1) in
+    (start .pre .0, segment-small _ (fit .segment), kind-small _ (fit .kinds))
 
 put-number-requires : tie.Need-put-number-requires
 put-number-requires c κs = search needs
@@ -42,7 +42,7 @@ returns c =
     let width = head .before .before in
     let start = width .before .before .before in
     let a = start .args in
-    let fit = fit-of _ _ _ _ (start .pre .1) in
+    let fit = ranges-of _ _ _ _ (start .pre .1) in
     pieces (a .issuer) (a .kind) (a .value) (a .free .now) (a .code .now) fit (start .pre .0) (width .issuer-width .ensures) (head .put-head .ensures)
     (value .put-number .ensures .0) (value .put-number .ensures .1) (number .put-number2 .ensures .0) (number .put-number2 .ensures .1) (c .before .before .put .ensures)
 

@@ -1,12 +1,12 @@
--- `barcode::parts::general_check` meets its contract. Assumes nothing.
+-- `barcode::builder::general_check` meets its contract. Assumes nothing.
 use native.Mathlib.Omega.{arith}
 use borrow.Author.Needs.{needs}
 use lib.ListN.{take, drop}
 use Rattle.barcode.proofs.Codes.{general-as}
 use Rattle.modulus.proofs.Sums.{remainder-small, rule-small}
 use Rattle.modulus.specs.Checks.{weightedSum}
-use Rattle.barcode.proofs.parts.general_check.Statement.{statement}
-use Rattle.barcode.proofs.parts.general_check.Tie as tie
+use Rattle.barcode.proofs.builder.general_check.Statement.{statement}
+use Rattle.barcode.proofs.builder.general_check.Tie as tie
 
 digit-requires : tie.Need-digit-requires
 digit-requires c κs = search needs
