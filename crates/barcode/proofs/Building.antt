@@ -10,19 +10,24 @@ use lib.Dec.{leb, ltb, eqb}
 use lib.ListN.{length, set, take, drop, length-append, drop-of-length-le}
 use lib.Seq.{take-all}
 use Rattle.answer.specs.declared.Answer.{Answer}
-use Rattle.answer.specs.declared.Answer.the-variants.{Accepted}
-use Rattle.answer.specs.declared.Reason.the-variants.{WrongLength, UnknownSegment, UnknownKind, CheckTwoPlaces, TooWide}
-use Rattle.answer.specs.Orders.{ifAccepted}
-use Rattle.answer.proofs.Steps.{pass, passed}
-use Rattle.decimal.specs.Bytes.{within}
+use Rattle.answer.specs.declared.Answer.the-variants.{Accepted, Refused}
+use Rattle.answer.specs.declared.Reason.the-variants.{WrongLength, NoDigit, UnknownSegment, UnknownKind, CheckTwoPlaces, TooWide}
+use Rattle.answer.specs.Orders.{require, _then_, behind, movedBy, ifAccepted}
+use Rattle.answer.proofs.Orders.{then-accepts, moved-accepts}
+use Rattle.answer.proofs.Steps.{passed}
+use Rattle.decimal.specs.declared.Class.the-variants.{Digit}
+use Rattle.decimal.specs.Bytes.{within, isOf, all, eachIs}
 use Rattle.decimal.specs.Numbers.{digitsOf, widthAnswer}
 use Rattle.decimal.specs.Places.{widthOf, putAt}
 use Rattle.decimal.proofs.Numbers.{digits-fill, digit-back}
+use Rattle.decimal.proofs.Bytes.{each-accepts}
 use Rattle.decimal.proofs.Finite.{or-cases}
 use Rattle.decimal.proofs.Places.{put-next, put-whole}
 use Rattle.barcode.specs.declared.Issuer.{Issuer}
-use Rattle.barcode.specs.Codes.{isSegment, isKind, value, issuerEnd, issuer, free, generalCheck}
-use Rattle.barcode.specs.Building.{headOf, tailOf, checkFor, codeWith, numbersAnswer, fieldsAnswer, checkAnswer, builtOf, Fit}
+use Rattle.modulus.proofs.Sums.{check-is-one-digit}
+use Rattle.barcode.specs.Codes.{codeLength, isSegment, isKind, modulusOf, value, issuerEnd, issuer, free, generalCheck}
+use Rattle.barcode.specs.Building.{headOf, tailOf, checkFor, codeWith, builtOf, buildAnswer}
+use Rattle.barcode.specs.RoundTrips.{WithinRanges, FieldsWithinRangesBuild}
 use Rattle.barcode.proofs.Codes.{issuer-end-range}
 
 pub four-set : (l : List ℕ) (a b c d : ℕ) → length l ≡ 44 → set (set (set (set l 0 a) 1 b) 2 c) 3 d ≡ a ∷ b ∷ c ∷ d ∷ drop 4 l
@@ -32,94 +37,115 @@ four-set (p ∷ q ∷ []) a b c d h = absurd (omega arith)
 four-set (p ∷ q ∷ r ∷ []) a b c d h = absurd (omega arith)
 four-set (p ∷ q ∷ r ∷ s ∷ l) a b c d h = refl
 
-number-put : (w n at : ℕ) (l : List ℕ) {r : Answer} {q : List ℕ} → n < 10 ^ w → r ≡ widthAnswer w n → q ≡ ifAccepted r (putAt at (digitsOf w n) l) l → q ≡ putAt at (digitsOf w n) l
-number-put w n at l h e f = f ∙ rw (e, lt-ltb n (10 ^ w) h)
+-- no check needs two places
+one-place : (i : Issuer) (kind amount : ℕ) (rest : List ℕ) → leb (checkFor i kind amount rest) 9 ≡ true
+one-place i kind amount rest = le-leb _ _ (check-is-one-digit (modulusOf kind) (headOf (i .segment) kind ++ tailOf i amount rest))
 
--- the four pieces one behind the other
-pub pieces : (i : Issuer) (kind amount : ℕ) (rest old : List ℕ) → Fit i kind amount rest → length old ≡ 44
-    → {e : ℕ} {r s : Answer} {one two three four : List ℕ} → e ≡ issuerEnd (i .segment) → one ≡ headOf (i .segment) kind ++ 48 ∷ drop 4 old
-    → r ≡ widthAnswer 11 amount → two ≡ ifAccepted r (putAt 4 (digitsOf 11 amount) one) one
-    → s ≡ widthAnswer (e - 15) (i .number) → three ≡ ifAccepted s (putAt 15 (digitsOf (e - 15) (i .number)) two) two
-    → four ≡ putAt e rest three → four ≡ codeWith 0 i kind amount rest
-pieces i kind amount rest old fit n {e} {r} {s} {one} {two} {three} {four} ee e1 er e2 es e3 e4 =
-    let range = issuer-end-range (i .segment) in
-    let h = headOf (i .segment) kind ++ (48 ∷ []) in
-    let d = digitsOf 11 amount in
-    let k = digitsOf (e - 15) (i .number) in
-    let ld = digits-fill 11 amount .0 in
-    let lk = digits-fill (e - 15) (i .number) .0 in
-    let room : length rest ≡ 44 - e = fit .room ∙ omega arith in
-    let small : i .number < 10 ^ (e - 15) = rw ee (fit .number) in
-    let lhd : 15 ≡ length (h ++ d) = omega (arith, length-append h d) in
-    let lhdk : e ≡ length ((h ++ d) ++ k) = omega (arith, length-append (h ++ d) k) in
-    let all : length (((h ++ d) ++ k) ++ rest) ≡ 44 = omega (arith, length-append ((h ++ d) ++ k) rest) in
-    let f2 = number-put 11 amount 4 one (fit .amounts) er e2 ∙ put-next old h d refl (omega arith) e1 in
-    let f3 = number-put (e - 15) (i .number) 15 two small es e3 ∙ put-next old (h ++ d) k lhd (omega arith) f2 in
-    let f4 = e4 ∙ put-next old ((h ++ d) ++ k) rest lhdk (omega arith) f3 in
-    let past : length old ≤ length (((h ++ d) ++ k) ++ rest) = omega arith in
-    let end : drop (length (((h ++ d) ++ k) ++ rest)) old ≡ [] = drop-of-length-le old past in
-    f4 ∙ rw (end, append-nil (((h ++ d) ++ k) ++ rest), append-assoc (h ++ d) k rest, append-assoc h d (k ++ rest), ee)
+pub fields-within-ranges-build : FieldsWithinRangesBuild
+unfolding buildAnswer
+fields-within-ranges-build i kind amount rest =
+    let end = issuerEnd (i .segment) in
+    let free-digits = each-accepts (isOf Digit) NoDigit 1 rest in
+    let moved = moved-accepts (behind end) (eachIs (isOf Digit) NoDigit 1 rest) in (
+      λ e.
+          let s = passed (isSegment (i .segment)) UnknownSegment 2 e in
+          let k = passed (isKind kind) UnknownKind 3 (s .1) in
+          let r = passed (eqb (length rest) (widthOf (free (i .segment)))) WrongLength 0 (k .1) in
+          let a = passed (ltb amount (10 ^ widthOf value)) TooWide 5 (r .1) in
+          let n = passed (ltb (i .number) (10 ^ widthOf (issuer (i .segment)))) TooWide 16 (a .1) in
+          let d = then-accepts (movedBy (behind end) (eachIs (isOf Digit) NoDigit 1 rest)) (require (leb (checkFor i kind amount rest) 9) CheckTwoPlaces 4) .0 (n .1) .0 in
+          record {
+            segment = s .0;
+            kinds = k .0;
+            amounts = ltb-true _ _ (a .0);
+            number = ltb-true _ _ (n .0);
+            long = eqb-true _ _ (r .0);
+            digits = free-digits .0 (moved .0 d);
+          },
+      λ w.
+          let digits = moved .1 (free-digits .1 (w .digits)) in
+          rw (w .segment, w .kinds, eq-eqb _ _ (w .long), lt-ltb _ _ (w .amounts), lt-ltb _ _ (w .number), digits, one-place i kind amount rest),
+    )
 
--- the free field's room, as the code counts it
-module _ (s : ℕ) (rest : List ℕ) {e : ℕ} (ee : e ≡ issuerEnd s) where
-  room-width : widthOf (free s) ≡ 44 - e
-  room-width = omega arith
+pub ranges-of : (i : Issuer) (kind amount : ℕ) (rest : List ℕ) → buildAnswer codeLength i kind amount rest ≡ Accepted → WithinRanges i kind amount rest
+ranges-of i kind amount rest = fields-within-ranges-build i kind amount rest .0
 
-  pub no-room : (length rest ≡ 44 - e → ⊥) → eqb (length rest) (widthOf (free s)) ≡ false
-  no-room h = ne-eqb _ _ (λ q. h (q ∙ room-width))
-
-  pub has-room : length rest ≡ 44 - e → eqb (length rest) (widthOf (free s)) ≡ true
-  has-room h = eq-eqb _ _ (h ∙ sym room-width)
-
--- What an accepting answer tells.
-
-segment-small : (s : ℕ) → isSegment s ≡ true → s ≤ 9
+-- segment and kind are one digit each
+pub segment-small : (s : ℕ) → isSegment s ≡ true → s ≤ 9
 segment-small s h =
     ⊎-elim (λ e. omega (arith, leb-true s 7 (and-eq-true-iff (leb 1 s) (leb s 7) .0 e .1))) (λ e. omega (arith, eqb-true s 9 e))
     (or-cases (within 1 7 s) (eqb s 9) h)
 
-kind-small : (k : ℕ) → isKind k ≡ true → k ≤ 9
+pub kind-small : (k : ℕ) → isKind k ≡ true → k ≤ 9
 kind-small k h = leb-true k 9 (and-eq-true-iff (leb 6 k) (leb k 9) .0 h .1)
 
-pub fit-of : (i : Issuer) (kind amount : ℕ) (rest : List ℕ) → fieldsAnswer i kind amount rest ≡ Accepted → Fit i kind amount rest
-unfolding fieldsAnswer numbersAnswer
-fit-of i kind amount rest e =
-    let s = passed (isSegment (i .segment)) UnknownSegment 2 e in
-    let k = passed (isKind kind) UnknownKind 3 (s .1) in
-    let r = passed (eqb (length rest) (widthOf (free (i .segment)))) WrongLength 0 (k .1) in
-    let a = passed (ltb amount (10 ^ widthOf value)) TooWide 5 (r .1) in
-    let n = passed (ltb (i .number) (10 ^ widthOf (issuer (i .segment)))) TooWide 16 (a .1) in
-    record {
-      segment = segment-small (i .segment) (s .0);
-      kinds = kind-small kind (k .0);
-      room = eqb-true _ _ (r .0);
-      amounts = ltb-true _ _ (a .0);
-      number = ltb-true _ _ (n .0);
-    }
+-- The pieces, one behind the other.
+
+number-put : (w n at : ℕ) (l : List ℕ) {r : Answer} {q : List ℕ} → n < 10 ^ w → r ≡ widthAnswer w n → q ≡ ifAccepted r (putAt at (digitsOf w n) l) l → q ≡ putAt at (digitsOf w n) l
+number-put w n at l h e f = f ∙ rw (e, lt-ltb n (10 ^ w) h)
+
+pub pieces : (i : Issuer) (kind amount : ℕ) (rest old : List ℕ) → WithinRanges i kind amount rest → length old ≡ 44
+    → {w : ℕ} {r s : Answer} {one two three four : List ℕ} → w ≡ widthOf (issuer (i .segment)) → one ≡ headOf (i .segment) kind ++ 48 ∷ drop 4 old
+    → r ≡ widthAnswer 11 amount → two ≡ ifAccepted r (putAt 4 (digitsOf 11 amount) one) one
+    → s ≡ widthAnswer w (i .number) → three ≡ ifAccepted s (putAt 15 (digitsOf w (i .number)) two) two
+    → four ≡ putAt (15 + w) rest three → four ≡ codeWith 0 i kind amount rest
+pieces i kind amount rest old fit n {w} {r} {s} {one} {two} {three} {four} ew e1 er e2 es e3 e4 =
+    let range = issuer-end-range (i .segment) in
+    let h = headOf (i .segment) kind ++ (48 ∷ []) in
+    let d = digitsOf 11 amount in
+    let k = digitsOf w (i .number) in
+    let ld = digits-fill 11 amount .0 in
+    let lk = digits-fill w (i .number) .0 in
+    let left : length rest ≡ 29 - w = fit .long ∙ omega arith in
+    let small : i .number < 10 ^ w = rw ew (fit .number) in
+    let lhd : 15 ≡ length (h ++ d) = omega (arith, length-append h d) in
+    let lhdk : 15 + w ≡ length ((h ++ d) ++ k) = omega (arith, length-append (h ++ d) k) in
+    let all : length (((h ++ d) ++ k) ++ rest) ≡ 44 = omega (arith, length-append ((h ++ d) ++ k) rest) in
+    let f2 = number-put 11 amount 4 one (fit .amounts) er e2 ∙ put-next old h d refl (omega arith) e1 in
+    let f3 = number-put w (i .number) 15 two small es e3 ∙ put-next old (h ++ d) k lhd (omega arith) f2 in
+    let f4 = e4 ∙ put-next old ((h ++ d) ++ k) rest lhdk (omega arith) f3 in
+    let past : length old ≤ length (((h ++ d) ++ k) ++ rest) = omega arith in
+    let end : drop (length (((h ++ d) ++ k) ++ rest)) old ≡ [] = drop-of-length-le old past in
+    f4 ∙ rw (end, append-nil (((h ++ d) ++ k) ++ rest), append-assoc (h ++ d) k rest, append-assoc h d (k ++ rest), ew)
+
+-- the free field's length, as the code counts it
+module _ (s : ℕ) (rest : List ℕ) {e : ℕ} (ee : e ≡ issuerEnd s) where
+  free-width : widthOf (free s) ≡ 44 - e
+  free-width = omega arith
+
+  pub free-wrong : (length rest ≡ 44 - e → ⊥) → eqb (length rest) (widthOf (free s)) ≡ false
+  free-wrong h = ne-eqb _ _ (λ q. h (q ∙ free-width))
+
+  pub free-right : length rest ≡ 44 - e → eqb (length rest) (widthOf (free s)) ≡ true
+  free-right h = eq-eqb _ _ (h ∙ sym free-width)
+
+-- the last question of the order holds, and changes nothing
+pub one-place-last : (i : Issuer) (kind amount : ℕ) (rest : List ℕ) (a : Answer) → a ≡ a then require (leb (checkFor i kind amount rest) 9) CheckTwoPlaces 4
+one-place-last i kind amount rest Accepted = rw (one-place i kind amount rest)
+one-place-last i kind amount rest (Refused why p) = refl
 
 -- The code that was written.
-module _ (i : Issuer) (kind amount : ℕ) (rest : List ℕ) (fit : Fit i kind amount rest) where
+module _ (i : Issuer) (kind amount : ℕ) (rest : List ℕ) (fit : WithinRanges i kind amount rest) where
   pub tail-length : length (tailOf i amount rest) ≡ 40
   tail-length =
       let w = widthOf (issuer (i .segment)) in
       let range = issuer-end-range (i .segment) in
       let d = digitsOf 11 amount in
       let k = digitsOf w (i .number) in
-      omega (arith, fit .room, digits-fill 11 amount .0, digits-fill w (i .number) .0, length-append d (k ++ rest), length-append k rest)
+      omega (arith, fit .long, digits-fill 11 amount .0, digits-fill w (i .number) .0, length-append d (k ++ rest), length-append k rest)
 
   pub written-check : (x : ℕ) → generalCheck (codeWith x i kind amount rest) ≡ checkFor i kind amount rest
   written-check x =
       let t : take 40 (tailOf i amount rest) ++ [] ≡ tailOf i amount rest = append-nil (take 40 (tailOf i amount rest)) ∙ take-all 40 (tailOf i amount rest) (omega (arith, tail-length)) in
-      rw (digit-back kind (fit .kinds) .1, t)
+      rw (digit-back kind (kind-small kind (fit .kinds)) .1, t)
 
   pub code-length : (x : ℕ) → length (codeWith x i kind amount rest) ≡ 44
   code-length x = omega (arith, tail-length)
 
-  -- written with 0 for the check, then with the check, then put into the lent bytes
-  pub finished : (old : List ℕ) → length old ≡ 44 → {x : ℕ} {code out : List ℕ} → code ≡ codeWith 0 i kind amount rest → x ≡ generalCheck code → x ≤ 9
-      → out ≡ putAt 0 (set code 3 (48 + x)) old → (Accepted ≡ checkAnswer i kind amount rest) × (out ≡ builtOf i kind amount rest)
-  finished old n {x} {code} {out} ec ex small eo =
+  -- written with 0 for the check, then with the check, then put into the caller's buffer
+  pub finished : (old : List ℕ) → length old ≡ 44 → {x : ℕ} {code out : List ℕ} → code ≡ codeWith 0 i kind amount rest → x ≡ generalCheck code
+      → out ≡ putAt 0 (set code 3 (48 + x)) old → out ≡ builtOf i kind amount rest
+  finished old n {x} {code} {out} ec ex eo =
       let check : x ≡ checkFor i kind amount rest = ex ∙ ap generalCheck ec ∙ written-check 0 in
-      let le : checkFor i kind amount rest ≤ 9 = omega arith in
       let whole : set code 3 (48 + x) ≡ builtOf i kind amount rest = rw (ec, check) in
-      (pass _ CheckTwoPlaces 4 (le-leb _ _ le), eo ∙ rw whole (put-whole (builtOf i kind amount rest) old (code-length (checkFor i kind amount rest) ∙ sym n)))
+      eo ∙ rw whole (put-whole (builtOf i kind amount rest) old (code-length (checkFor i kind amount rest) ∙ sym n))

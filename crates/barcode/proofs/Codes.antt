@@ -2,6 +2,7 @@
 use Prim.Native.Nat.{ℕ, _+_, _-_, _%_, _≤_}
 use mathlib.Core.Bool.{Bool, true, false, cond}
 use mathlib.Core.List.{List, [], _++_, append-nil}
+use mathlib.Core.Logic.{_↔_}
 use mathlib.Core.Path.{_≡_, refl, sym, ap, _∙_}
 use native.Mathlib.Nat.{mod-add-mod, add-mod-mod}
 use native.Mathlib.Omega.{arith}
@@ -14,14 +15,16 @@ use Rattle.answer.specs.declared.Reason.the-variants.{WrongLength, NoDigit, Wro
 use Rattle.answer.specs.declared.Answer.{Answer}
 use Rattle.answer.specs.declared.Answer.the-variants.{Accepted, Refused}
 use Rattle.answer.specs.Refusals.{answerPlace}
-use Rattle.answer.specs.Orders.{require, _then_}
+use Rattle.answer.specs.Orders.{require, _then_, ifAccepted}
 use Rattle.answer.proofs.Orders.{asked-accepts, then-accepts, asked-place, then-place}
+use Rattle.answer.proofs.Steps.{passed}
 use Rattle.decimal.specs.declared.Class.the-variants.{Digit}
-use Rattle.decimal.specs.Bytes.{isOf, eachIs}
-use Rattle.decimal.specs.Numbers.{valueOf, numberOf, capped}
+use Rattle.decimal.specs.Bytes.{isOf, all, eachIs}
+use Rattle.decimal.specs.Numbers.{valueOf, numberOf}
+use Rattle.decimal.specs.LowHalves.{lowNumberOf}
 use Rattle.decimal.specs.Places.{gather}
-use Rattle.decimal.proofs.Bytes.{each-place}
-use Rattle.decimal.proofs.Numbers.{nineteen-are-held}
+use Rattle.decimal.proofs.Bytes.{each-place, each-accepts, all-of-part}
+use Rattle.decimal.proofs.Numbers.{low-of-digits}
 use Rattle.calendar.specs.declared.MaybeDate.{MaybeDate}
 use Rattle.calendar.specs.Dates.{dateOf}
 use Rattle.modulus.specs.declared.Modulus.{Modulus}
@@ -30,7 +33,7 @@ use Rattle.modulus.proofs.Sums.{parts-compose}
 use Rattle.barcode.specs.declared.Fields.{Fields}
 use Rattle.barcode.specs.declared.Issuer.{Issuer}
 use Rattle.barcode.specs.declared.Decoded.the-variants as decoding
-use Rattle.barcode.specs.Codes.{issuerOf, digitAt, product, isSegment, isKind, modulusOf, checked, issuerEnd, firstThreeAnswer, generalCheck, generalRight, prefixAnswer, fullLengthAnswer, barcodeAnswer, fieldsOf, readOf, decodedBarcode, shownFree}
+use Rattle.barcode.specs.Codes.{issuerOf, digitAt, product, isSegment, isKind, modulusOf, checked, issuerEnd, firstThreeAnswer, generalCheck, generalRight, prefixAnswer, fullLengthAnswer, barcodeAnswer, freeOf, fieldsOf, decodedBarcode, shownFree}
 
 -- past the end
 pub no-digit : 0 ≡ valueOf 0
@@ -54,15 +57,15 @@ general-as code n {m} ed em ex ey er ek =
     let e : m ≡ modulusOf (digitAt 3 code) = em ∙ ap modulusOf ed in
     rw (ek, er, ← e, general-check m code n ex ey)
 
--- 3, 4 and 5 look at three bytes alone
-pub lead-same : (l k : List ℕ) → getD l 0 0 ≡ getD k 0 0 → getD l 1 0 ≡ getD k 1 0 → getD l 2 0 ≡ getD k 2 0 → firstThreeAnswer l ≡ firstThreeAnswer k
+-- 3, 4 and 5 depend on the first three bytes alone
+pub first-three-same : (l k : List ℕ) → getD l 0 0 ≡ getD k 0 0 → getD l 1 0 ≡ getD k 1 0 → getD l 2 0 ≡ getD k 2 0 → firstThreeAnswer l ≡ firstThreeAnswer k
 unfolding firstThreeAnswer
-lead-same l k a b c = rw (a, b, c)
+first-three-same l k a b c = rw (a, b, c)
 
 -- no place of its answer is past its end
-lead-place : (l : List ℕ) → answerPlace (firstThreeAnswer l) ≤ 45
+first-three-place : (l : List ℕ) → answerPlace (firstThreeAnswer l) ≤ 45
 unfolding firstThreeAnswer
-lead-place l =
+first-three-place l =
     let a = require (eqb (digitAt 1 l) product) WrongProduct 1 in
     let b = require (isSegment (digitAt 2 l)) UnknownSegment 2 in
     let c = require (isKind (digitAt 3 l)) UnknownKind 3 in
@@ -76,7 +79,7 @@ code-place code = go (eqb (length code) 44) refl
     go false e = omega arith
     go true e =
         then-place 45 (prefixAnswer code) (require (generalRight code) WrongGeneralCheck 4) (then-place 45 (eachIs (isOf Digit) NoDigit 1 code) (firstThreeAnswer code) (omega (arith, each-place (isOf Digit) NoDigit 1 code, eqb-true (length code) 44 e))
-        (lead-place code))
+        (first-three-place code))
         (asked-place 45 (generalRight code) WrongGeneralCheck 4 (omega arith))
 
 pub issuer-end-range : (s : ℕ) → (19 ≤ issuerEnd s) × (issuerEnd s ≤ 23)
@@ -86,58 +89,105 @@ issuer-end-range s = go (eqb s 6)
     go true = (omega arith, omega arith)
     go false = (omega arith, omega arith)
 
--- The fields, from what each part was read as.
-module _ (code : List ℕ) (n : length code ≡ 44) where
-  held : {r : ℕ} (from count : ℕ) → count ≤ 19 → from + count ≤ 44 → r ≡ capped (numberOf (take count (drop from code))) → r ≡ numberOf (take count (drop from code))
-  held from count small fits e =
-      e ∙ nineteen-are-held (take count (drop from code)) (omega (arith, length-take-le count (drop from code) (omega (arith, length-drop from code))))
+-- What an accepting answer tells, and what makes it accept.
 
-  pub due-part : (e : ℕ) → e ≤ 23 → take (e + 8 - e) (drop e code) ≡ take 8 (take (44 - (e + 1 - 1)) (drop (e + 1 - 1) code))
+pub first-three-accepts : (l : List ℕ)
+    → (firstThreeAnswer l ≡ Accepted) ↔ ((digitAt 1 l ≡ product) × (isSegment (digitAt 2 l) ≡ true) × (isKind (digitAt 3 l) ≡ true))
+unfolding firstThreeAnswer
+first-three-accepts l = (
+  λ e.
+      let a = passed (eqb (digitAt 1 l) product) WrongProduct 1 e in
+      let b = passed (isSegment (digitAt 2 l)) UnknownSegment 2 (a .1) in
+      (eqb-true (digitAt 1 l) product (a .0), b .0, asked-accepts (isKind (digitAt 3 l)) UnknownKind 3 .0 (b .1)),
+  λ h. rw (eq-eqb (digitAt 1 l) product (h .0), h .1, h .2),
+)
+
+pub prefix-accepts : (l : List ℕ) → (prefixAnswer l ≡ Accepted) ↔ ((all (isOf Digit) l ≡ true) × (firstThreeAnswer l ≡ Accepted))
+prefix-accepts l =
+    let digits = each-accepts (isOf Digit) NoDigit 1 l in
+    let both = then-accepts (eachIs (isOf Digit) NoDigit 1 l) (firstThreeAnswer l) in
+    (λ e. (digits .0 (both .0 e .0), both .0 e .1), λ h. both .1 (digits .1 (h .0), h .1))
+
+pub record Good (code : List ℕ) : Type 0 where
+  pub long : length code ≡ 44
+  pub digits : all (isOf Digit) code ≡ true
+  pub first-three : firstThreeAnswer code ≡ Accepted
+  pub general : generalRight code ≡ true
+
+pub good : (code : List ℕ) → barcodeAnswer code ≡ Accepted → Good code
+good code e =
+    let l = passed (eqb (length code) 44) WrongLength 0 e in
+    let body = then-accepts (prefixAnswer code) (require (generalRight code) WrongGeneralCheck 4) .0 (l .1) in
+    let prefix = prefix-accepts code .0 (body .0) in
+    record {
+      long = eqb-true _ _ (l .0);
+      digits = prefix .0;
+      first-three = prefix .1;
+      general = asked-accepts (generalRight code) WrongGeneralCheck 4 .0 (body .1);
+    }
+
+pub accepted : (code : List ℕ) → Good code → barcodeAnswer code ≡ Accepted
+accepted code g = rw (eq-eqb _ _ (g .long), prefix-accepts code .1 (g .digits, g .first-three), g .general)
+
+pub accepted-length : (code : List ℕ) → barcodeAnswer code ≡ Accepted → length code ≡ 44
+accepted-length code e = good code e .long
+
+-- The fields of 44 digits, from what each part was read as.
+module _ (code : List ℕ) (n : length code ≡ 44) (a : all (isOf Digit) code ≡ true) where
+  part-number : {r : ℕ} (from count : ℕ) → count ≤ 19 → from + count ≤ 44 → r ≡ lowNumberOf (take count (drop from code)) → r ≡ numberOf (take count (drop from code))
+  part-number from count small fits e =
+      let l : length (take count (drop from code)) ≡ count = length-take-le count (drop from code) (omega (arith, length-drop from code)) in
+      e ∙ low-of-digits (take count (drop from code)) (all-of-part (isOf Digit) from count code a) (omega arith)
+
+  due-part : (e : ℕ) → e ≤ 23 → take (e + 8 - e) (drop e code) ≡ take 8 (take (44 - (e + 1 - 1)) (drop (e + 1 - 1) code))
   due-part e h =
       let a : e + 8 - e ≡ 8 = omega arith in
       let b : e + 1 - 1 ≡ e = omega arith in
       rw (a, b) (sym (take-take 8 (44 - e) (drop e code) (omega arith)))
 
-  pub as-issuer : {s e i : ℕ} → s ≡ digitAt 2 code → e ≡ issuerEnd s → i ≡ capped (numberOf (take (e - 15) (drop 15 code)))
+  pub as-issuer : {s e i : ℕ} → s ≡ digitAt 2 code → e ≡ issuerEnd s → i ≡ lowNumberOf (take (e - 15) (drop 15 code))
       → _≡_ {A = Issuer} (record { segment = s; number = i }) (issuerOf code)
   as-issuer {s} {e} es ee ei =
       let range = issuer-end-range s in
-      let fi = held 15 (e - 15) (omega arith) (omega arith) ei in
+      let fi = part-number 15 (e - 15) (omega arith) (omega arith) ei in
       let f : e ≡ issuerEnd (digitAt 2 code) = ee ∙ ap issuerEnd es in
       rw (fi, f, es)
 
   pub as-fields : {i : Issuer} {e k v : ℕ} {d : MaybeDate} → i ≡ issuerOf code → e ≡ issuerEnd (i .segment) → k ≡ digitAt 3 code
-      → v ≡ capped (numberOf (take 11 (drop 4 code))) → d ≡ dateOf (take (e + 8 - e) (drop e code))
+      → v ≡ lowNumberOf (take 11 (drop 4 code)) → d ≡ dateOf (take (e + 8 - e) (drop e code))
       → _≡_ {A = Fields} (record { kind = k; value = v; issuer = i; due = d }) (fieldsOf code)
   as-fields {i} {e} ei ee ek ev ed =
       let range = issuer-end-range (i .segment) in
-      let fv = held 4 11 (omega arith) (omega arith) ev in
+      let fv = part-number 4 11 (omega arith) (omega arith) ev in
       let fd = ed ∙ ap dateOf (due-part e (omega arith)) in
       let f : e ≡ issuerEnd (digitAt 2 code) = ee ∙ ap (λ (x : Issuer). issuerEnd (x .segment)) ei in
       rw (ek, fv, fd, f, ei)
 
+-- 7 is what is left when nothing before it is refused
+pub general-wrong : (code : List ℕ) → length code ≡ 44 → prefixAnswer code ≡ Accepted → (barcodeAnswer code ≡ Accepted → ⊥)
+    → Refused WrongGeneralCheck 4 ≡ barcodeAnswer code
+general-wrong code n e h = go (generalRight code) refl
+  where
+    go : (t : Bool) → generalRight code ≡ t → Refused WrongGeneralCheck 4 ≡ barcodeAnswer code
+    go true g = absurd (h (rw (eq-eqb _ _ n, e, g)))
+    go false g = rw (eq-eqb _ _ n, e, g)
+
 -- What is shown, from the answer.
-
-pub accepted-length : (code : List ℕ) → barcodeAnswer code ≡ Accepted → length code ≡ 44
-accepted-length code e =
-    eqb-true (length code) 44
-    (asked-accepts (eqb (length code) 44) WrongLength 0 .0 (then-accepts (require (eqb (length code) 44) WrongLength 0) (fullLengthAnswer code) .0 e .0))
-
 module _ (code : List ℕ) where
-  pub as-refused : {a : Answer} {why : Reason} {p : ℕ} → a ≡ barcodeAnswer code → a ≡ Refused why p → decoding.Refused why p ≡ decodedBarcode code
-  as-refused {a} {why} {p} e f = let g : barcodeAnswer code ≡ Refused why p = cc in rw g
+  pub as-refused : {why : Reason} {p : ℕ} → Refused why p ≡ barcodeAnswer code → decoding.Refused why p ≡ decodedBarcode code
+  as-refused e = rw (← e)
 
-  pub as-read : {a : Answer} {f : Fields} → a ≡ barcodeAnswer code → a ≡ Accepted → f ≡ readOf code → decoding.Read f ≡ decodedBarcode code
-  as-read {a} e g h =
-      let k : barcodeAnswer code ≡ Accepted = cc in
-      rw (h, k, eq-eqb (length code) 44 (accepted-length code k))
+  pub as-read : {f : Fields} → barcodeAnswer code ≡ Accepted → f ≡ fieldsOf code → decoding.Read f ≡ decodedBarcode code
+  as-read e h = rw (h, e)
 
-  pub no-free : {a : Answer} {why : Reason} {p : ℕ} → a ≡ barcodeAnswer code → a ≡ Refused why p → [] ≡ shownFree code
-  no-free {a} {why} {p} e f = let g : barcodeAnswer code ≡ Refused why p = cc in rw g
+  pub no-free : (barcodeAnswer code ≡ Accepted → ⊥) → [] ≡ shownFree code
+  no-free h = go (barcodeAnswer code) h
+    where
+      go : (a : Answer) → (a ≡ Accepted → ⊥) → [] ≡ ifAccepted a (freeOf code) []
+      go Accepted h = absurd (h refl)
+      go (Refused why p) h = refl
 
-  pub as-free : {a : Answer} {e s : ℕ} → a ≡ barcodeAnswer code → a ≡ Accepted → e ≡ issuerEnd s → s ≡ digitAt 2 code
-      → take (44 - e) (drop e code) ≡ shownFree code
-  as-free {a} {e} q f h i =
-      let g : barcodeAnswer code ≡ Accepted = cc in
+  pub as-free : {e s : ℕ} → barcodeAnswer code ≡ Accepted → e ≡ issuerEnd s → s ≡ digitAt 2 code → take (44 - e) (drop e code) ≡ shownFree code
+  as-free {e} g h i =
       let n : issuerEnd (digitAt 2 code) + 1 - 1 ≡ e = omega (arith, h ∙ ap issuerEnd i) in
       rw (g, n)

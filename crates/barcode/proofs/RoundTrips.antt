@@ -4,31 +4,27 @@ use mathlib.Core.Bool.{true}
 use mathlib.Core.List.{List, [], _∷_, _++_, append-nil}
 use mathlib.Core.Path.{_≡_, refl, sym, ap, _∙_}
 use native.Mathlib.Omega.{arith}
-use borrow.Author.Tests.{eqb-true, eq-eqb, lt-ltb, le-leb}
-use lib.Dec.{eqb, leb, ltb}
+use borrow.Author.Tests.{eqb-true, eq-eqb}
 use lib.ListN.{length, getD, take, drop, length-drop, take-append-drop}
 use lib.Seq.{length-take-le, take-all, take-at, drop-at, drop-drop}
-use Rattle.answer.specs.declared.Reason.the-variants.{WrongLength, NoDigit, WrongProduct, UnknownSegment, UnknownKind, WrongGeneralCheck, TooWide}
 use Rattle.answer.specs.declared.Answer.{Answer}
 use Rattle.answer.specs.declared.Answer.the-variants.{Accepted, Refused}
-use Rattle.answer.specs.Orders.{require, behind}
-use Rattle.answer.proofs.Orders.{then-accepts, asked-accepts, moved-accepts, refusal-keeps}
-use Rattle.answer.proofs.Steps.{passed}
+use Rattle.answer.proofs.Orders.{refusal-keeps}
 use Rattle.decimal.specs.declared.Class.the-variants.{Digit}
-use Rattle.decimal.specs.Bytes.{isOf, all, eachIs}
+use Rattle.decimal.specs.Bytes.{isOf, all}
 use Rattle.decimal.specs.Numbers.{valueOf, numberOf, digitsOf}
 use Rattle.decimal.specs.Places.{widthOf, partAt, gather}
-use Rattle.decimal.proofs.Bytes.{each-accepts, all-at, all-joins, all-of-part}
+use Rattle.decimal.proofs.Bytes.{all-at, all-joins, all-of-part}
 use Rattle.decimal.proofs.Places.{joins}
 use Rattle.decimal.proofs.Numbers.{digit-range, value-digit, digit-back, digits-fill, number-of-digits, digits-of-number, number-fits}
 use Rattle.modulus.specs.Checks.{checkOf}
 use Rattle.modulus.proofs.Sums.{check-is-one-digit}
 use Rattle.barcode.specs.declared.Issuer.{Issuer}
-use Rattle.barcode.specs.Codes.{digitAt, product, isSegment, isKind, modulusOf, checked, value, issuerEnd, issuer, free, issuerOf, freeOf, fieldsOf, firstThreeAnswer, prefixAnswer, generalCheck, generalRight, barcodeAnswer, decoded}
-use Rattle.barcode.specs.Building.{headOf, tailOf, checkFor, builtOf, numbersAnswer, fieldsAnswer, checkAnswer, buildAnswer, Fit}
-use Rattle.barcode.specs.RoundTrips.{answerOfBarcode, ShowsItsPlaces, DecodedAnswers, FieldsAreItsPlaces, CodeIsItsFields, BuiltIsRead, FieldsWithinRangesBuild, RefusedBuildKeeps}
-use Rattle.barcode.proofs.Codes.{issuer-end-range}
-use Rattle.barcode.proofs.Building.{fit-of, written-check, code-length}
+use Rattle.barcode.specs.Codes.{digitAt, product, modulusOf, checked, value, issuerEnd, issuer, free, issuerOf, freeOf, fieldsOf, generalCheck, generalRight, barcodeAnswer, decoded}
+use Rattle.barcode.specs.Building.{headOf, tailOf, checkFor, builtOf, buildAnswer}
+use Rattle.barcode.specs.RoundTrips.{answerOfBarcode, ShowsItsPlaces, DecodedAnswers, FieldsAreItsPlaces, CodeIsItsFields, BuiltIsRead, WithinRanges, RefusedBuildKeeps}
+use Rattle.barcode.proofs.Codes.{issuer-end-range, first-three-accepts, Good, good, accepted}
+use Rattle.barcode.proofs.Building.{fields-within-ranges-build, ranges-of, segment-small, kind-small, written-check, code-length}
 
 pub decoded-answers : DecodedAnswers
 decoded-answers code = go (barcodeAnswer code)
@@ -39,37 +35,6 @@ decoded-answers code = go (barcodeAnswer code)
 
 pub refused-build-keeps : RefusedBuildKeeps
 refused-build-keeps out i kind amount rest h = refusal-keeps (buildAnswer (length out) i kind amount rest) (builtOf i kind amount rest) out h
-
--- what an accepting answer tells, and what makes it accept
-pub record Good (code : List ℕ) : Type 0 where
-  pub long : length code ≡ 44
-  pub digits : all (isOf Digit) code ≡ true
-  pub first : digitAt 1 code ≡ product
-  pub segment : isSegment (digitAt 2 code) ≡ true
-  pub kind : isKind (digitAt 3 code) ≡ true
-  pub general : generalRight code ≡ true
-
-pub good : (code : List ℕ) → barcodeAnswer code ≡ Accepted → Good code
-unfolding firstThreeAnswer
-good code e =
-    let l = passed (eqb (length code) 44) WrongLength 0 e in
-    let body = then-accepts (prefixAnswer code) (require (generalRight code) WrongGeneralCheck 4) .0 (l .1) in
-    let front = then-accepts (eachIs (isOf Digit) NoDigit 1 code) (firstThreeAnswer code) .0 (body .0) in
-    let p = passed (eqb (digitAt 1 code) product) WrongProduct 1 (front .1) in
-    let s = passed (isSegment (digitAt 2 code)) UnknownSegment 2 (p .1) in
-    record {
-      long = eqb-true _ _ (l .0);
-      digits = each-accepts (isOf Digit) NoDigit 1 code .0 (front .0);
-      first = eqb-true _ _ (p .0);
-      segment = s .0;
-      kind = asked-accepts (isKind (digitAt 3 code)) UnknownKind 3 .0 (s .1);
-      general = asked-accepts (generalRight code) WrongGeneralCheck 4 .0 (body .1);
-    }
-
-pub accepted : (code : List ℕ) → Good code → barcodeAnswer code ≡ Accepted
-unfolding firstThreeAnswer
-accepted code g =
-    rw (eq-eqb _ _ (g .long), each-accepts (isOf Digit) NoDigit 1 code .1 (g .digits), eq-eqb _ _ (g .first), g .segment, g .kind, g .general)
 
 -- Of an accepted barcode.
 
@@ -107,7 +72,8 @@ module _ (code : List ℕ) (g : Good code) where
 
   head-back : headOf (digitAt 2 code) (digitAt 3 code) ≡ getD code 0 0 ∷ getD code 1 0 ∷ getD code 2 0 ∷ []
   head-back =
-      let p : 48 + product ≡ getD code 0 0 = omega (arith, g .first, digit-byte 0 (omega arith)) in
+      let first = first-three-accepts code .0 (g .first-three) .0 in
+      let p : 48 + product ≡ getD code 0 0 = omega (arith, first, digit-byte 0 (omega arith)) in
       rw (digit-byte 1 (omega arith), digit-byte 2 (omega arith), p)
 
   -- the 43 digits, and the whole
@@ -142,15 +108,6 @@ module _ (code : List ℕ) (g : Good code) where
   built-back : builtOf (issuerOf code) (digitAt 3 code) (numberOf (partAt value code)) (freeOf code) ≡ code
   built-back = joins head-back (heads check-back tail-back) ∙ sym whole
 
--- Of fields.
-
-pub fields-within-ranges-build : FieldsWithinRangesBuild
-unfolding fieldsAnswer numbersAnswer
-fields-within-ranges-build i kind amount rest s k a n l d =
-    let digits = moved-accepts (behind (issuerEnd (i .segment))) (eachIs (isOf Digit) NoDigit 1 rest) .1 (each-accepts (isOf Digit) NoDigit 1 rest .1 d) in
-    let one : leb (checkFor i kind amount rest) 9 ≡ true = le-leb _ _ (check-is-one-digit (modulusOf kind) (headOf (i .segment) kind ++ tailOf i amount rest)) in
-    rw (s, k, eq-eqb _ _ l, lt-ltb _ _ a, lt-ltb _ _ n, digits, one)
-
 part-length : (code : List ℕ) (from count : ℕ) → length code ≡ 44 → from + count ≤ 44 → length (take count (drop from code)) ≡ count
 part-length code from count n h = length-take-le count (drop from code) (omega (arith, length-drop from code))
 
@@ -160,12 +117,18 @@ part-below code from count n h = rw (part-length code from count n h) at (number
 pub code-is-its-fields : CodeIsItsFields
 code-is-its-fields code e =
     let g = good code e in
+    let three = first-three-accepts code .0 (g .first-three) in
     let s = digitAt 2 code in
     let range = issuer-end-range s in
     let n = g .long in (
-      fields-within-ranges-build (issuerOf code) (digitAt 3 code) (numberOf (partAt value code)) (freeOf code) (g .segment) (g .kind) (part-below code 4 11 n (omega arith))
-          (part-below code 15 (issuerEnd s - 15) n (omega arith)) (part-length code (issuerEnd s + 1 - 1) (44 - (issuerEnd s + 1 - 1)) n (omega arith))
-          (all-of-part (isOf Digit) (issuerEnd s + 1 - 1) (44 - (issuerEnd s + 1 - 1)) code (g .digits)),
+      fields-within-ranges-build (issuerOf code) (digitAt 3 code) (numberOf (partAt value code)) (freeOf code) .1 (record {
+        segment = three .1;
+        kinds = three .2;
+        amounts = part-below code 4 11 n (omega arith);
+        number = part-below code 15 (issuerEnd s - 15) n (omega arith);
+        long = part-length code (issuerEnd s + 1 - 1) (44 - (issuerEnd s + 1 - 1)) n (omega arith);
+        digits = all-of-part (isOf Digit) (issuerEnd s + 1 - 1) (44 - (issuerEnd s + 1 - 1)) code (g .digits);
+      }),
       built-back code g,
     )
 
@@ -178,27 +141,28 @@ fields-are-its-places code h =
     rw e shows
 
 -- What was built.
-module _ (i : Issuer) (kind amount : ℕ) (rest : List ℕ) (fit : Fit i kind amount rest) (s : isSegment (i .segment) ≡ true) (k : isKind kind ≡ true)
-    (d : all (isOf Digit) rest ≡ true) where
+module _ (i : Issuer) (kind amount : ℕ) (rest : List ℕ) (fit : WithinRanges i kind amount rest) where
   tail-digits : all (isOf Digit) (tailOf i amount rest) ≡ true
   tail-digits =
       let w = widthOf (issuer (i .segment)) in
       all-joins (isOf Digit) (digitsOf 11 amount) (digitsOf w (i .number) ++ rest)
-      ∙ rw (digits-fill 11 amount .1, all-joins (isOf Digit) (digitsOf w (i .number)) rest, digits-fill w (i .number) .1, d)
+      ∙ rw (digits-fill 11 amount .1, all-joins (isOf Digit) (digitsOf w (i .number)) rest, digits-fill w (i .number) .1, fit .digits)
 
   built-digits : all (isOf Digit) (builtOf i kind amount rest) ≡ true
   built-digits =
       let one = check-is-one-digit (modulusOf kind) (headOf (i .segment) kind ++ tailOf i amount rest) in
-      rw (digit-back 8 (omega arith) .0, digit-back (i .segment) (fit .segment) .0, digit-back kind (fit .kinds) .0, digit-back (checkFor i kind amount rest) one .0, tail-digits)
+      rw (digit-back 8 (omega arith) .0, digit-back (i .segment) (segment-small (i .segment) (fit .segment)) .0, digit-back kind (kind-small kind (fit .kinds)) .0, digit-back (checkFor i kind amount rest) one .0, tail-digits)
 
   built-good : Good (builtOf i kind amount rest)
   unfolding generalRight
   built-good = record {
     long = code-length i kind amount rest fit (checkFor i kind amount rest);
     digits = built-digits;
-    first = digit-back 8 (omega arith) .1;
-    segment = rw (digit-back (i .segment) (fit .segment) .1) s;
-    kind = rw (digit-back kind (fit .kinds) .1) k;
+    first-three = first-three-accepts (builtOf i kind amount rest) .1 (
+      digit-back 8 (omega arith) .1,
+      rw (digit-back (i .segment) (segment-small (i .segment) (fit .segment)) .1) (fit .segment),
+      rw (digit-back kind (kind-small kind (fit .kinds)) .1) (fit .kinds),
+    );
     general = eq-eqb _ _ (ap (λ (n : ℕ). 48 + n) (sym (written-check i kind amount rest fit (checkFor i kind amount rest))));
   }
 
@@ -226,29 +190,15 @@ module _ (i : Issuer) (kind amount : ℕ) (rest : List ℕ) (fit : Fit i kind am
       let n : 15 + w ≡ e = omega arith in
       let f : drop e code ≡ rest =
       ap (λ (x : ℕ). drop x code) (sym n) ∙ sym (drop-drop w 15 code) ∙ ap (drop w) behind-amount ∙ drop-at (digitsOf w (i .number)) rest w (digits-fill w (i .number) .0) in
-      rw (b, f) (take-all (44 - e) rest (omega (arith, fit .room)))
-
--- the rest of what accepted fields tell
-told : (i : Issuer) (kind amount : ℕ) (rest : List ℕ) → fieldsAnswer i kind amount rest ≡ Accepted
-    → (isSegment (i .segment) ≡ true) × (isKind kind ≡ true) × (all (isOf Digit) rest ≡ true)
-unfolding fieldsAnswer numbersAnswer
-told i kind amount rest e =
-    let s = passed (isSegment (i .segment)) UnknownSegment 2 e in
-    let k = passed (isKind kind) UnknownKind 3 (s .1) in
-    let r = passed (eqb (length rest) (widthOf (free (i .segment)))) WrongLength 0 (k .1) in
-    let a = passed (ltb amount (10 ^ widthOf value)) TooWide 5 (r .1) in
-    let n = passed (ltb (i .number) (10 ^ widthOf (issuer (i .segment)))) TooWide 16 (a .1) in
-    (s .0, k .0, each-accepts (isOf Digit) NoDigit 1 rest .0 (moved-accepts (behind (issuerEnd (i .segment))) (eachIs (isOf Digit) NoDigit 1 rest) .0 (n .1)))
+      rw (b, f) (take-all (44 - e) rest (omega (arith, fit .long)))
 
 pub built-is-read : BuiltIsRead
 built-is-read i kind amount rest e =
-    let f = then-accepts (fieldsAnswer i kind amount rest) (checkAnswer i kind amount rest) .0 e .0 in
-    let fit = fit-of i kind amount rest f in
-    let t = told i kind amount rest f in
-    let a = accepted (builtOf i kind amount rest) (built-good i kind amount rest fit (t .0) (t .1) (t .2)) in
-    let sg = digit-back (i .segment) (fit .segment) .1 in
-    let free = free-read i kind amount rest fit (t .0) (t .1) (t .2) in
-    let number = number-read i kind amount rest fit (t .0) (t .1) (t .2) in
-    let amounts = amount-read i kind amount rest fit (t .0) (t .1) (t .2) in
-    let kinds = digit-back kind (fit .kinds) .1 in
+    let fit = ranges-of i kind amount rest e in
+    let a = accepted (builtOf i kind amount rest) (built-good i kind amount rest fit) in
+    let sg = digit-back (i .segment) (segment-small (i .segment) (fit .segment)) .1 in
+    let free = free-read i kind amount rest fit in
+    let number = number-read i kind amount rest fit in
+    let amounts = amount-read i kind amount rest fit in
+    let kinds = digit-back kind (kind-small kind (fit .kinds)) .1 in
     (rw (a, kinds, amounts, sg, number, free), rw (a, sg) free)

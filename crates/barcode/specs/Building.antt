@@ -1,12 +1,12 @@
--- A barcode built from its fields: issuer, kind, value and free field (document 01). Assumes nothing.
-use Prim.Native.Nat.{ℕ, _+_, _^_, _≤_, _<_}
+-- A barcode built from its fields: issuer, kind, value and free field (SPEC.md, "Builder"). Assumes nothing.
+use Prim.Native.Nat.{ℕ, _+_, _^_}
 use mathlib.Core.List.{List, [], _∷_, _++_}
-use mathlib.Core.Path.{_≡_}
 use lib.Dec.{leb, ltb, eqb}
 use lib.ListN.{length}
-use Rattle.answer.specs.declared.Reason.the-variants.{WrongLength, NoDigit, UnknownSegment, UnknownKind, CheckTwoPlaces, TooWide}
+use Rattle.answer.specs.declared.Reason.the-variants.{WrongLength, NoDigit, UnknownSegment, UnknownKind}
+use Rattle.answer.specs.declared.Reason.the-variants.{CheckTwoPlaces, TooWide}
 use Rattle.answer.specs.declared.Answer.{Answer}
-use Rattle.answer.specs.Orders.{require, _then_, behind, movedBy}
+use Rattle.answer.specs.Orders.{require, _then_, behind, movedBy, ifAccepted}
 use Rattle.decimal.specs.declared.Class.the-variants.{Digit}
 use Rattle.decimal.specs.Bytes.{isOf, eachIs}
 use Rattle.decimal.specs.Numbers.{digitsOf}
@@ -31,31 +31,19 @@ codeWith check i kind amount rest = headOf (i .segment) kind ++ (48 + check) ∷
 abbrev pub builtOf : Issuer → ℕ → ℕ → List ℕ → List ℕ
 builtOf i kind amount rest = codeWith (checkFor i kind amount rest) i kind amount rest
 
--- 1 for the free field, 21 value, 21 issuer, 2
-unfoldable pub numbersAnswer : Issuer → ℕ → List ℕ → Answer
-numbersAnswer i amount rest =
-    require (eqb (length rest) (widthOf (free (i .segment)))) WrongLength 0
+-- builder: 1 for the caller's 44 bytes, 4, 5, 1 for the free field, 21 value, 21 issuer, 2, 20;
+-- every place but 0 is a place in the barcode
+unfoldable pub buildAnswer : ℕ → Issuer → ℕ → ℕ → List ℕ → Answer
+buildAnswer size i kind amount rest =
+    require (eqb size codeLength) WrongLength 0
+    then require (isSegment (i .segment)) UnknownSegment 2
+    then require (isKind kind) UnknownKind 3
+    then require (eqb (length rest) (widthOf (free (i .segment)))) WrongLength 0
     then require (ltb amount (10 ^ widthOf value)) TooWide (value .first)
     then require (ltb (i .number) (10 ^ widthOf (issuer (i .segment)))) TooWide ((issuer (i .segment)) .first)
     then movedBy (behind (issuerEnd (i .segment))) (eachIs (isOf Digit) NoDigit 1 rest)
+    then require (leb (checkFor i kind amount rest) 9) CheckTwoPlaces 4
 
--- 4, 5, then these
-unfoldable pub fieldsAnswer : Issuer → ℕ → ℕ → List ℕ → Answer
-fieldsAnswer i kind amount rest =
-    require (isSegment (i .segment)) UnknownSegment 2 then require (isKind kind) UnknownKind 3 then numbersAnswer i amount rest
-
--- 20
-abbrev pub checkAnswer : Issuer → ℕ → ℕ → List ℕ → Answer
-checkAnswer i kind amount rest = require (leb (checkFor i kind amount rest) 9) CheckTwoPlaces 4
-
--- builder: 1 for the 44 bytes lent, 4, 5, 1 for the free field, 21 value, 21 issuer, 2, 20; every place but 0 is a place in the barcode
-abbrev pub buildAnswer : ℕ → Issuer → ℕ → ℕ → List ℕ → Answer
-buildAnswer lent i kind amount rest = require (eqb lent codeLength) WrongLength 0 then fieldsAnswer i kind amount rest then checkAnswer i kind amount rest
-
--- what accepted fields have at least: each fits its places
-pub record Fit (i : Issuer) (kind amount : ℕ) (rest : List ℕ) : Type 0 where
-  pub segment : i .segment ≤ 9
-  pub kinds : kind ≤ 9
-  pub room : length rest ≡ widthOf (free (i .segment))
-  pub amounts : amount < 10 ^ widthOf value
-  pub number : i .number < 10 ^ widthOf (issuer (i .segment))
+-- the caller's buffer after it: the barcode, or what it held before if the answer is a refusal
+abbrev pub builtInto : Answer → Issuer → ℕ → ℕ → List ℕ → List ℕ → List ℕ
+builtInto result i kind amount rest old = ifAccepted result (builtOf i kind amount rest) old

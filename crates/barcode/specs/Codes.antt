@@ -1,10 +1,11 @@
--- The barcode of 44 digits (document 01, "The barcode"). Assumes nothing.
+-- The barcode of 44 digits (SPEC.md, "Barcode"). Assumes nothing.
 use Prim.Native.Nat.{ℕ, _+_, _-_}
 use mathlib.Core.Bool.{Bool, cond, _||_}
 use mathlib.Core.List.{List, [], _∷_}
 use lib.Dec.{leb, eqb}
 use lib.ListN.{length, getD, take}
-use Rattle.answer.specs.declared.Reason.the-variants.{WrongLength, NoDigit, WrongProduct, UnknownSegment, UnknownKind, WrongGeneralCheck}
+use Rattle.answer.specs.declared.Reason.the-variants.{WrongLength, NoDigit, WrongProduct, UnknownSegment, UnknownKind}
+use Rattle.answer.specs.declared.Reason.the-variants.{WrongGeneralCheck}
 use Rattle.answer.specs.declared.Answer.{Answer}
 use Rattle.answer.specs.declared.Answer.the-variants as answer
 use Rattle.answer.specs.Orders.{require, _then_, ifAccepted}
@@ -20,7 +21,7 @@ use Rattle.modulus.specs.Checks.{checkOf}
 use Rattle.barcode.specs.declared.Issuer.{Issuer}
 use Rattle.barcode.specs.declared.Fields.{Fields}
 use Rattle.barcode.specs.declared.MaybeIssuer.{MaybeIssuer}
-use Rattle.barcode.specs.declared.MaybeIssuer.the-variants.{To, Nobody}
+use Rattle.barcode.specs.declared.MaybeIssuer.the-variants.{Is, NoIssuer}
 use Rattle.barcode.specs.declared.Decoded.{Decoded}
 use Rattle.barcode.specs.declared.Decoded.the-variants.{Read, Refused}
 
@@ -39,7 +40,8 @@ product = 8
 abbrev pub isSegment : ℕ → Bool
 isSegment s = within 1 7 s || eqb s 9
 
--- 3: value kind, 6 to 9; 6 and 7 name modulo 10, 8 and 9 modulo 11. The value is centavos under 6 and 8, a reference quantity under 7 and 9
+-- 3: value kind, 6 to 9; 6 and 7 name modulo 10, 8 and 9 modulo 11.
+-- The value is centavos under 6 and 8, a reference quantity under 7 and 9.
 abbrev pub isKind : ℕ → Bool
 isKind k = within 6 9 k
 
@@ -75,7 +77,12 @@ freeOf code = partAt (free (digitAt 2 code)) code
 -- if the free field's first eight digits are a real date, that is the due date
 abbrev pub fieldsOf : List ℕ → Fields
 fieldsOf code =
-    record { kind = digitAt 3 code; value = numberOf (partAt value code); issuer = issuerOf code; due = dateOf (take 8 (freeOf code)) }
+    record {
+      kind = digitAt 3 code;
+      value = numberOf (partAt value code);
+      issuer = issuerOf code;
+      due = dateOf (take 8 (freeOf code));
+    }
 
 -- The answer.
 
@@ -86,7 +93,7 @@ firstThreeAnswer l =
     then require (isSegment (digitAt 2 l)) UnknownSegment 2
     then require (isKind (digitAt 3 l)) UnknownKind 3
 
--- what a barcode and a typed line are asked first: 2 over all digits, 3, 4, 5
+-- what a barcode and a typed line are checked for first: 2 over all digits, 3, 4, 5
 abbrev pub prefixAnswer : List ℕ → Answer
 prefixAnswer l = eachIs (isOf Digit) NoDigit 1 l then firstThreeAnswer l
 
@@ -96,7 +103,7 @@ generalCheck code = checkOf (modulusOf (digitAt 3 code)) (gather checked code)
 unfoldable pub generalRight : List ℕ → Bool
 generalRight code = eqb (getD code 3 0) (48 + generalCheck code)
 
--- of 44 bytes, wherever they stand
+-- of 44 bytes, wherever they are
 abbrev pub fullLengthAnswer : List ℕ → Answer
 fullLengthAnswer code = prefixAnswer code then require (generalRight code) WrongGeneralCheck 4
 
@@ -104,15 +111,15 @@ fullLengthAnswer code = prefixAnswer code then require (generalRight code) Wrong
 abbrev pub barcodeAnswer : List ℕ → Answer
 barcodeAnswer code = require (eqb (length code) codeLength) WrongLength 0 then fullLengthAnswer code
 
--- whom it pays: the issuer of a right barcode
+-- the issuer of an accepted barcode
 abbrev pub issuerIfAccepted : Answer → Issuer → MaybeIssuer
-issuerIfAccepted answer.Accepted issuer = To issuer
-issuerIfAccepted (answer.Refused why place) issuer = Nobody
+issuerIfAccepted answer.Accepted issuer = Is issuer
+issuerIfAccepted (answer.Refused why place) issuer = NoIssuer
 
 abbrev pub acceptedIssuer : List ℕ → MaybeIssuer
 acceptedIssuer code = issuerIfAccepted (barcodeAnswer code) (issuerOf code)
 
--- What is shown: the fields of an accepted barcode, and its free field; of a refused one the refusal, and the empty stretch.
+-- What is shown: the fields and the free field of an accepted barcode; the refusal and no bytes of a refused one.
 
 abbrev pub decoded : Answer → Fields → Decoded
 decoded answer.Accepted fields = Read fields
@@ -120,10 +127,6 @@ decoded (answer.Refused why place) fields = Refused why place
 
 abbrev pub noFields : Fields
 noFields = record { kind = 0; value = 0; issuer = record { segment = 0; number = 0 }; due = NoDate }
-
--- the fields of 44 bytes, checked or not; of other lengths none
-abbrev pub readOf : List ℕ → Fields
-readOf code = cond (eqb (length code) codeLength) (fieldsOf code) noFields
 
 abbrev pub decodedBarcode : List ℕ → Decoded
 decodedBarcode code = decoded (barcodeAnswer code) (fieldsOf code)

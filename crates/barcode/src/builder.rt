@@ -1,44 +1,40 @@
-// A barcode built from its fields.
+// A barcode built from its fields (SPEC.md, "Builder").
 ghost use mathlib.Core.Path.{_≡_};
 ghost use Prim.Native.Nat.{_≤_};
 ghost use lib.ListN.{length, drop};
 ghost use mathlib.Core.List.{_∷_, _++_};
-ghost use Rattle.answer.specs.Orders.{ifAccepted};
-ghost use Rattle.barcode.specs.Codes.{codeLength};
-ghost use Rattle.barcode.specs.Building.{headOf, numbersAnswer, fieldsAnswer, checkAnswer, buildAnswer, codeWith, builtOf, Fit};
+ghost use Rattle.answer.specs.declared.Answer.the-variants as answers;
+ghost use Rattle.barcode.specs.Codes.{codeLength, generalCheck};
+ghost use Rattle.barcode.specs.Building.{headOf, codeWith, builtOf, buildAnswer, builtInto};
 use crate::Issuer;
+use crate::parts;
 use answer::Answer;
 use answer::Reason;
 use decimal::Class;
 
-// The free field's length, the widths of value and issuer, then the free field's digits; places in the barcode.
-fn check_numbers(issuer: Issuer, value: u64, free: &[u8]) -> Answer
-    ensures { λ r. ⌜ r ≡ numbersAnswer issuer value (now (free .entry)) ⌝ }
+// The builder's order between the length of the caller's buffer and 20, which no fields are refused for. Places are
+// those in the barcode.
+fn check_fields(issuer: Issuer, kind: u64, value: u64, free: &[u8]) -> Answer
+    ensures { λ r. ⌜ r ≡ buildAnswer codeLength issuer kind value (now (free .entry)) ⌝ }
 {
-    let end = crate::issuer_end(issuer.segment);
-    if free.len() != crate::LENGTH - end {
+    if !parts::is_segment(issuer.segment) {
+        return Answer::Refused(Reason::UnknownSegment, 2);
+    }
+    if !parts::is_kind(kind) {
+        return Answer::Refused(Reason::UnknownKind, 3);
+    }
+    let end = parts::issuer_end(issuer.segment);
+    if free.len() != parts::LENGTH - end {
         return Answer::Refused(Reason::WrongLength, 0);
     }
     if !decimal::fits_width(value, 11) {
         return Answer::Refused(Reason::TooWide, 5);
     }
-    if !decimal::fits_width(issuer.number, end - 15) {
+    if !decimal::fits_width(issuer.number, parts::issuer_width(issuer.segment)) {
         return Answer::Refused(Reason::TooWide, 16);
     }
     let a = decimal::require_class(Class::Digit, Reason::NoDigit, free);
     a.behind(end)
-}
-
-fn check_fields(issuer: Issuer, kind: u64, value: u64, free: &[u8]) -> Answer
-    ensures { λ r. ⌜ r ≡ fieldsAnswer issuer kind value (now (free .entry)) ⌝ }
-{
-    if !crate::is_segment(issuer.segment) {
-        return Answer::Refused(Reason::UnknownSegment, 2);
-    }
-    if !crate::is_kind(kind) {
-        return Answer::Refused(Reason::UnknownKind, 3);
-    }
-    check_numbers(issuer, value, free)
 }
 
 // Places 1 to 4, with 0 for the check.
@@ -55,26 +51,39 @@ fn put_head(segment: u64, kind: u64, code: &mut [u8])
 // The digits of all fields, with 0 for the check.
 fn put_fields(issuer: Issuer, kind: u64, value: u64, free: &[u8], code: &mut [u8])
     requires { ⌜ length (now code) ≡ codeLength ⌝ }
-    requires { ⌜ Fit issuer kind value (now free) ⌝ }
+    requires { ⌜ buildAnswer codeLength issuer kind value (now free) ≡ answers.Accepted ⌝ }
     ensures { λ _. ⌜ now (code .exit) ≡ codeWith 0 issuer kind value (now (free .entry)) ⌝ }
 {
-    let end = crate::issuer_end(issuer.segment);
+    let width = parts::issuer_width(issuer.segment);
     put_head(issuer.segment, kind, code);
     decimal::put_number(value, 11, code, 4);
-    decimal::put_number(issuer.number, end - 15, code, 15);
-    decimal::put(free, code, end);
+    decimal::put_number(issuer.number, width, code, 15);
+    decimal::put(free, code, 15 + width);
 }
 
-// The barcode with its check, put into the lent bytes once the check is known.
+// The check digit of the 43 digits without place 4.
+fn general_check(code: &[u8]) -> u64
+    requires { ⌜ length (now code) ≡ codeLength ⌝ }
+    ensures { λ r. ⌜ r ≡ generalCheck (now (code .entry)) ⌝ }
+    ensures small { λ r. ⌜ r ≤ 9 ⌝ }
+{
+    let m = parts::modulus_of_kind(parts::digit(code, 2));
+    let left = modulus::weighted_remainder(m, &code[0..3], 40);
+    let right = modulus::weighted_remainder(m, &code[4..parts::LENGTH], 0);
+    modulus::digit_of_remainder(m, modulus::remainder(m, left + right))
+}
+
+// The barcode with its check, put into the caller's buffer once the check is known. A check has one digit, so 20 is
+// never given; it keeps its place in the order.
 fn finish(issuer: Issuer, kind: u64, value: u64, free: &[u8], out: &mut [u8]) -> Answer
     requires { ⌜ length (now out) ≡ codeLength ⌝ }
-    requires { ⌜ Fit issuer kind value (now free) ⌝ }
-    ensures answer { λ r. ⌜ r ≡ checkAnswer issuer kind value (now (free .entry)) ⌝ }
-    ensures bytes { λ r. ⌜ now (out .exit) ≡ ifAccepted r (builtOf issuer kind value (now (free .entry))) (now (out .entry)) ⌝ }
+    requires { ⌜ buildAnswer codeLength issuer kind value (now free) ≡ answers.Accepted ⌝ }
+    ensures answer { λ r. ⌜ r ≡ answers.Accepted ⌝ }
+    ensures bytes { λ _. ⌜ now (out .exit) ≡ builtOf issuer kind value (now (free .entry)) ⌝ }
 {
-    let mut code = [48u8; crate::LENGTH];
+    let mut code = [48u8; parts::LENGTH];
     put_fields(issuer, kind, value, free, &mut code);
-    let check = crate::general_check(&code);
+    let check = general_check(&code);
     if 9 < check {
         return Answer::Refused(Reason::CheckTwoPlaces, 4);
     }
@@ -83,17 +92,18 @@ fn finish(issuer: Issuer, kind: u64, value: u64, free: &[u8], out: &mut [u8]) ->
     Answer::Accepted
 }
 
-// Builds the barcode into 44 lent bytes; a refusal leaves them as they were.
+// Builds the barcode with its general check into the caller's buffer of 44 bytes. A refusal leaves the buffer as it
+// was; its place is a place in the barcode, and 0 for a wrong length of the buffer or of the free field.
 pub fn build(issuer: Issuer, kind: u64, value: u64, free: &[u8], out: &mut [u8]) -> Answer
     ensures answer { λ r. ⌜ r ≡ buildAnswer (length (now (out .entry))) issuer kind value (now (free .entry)) ⌝ }
-    ensures bytes { λ r. ⌜ now (out .exit) ≡ ifAccepted r (builtOf issuer kind value (now (free .entry))) (now (out .entry)) ⌝ }
+    ensures bytes { λ r. ⌜ now (out .exit) ≡ builtInto r issuer kind value (now (free .entry)) (now (out .entry)) ⌝ }
 {
-    if out.len() != crate::LENGTH {
+    if out.len() != parts::LENGTH {
         return Answer::Refused(Reason::WrongLength, 0);
     }
-    let asked = check_fields(issuer, kind, value, free);
-    match asked {
-        Answer::Refused(_, _) => asked,
+    let checked = check_fields(issuer, kind, value, free);
+    match checked {
+        Answer::Refused(_, _) => checked,
         Answer::Accepted => finish(issuer, kind, value, free, out),
     }
 }

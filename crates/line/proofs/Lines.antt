@@ -2,6 +2,7 @@
 use Prim.Native.Nat.{ℕ, _+_, _-_, _*_, _≤_}
 use mathlib.Core.Bool.{Bool, true, false, not}
 use mathlib.Core.List.{List, [], _∷_, _++_, append-assoc, append-nil}
+use mathlib.Core.Logic.{_↔_}
 use mathlib.Core.Path.{_≡_, refl, sym, ap, _∙_}
 use native.Mathlib.Nat.{le-of-eq}
 use native.Mathlib.Omega.{arith}
@@ -10,9 +11,11 @@ use lib.Dec.{eqb}
 use lib.ListN.{length, getD, set, take, drop, length-append, length-drop, drop-of-length-le}
 use lib.Seq.{length-take-le, drop-cons, set-at}
 use Rattle.answer.specs.declared.Reason.{Reason}
-use Rattle.answer.specs.declared.Reason.the-variants.{WrongLength}
+use Rattle.answer.specs.declared.Reason.the-variants.{WrongLength, WrongBoxCheck}
 use Rattle.answer.specs.declared.Answer.{Answer}
 use Rattle.answer.specs.declared.Answer.the-variants.{Accepted, Refused}
+use Rattle.answer.specs.Orders.{firstRefusal, Each}
+use Rattle.answer.proofs.Orders.{asked-accepts, then-accepts}
 use Rattle.answer.proofs.Steps.{passed}
 use Rattle.decimal.specs.Places.{Stretch, putAt}
 use Rattle.decimal.proofs.Places.{put-next}
@@ -20,8 +23,8 @@ use Rattle.modulus.specs.declared.Modulus.{Modulus}
 use Rattle.modulus.specs.Checks.{checkOf}
 use Rattle.barcode.specs.declared.Fields.{Fields}
 use Rattle.barcode.specs.declared.Decoded.the-variants as decoding
-use Rattle.barcode.specs.Codes.{digitAt, modulusOf, fieldsOf, readOf, fullLengthAnswer, barcodeAnswer, decoded}
-use Rattle.line.specs.Lines.{codeOf, boxRight, checkedBox, lineBody, lineAnswer}
+use Rattle.barcode.specs.Codes.{digitAt, modulusOf, fullLengthAnswer, barcodeAnswer, decoded}
+use Rattle.line.specs.Lines.{codeOf, boxRight, boxAnswer, checkedBox, lineBody, lineAnswer}
 
 -- a box under the modulus in hand, which is the one that the line names
 module _ (line : List ℕ) (box : Stretch) {m : Modulus} {r : Bool} (em : m ≡ modulusOf (digitAt 3 line)) (er : r ≡ boxRight m line box) where
@@ -39,7 +42,17 @@ box-from m line from e =
     let a : from + 1 - 1 ≡ from = omega arith in
     rw (e, a)
 
--- four pieces of one width, one behind the other, fill what is lent
+-- a row of boxes accepts exactly when each is right
+pub boxes-accept : (line : List ℕ) (plan : List Stretch)
+    → (firstRefusal (boxAnswer line) plan ≡ Accepted) ↔ Each (λ box. boxRight (modulusOf (digitAt 3 line)) line box ≡ true) plan
+boxes-accept line [] = (λ e. tt, λ h. refl)
+boxes-accept line (b ∷ plan) =
+    let here = asked-accepts (boxRight (modulusOf (digitAt 3 line)) line b) WrongBoxCheck (b .last + 1) in
+    let both = then-accepts (boxAnswer line b) (firstRefusal (boxAnswer line) plan) in
+    let rest = boxes-accept line plan in
+    (λ e. (here .0 (both .0 e .0), rest .0 (both .0 e .1)), λ h. both .1 (here .1 (h .0), rest .1 (h .1)))
+
+-- four pieces of one width, one behind the other, fill the caller's buffer
 pub four-pieces : (w : ℕ) (a b c d old : List ℕ) → length a ≡ w → length b ≡ w → length c ≡ w → length d ≡ w → length old ≡ 4 * w
     → {one two three four : List ℕ} → one ≡ putAt 0 a old → two ≡ putAt w b one → three ≡ putAt (2 * w) c two → four ≡ putAt (3 * w) d three
     → four ≡ a ++ (b ++ (c ++ (d ++ [])))
@@ -102,9 +115,3 @@ line-length line e = eqb-true (length line) 48 (passed (eqb (length line) 48) Wr
 -- what a decoder shows
 pub shown-refused : {a b : Answer} {why : Reason} {p : ℕ} (f : Fields) → a ≡ b → a ≡ Refused why p → decoding.Refused why p ≡ decoded b f
 shown-refused {a} {b} {why} {p} f e g = let h : b ≡ Refused why p = cc in rw h
-
-pub shown-read : {a b : Answer} {f g : Fields} → a ≡ b → a ≡ Accepted → g ≡ f → decoding.Read g ≡ decoded b f
-shown-read {a} {b} e h k = let i : b ≡ Accepted = cc in rw (i, k)
-
-pub fields-read : (line : List ℕ) → length line ≡ 48 → readOf (codeOf line) ≡ fieldsOf (codeOf line)
-fields-read line n = rw (eq-eqb _ _ (code-length line n))

@@ -8,30 +8,31 @@ use borrow.Author.Tests.{eqb-true, eq-eqb}
 use lib.Dec.{eqb}
 use lib.ListN.{length, getD, take, drop, length-append, length-drop, take-append-drop, List·getD-append}
 use lib.Seq.{length-take-le, take-all, take-at, drop-at, drop-drop, getD-at, getD-take, getD-drop, take-suc}
-use Rattle.answer.specs.declared.Reason.the-variants.{WrongLength, NoDigit, WrongBoxCheck, WrongGeneralCheck}
+use Rattle.answer.specs.declared.Reason.the-variants.{WrongLength}
 use Rattle.answer.specs.declared.Answer.{Answer}
 use Rattle.answer.specs.declared.Answer.the-variants.{Accepted}
-use Rattle.answer.specs.Orders.{require, firstRefusal, movedBy, Each}
-use Rattle.answer.proofs.Orders.{then-accepts, first-accepts, asked-accepts, moved-accepts, refusal-keeps}
+use Rattle.answer.specs.Orders.{firstRefusal, movedBy}
+use Rattle.answer.proofs.Orders.{then-accepts, moved-accepts, refusal-keeps}
 use Rattle.answer.proofs.Steps.{passed}
 use Rattle.decimal.specs.declared.Class.the-variants.{Digit}
-use Rattle.decimal.specs.Bytes.{isOf, all, eachIs}
+use Rattle.decimal.specs.Bytes.{isOf, all}
 use Rattle.decimal.specs.Numbers.{valueOf}
 use Rattle.decimal.specs.Places.{Stretch, partAt, gather}
 use Rattle.decimal.proofs.Places.{joins}
-use Rattle.decimal.proofs.Bytes.{each-accepts, all-joins}
+use Rattle.decimal.proofs.Bytes.{all-joins}
 use Rattle.decimal.proofs.Numbers.{digit-back}
 use Rattle.modulus.specs.declared.Modulus.{Modulus}
 use Rattle.modulus.specs.Checks.{checkOf}
 use Rattle.modulus.proofs.Sums.{check-is-one-digit}
-use Rattle.barcode.specs.Codes.{digitAt, modulusOf, firstThreeAnswer, prefixAnswer, generalRight, fullLengthAnswer, barcodeAnswer, fieldsOf, decoded}
-use Rattle.barcode.proofs.RoundTrips.{good, decoded-answers, code-is-its-fields, built-is-read, fields-within-ranges-build}
-use Rattle.barcode.proofs.Codes.{accepted-length, lead-same}
+use Rattle.barcode.specs.Codes.{digitAt, modulusOf, firstThreeAnswer, prefixAnswer, fullLengthAnswer, barcodeAnswer, fieldsOf, decoded, decodedBarcode}
+use Rattle.barcode.proofs.Building.{fields-within-ranges-build}
+use Rattle.barcode.proofs.RoundTrips.{decoded-answers, code-is-its-fields, built-is-read}
+use Rattle.barcode.proofs.Codes.{first-three-same, prefix-accepts, good, accepted-length}
 use Rattle.barcode.specs.Building.{builtOf}
 use Rattle.barcode.specs.RoundTrips.{answerOfBarcode}
-use Rattle.line.specs.Lines.{boxes, codeOf, inLine, boxRight, boxAnswer, checksAnswer, checkedBox, quarters, withChecks, lineOf, toLineAnswer, toCodeAnswer}
+use Rattle.line.specs.Lines.{boxes, codeOf, inLine, boxRight, boxAnswer, checksAnswer, lineBody, lineAnswer, decodedLine, checkedBox, quarters, withChecks, lineOf, toLineAnswer, toCodeAnswer}
 use Rattle.line.specs.RoundTrips.{SoundLine, LineIsBoxesAndCode, CodeToLineAndBack, LineToCodeAndBack, LineIsItsFields, FieldsGiveALine, RefusedConversionsKeep}
-use Rattle.line.proofs.Lines.{code-body, checked-length}
+use Rattle.line.proofs.Lines.{boxes-accept, code-body, line-body, checked-length}
 
 pub refused-conversions-keep : RefusedConversionsKeep
 refused-conversions-keep out line code = (
@@ -84,9 +85,9 @@ pub code-byte : (line : List ℕ) (j : ℕ) → length line ≡ 48 → j < 11 �
 code-byte line j n h =
     List·getD-append (at 0 line) (at 12 line ++ (at 24 line ++ (at 36 line ++ []))) 0 j (omega (arith, at-length 0 line (omega arith))) ∙ getD-take 11 line j 0 h
 
-same-lead : (line : List ℕ) → length line ≡ 48 → firstThreeAnswer (codeOf line) ≡ firstThreeAnswer line
-same-lead line n =
-    lead-same (codeOf line) line (code-byte line 0 n (omega arith)) (code-byte line 1 n (omega arith)) (code-byte line 2 n (omega arith))
+pub same-first-three : (line : List ℕ) → length line ≡ 48 → firstThreeAnswer (codeOf line) ≡ firstThreeAnswer line
+same-first-three line n =
+    first-three-same (codeOf line) line (code-byte line 0 n (omega arith)) (code-byte line 1 n (omega arith)) (code-byte line 2 n (omega arith))
 
 -- Twelve bytes of a line are a box and its check.
 twelve : (line : List ℕ) (from : ℕ) → from + 12 ≤ length line → take 12 (drop from line) ≡ at from line ++ getD line (from + 11) 0 ∷ []
@@ -150,41 +151,33 @@ sound-digits line s =
         all-joins (isOf Digit) (checkedBox m (partAt b line)) (withChecks m plan line)
         ∙ rw (checked-digits m (partAt b line) (both .0), plan-digits m line plan (both .1))
 
+-- a line whose check digits are right is sound
+pub checks-sound : (line : List ℕ) → length line ≡ 48 → checksAnswer line ≡ Accepted → SoundLine line
+checks-sound line n e =
+    let body = fullLengthAnswer (codeOf line) in
+    let both = then-accepts (firstRefusal (boxAnswer line) boxes) (movedBy inLine body) .0 e in
+    record { long = n; checks = boxes-accept line boxes .0 (both .0); code = code-body line n ∙ moved-accepts inLine body .0 (both .1) }
+
 pub line-is-boxes-and-code : LineIsBoxesAndCode
 line-is-boxes-and-code line = (
   λ e.
       let l = passed (eqb (length line) 48) WrongLength 0 e in
-      let n = eqb-true (length line) 48 (l .0) in
-      let f = then-accepts (prefixAnswer line) (checksAnswer line) .0 (l .1) in
-      let c = then-accepts (firstRefusal (boxAnswer line) boxes) (movedBy inLine (fullLengthAnswer (codeOf line))) .0 (f .1) in
-      let code = code-body line n ∙ moved-accepts inLine (fullLengthAnswer (codeOf line)) .0 (c .1) in
-      record { long = n; checks = each-right line boxes (first-accepts (boxAnswer line) boxes .0 (c .0)); code = code },
+      checks-sound line (eqb-true (length line) 48 (l .0)) (then-accepts (prefixAnswer line) (checksAnswer line) .0 (l .1) .1),
   λ s.
       let n = s .long in
-      let front = each-accepts (isOf Digit) NoDigit 1 line .1 (sound-digits line s) in
-      let lead = sym (same-lead line n) ∙ front-lead (codeOf line) (s .code) in
-      let boxed = first-accepts (boxAnswer line) boxes .1 (right-each line boxes (s .checks)) in
+      let first-three = sym (same-first-three line n) ∙ good (codeOf line) (s .code) .first-three in
+      let prefix = prefix-accepts line .1 (sound-digits line s, first-three) in
+      let boxed = boxes-accept line boxes .1 (s .checks) in
       let body = moved-accepts inLine (fullLengthAnswer (codeOf line)) .1 (sym (code-body line n) ∙ s .code) in
-      rw (eq-eqb (length line) 48 n, front, lead, boxed, body),
+      rw (eq-eqb (length line) 48 n, prefix, boxed, body),
 )
-  where
-    each-right : (line : List ℕ) (plan : List Stretch) → Each (λ b. boxAnswer line b ≡ Accepted) plan
-        → Each (λ b. boxRight (modulusOf (digitAt 3 line)) line b ≡ true) plan
-    each-right line [] h = tt
-    each-right line (b ∷ plan) h =
-        (asked-accepts (boxRight (modulusOf (digitAt 3 line)) line b) WrongBoxCheck (b .last + 1) .0 (h .0), each-right line plan (h .1))
 
-    right-each : (line : List ℕ) (plan : List Stretch) → Each (λ b. boxRight (modulusOf (digitAt 3 line)) line b ≡ true) plan
-        → Each (λ b. boxAnswer line b ≡ Accepted) plan
-    right-each line [] h = tt
-    right-each line (b ∷ plan) h =
-        (asked-accepts (boxRight (modulusOf (digitAt 3 line)) line b) WrongBoxCheck (b .last + 1) .1 (h .0), right-each line plan (h .1))
+-- what a line with right check digits is answered, and what it decodes to
+pub checks-decide : (line : List ℕ) → length line ≡ 48 → checksAnswer line ≡ Accepted → Accepted ≡ lineBody line
+checks-decide line n e = sym (line-is-boxes-and-code line .1 (checks-sound line n e)) ∙ line-body line n
 
-    front-lead : (code : List ℕ) → barcodeAnswer code ≡ Accepted → firstThreeAnswer code ≡ Accepted
-    front-lead code e =
-        let l = passed (eqb (length code) 44) WrongLength 0 e in
-        let b = then-accepts (prefixAnswer code) (require (generalRight code) WrongGeneralCheck 4) .0 (l .1) in
-        then-accepts (eachIs (isOf Digit) NoDigit 1 code) (firstThreeAnswer code) .0 (b .0) .1
+pub decodes-as-code : (line : List ℕ) → lineAnswer line ≡ Accepted → decodedBarcode (codeOf line) ≡ decodedLine line
+decodes-as-code line e = rw (e, line-is-boxes-and-code line .0 e .code)
 
 pub line-to-code-and-back : LineToCodeAndBack
 line-to-code-and-back line e =
@@ -193,7 +186,7 @@ line-to-code-and-back line e =
     let m : modulusOf (digitAt 3 (codeOf line)) ≡ modulusOf (digitAt 3 line) = ap (λ (x : ℕ). modulusOf (valueOf x)) (code-byte line 2 n (omega arith)) in
     (s .code, ap (λ (m : Modulus). withChecks m quarters (codeOf line)) m ∙ code-quarters (modulusOf (digitAt 3 line)) line n ∙ sound-boxes line s)
 
--- The line of a code: what stands behind its boxes, and what each box shows.
+-- The line of a code: what is behind its boxes, and what each box shows.
 module _ (code : List ℕ) (n : length code ≡ 44) where
   abbrev box : ℕ → List ℕ
   box from = checkedBox (modulusOf (digitAt 3 code)) (at from code)
@@ -277,9 +270,9 @@ line-is-its-fields line e =
     (built .0, ap lineOf (built .1) ∙ back .1)
 
 pub fields-give-a-line : FieldsGiveALine
-fields-give-a-line i kind amount rest s k a n l d =
+fields-give-a-line i kind amount rest w =
     let code = builtOf i kind amount rest in
-    let read = built-is-read i kind amount rest (fields-within-ranges-build i kind amount rest s k a n l d) .0 in
+    let read = built-is-read i kind amount rest (fields-within-ranges-build i kind amount rest .1 w) .0 in
     let e : barcodeAnswer code ≡ Accepted = sym (decoded-answers code) ∙ ap answerOfBarcode read in
     let there = code-to-line-and-back code e in
     rw (there .0, there .1) (sym (ap (λ (x : Answer). decoded x (fieldsOf code)) e) ∙ read)

@@ -1,4 +1,4 @@
--- The typed line of 48 digits (document 01, "The barcode"). Assumes nothing.
+-- The typed line of 48 digits (SPEC.md, "Typed line"). Assumes nothing.
 use Prim.Native.Nat.{ℕ, _+_, _-_, _/_}
 use mathlib.Core.Bool.{Bool}
 use mathlib.Core.List.{List, [], _∷_, _++_}
@@ -11,31 +11,39 @@ use Rattle.decimal.specs.Places.{Stretch, partAt, gather}
 use Rattle.modulus.specs.declared.Modulus.{Modulus}
 use Rattle.modulus.specs.Checks.{checkOf}
 use Rattle.barcode.specs.declared.Decoded.{Decoded}
-use Rattle.barcode.specs.Codes.{codeLength, digitAt, modulusOf, fieldsOf, prefixAnswer, fullLengthAnswer, barcodeAnswer, decoded}
+use Rattle.barcode.specs.Codes.{codeLength, digitAt, modulusOf, fieldsOf, prefixAnswer, fullLengthAnswer}
+use Rattle.barcode.specs.Codes.{barcodeAnswer, decoded}
 
 abbrev pub lineLength : ℕ
 lineLength = 48
 
 -- four boxes of eleven barcode digits, each followed by its check: places 12, 24, 36, 48
+abbrev pub boxDigits : ℕ
+boxDigits = 11
+
 abbrev pub boxes : List Stretch
 boxes =
-    record { first = 1; last = 11 } ∷ record { first = 13; last = 23 } ∷ record { first = 25; last = 35 } ∷ record { first = 37; last = 47 } ∷ []
+    record { first = 1; last = 11 }
+    ∷ record { first = 13; last = 23 }
+    ∷ record { first = 25; last = 35 }
+    ∷ record { first = 37; last = 47 }
+    ∷ []
 
--- the barcode that a line holds, and where a place of it stands in the line
+-- the barcode that a line holds, and where a place of the barcode is in the line
 abbrev pub codeOf : List ℕ → List ℕ
 codeOf line = gather boxes line
 
 abbrev pub inLine : ℕ → ℕ
-inLine place = place + (place - 1) / 11
+inLine place = place + (place - 1) / boxDigits
 
--- a box is right where the byte behind it is its check under the modulus; the line's third digit names it for all
+-- a box is right if the byte behind it is its check under the modulus; the line's third digit names it for all four
 unfoldable pub boxRight : Modulus → List ℕ → Stretch → Bool
 boxRight m line box = eqb (getD line (box .last) 0) (48 + checkOf m (partAt box line))
 
 abbrev pub boxAnswer : List ℕ → Stretch → Answer
 boxAnswer line box = require (boxRight (modulusOf (digitAt 3 line)) line box) WrongBoxCheck (box .last + 1)
 
--- typed line: 1, 2, 3, 4, 5, 6, lowest box first, 7. What is left of its barcode's own order is 7: the rest was asked of the line.
+-- typed line: 1, 2, 3, 4, 5, 6, lowest box first, 7. Of its barcode's own order only 7 is left: the rest came before.
 abbrev pub checksAnswer : List ℕ → Answer
 checksAnswer line = firstRefusal (boxAnswer line) boxes then movedBy inLine (fullLengthAnswer (codeOf line))
 
@@ -52,7 +60,11 @@ decodedLine line = decoded (lineAnswer line) (fieldsOf (codeOf line))
 
 abbrev pub quarters : List Stretch
 quarters =
-    record { first = 1; last = 11 } ∷ record { first = 12; last = 22 } ∷ record { first = 23; last = 33 } ∷ record { first = 34; last = 44 } ∷ []
+    record { first = 1; last = 11 }
+    ∷ record { first = 12; last = 22 }
+    ∷ record { first = 23; last = 33 }
+    ∷ record { first = 34; last = codeLength }
+    ∷ []
 
 abbrev pub checkedBox : Modulus → List ℕ → List ℕ
 checkedBox m part = part ++ (48 + checkOf m part) ∷ []
@@ -64,10 +76,11 @@ withChecks m (q ∷ qs) code = checkedBox m (partAt q code) ++ withChecks m qs c
 abbrev pub lineOf : List ℕ → List ℕ
 lineOf code = withChecks (modulusOf (digitAt 3 code)) quarters code
 
--- Both conversions give 1 first if either lent length is wrong, then the refusals of what is read.
+-- Both conversions give 1 first if the length of the caller's buffer or of what is read is wrong, then the refusals of
+-- what is read.
 
 abbrev pub toLineAnswer : ℕ → List ℕ → Answer
-toLineAnswer lent code = require (eqb lent lineLength) WrongLength 0 then barcodeAnswer code
+toLineAnswer size code = require (eqb size lineLength) WrongLength 0 then barcodeAnswer code
 
 abbrev pub toCodeAnswer : ℕ → List ℕ → Answer
-toCodeAnswer lent line = require (eqb lent codeLength) WrongLength 0 then lineAnswer line
+toCodeAnswer size line = require (eqb size codeLength) WrongLength 0 then lineAnswer line

@@ -1,5 +1,5 @@
 -- What is promised of typed lines and their barcodes. Assumes nothing.
-use Prim.Native.Nat.{ℕ, _^_, _<_}
+use Prim.Native.Nat.{ℕ}
 use mathlib.Core.Bool.{true}
 use mathlib.Core.List.{List}
 use mathlib.Core.Logic.{_↔_}
@@ -7,16 +7,14 @@ use mathlib.Core.Path.{_≡_}
 use lib.ListN.{length, take}
 use Rattle.answer.specs.declared.Answer.the-variants.{Accepted}
 use Rattle.answer.specs.Orders.{ifAccepted, Each}
-use Rattle.decimal.specs.declared.Class.the-variants.{Digit}
-use Rattle.decimal.specs.Bytes.{isOf, all}
-use Rattle.decimal.specs.Places.{widthOf}
 use Rattle.calendar.specs.Dates.{dateOf}
 use Rattle.barcode.specs.declared.Issuer.{Issuer}
 use Rattle.barcode.specs.declared.Decoded.the-variants.{Read}
-use Rattle.barcode.specs.Codes.{digitAt, isSegment, isKind, modulusOf, value, issuer, free, fieldsOf, freeOf, barcodeAnswer}
+use Rattle.barcode.specs.Codes.{digitAt, modulusOf, fieldsOf, freeOf, barcodeAnswer}
 use Rattle.barcode.specs.Building.{builtOf}
-use Rattle.barcode.specs.RoundTrips.{builtFrom, fromAnswer}
-use Rattle.line.specs.Lines.{lineLength, boxes, codeOf, boxRight, lineAnswer, decodedLine, lineOf, toLineAnswer, toCodeAnswer}
+use Rattle.barcode.specs.RoundTrips.{builtFrom, fromAnswer, WithinRanges}
+use Rattle.line.specs.Lines.{lineLength, boxes, codeOf, boxRight, lineAnswer, decodedLine}
+use Rattle.line.specs.Lines.{lineOf, toLineAnswer, toCodeAnswer}
 
 -- a line is accepted exactly when its four box checks hold and its barcode is accepted
 pub record SoundLine (line : List ℕ) : Type 0 where
@@ -29,10 +27,14 @@ LineIsBoxesAndCode = (line : List ℕ) → (lineAnswer line ≡ Accepted) ↔ So
 
 -- line and barcode convert into each other and back
 abbrev pub CodeToLineAndBack : Type 0
-CodeToLineAndBack = (code : List ℕ) → barcodeAnswer code ≡ Accepted → (lineAnswer (lineOf code) ≡ Accepted) × (codeOf (lineOf code) ≡ code)
+CodeToLineAndBack =
+    (code : List ℕ) → barcodeAnswer code ≡ Accepted
+    → (lineAnswer (lineOf code) ≡ Accepted) × (codeOf (lineOf code) ≡ code)
 
 abbrev pub LineToCodeAndBack : Type 0
-LineToCodeAndBack = (line : List ℕ) → lineAnswer line ≡ Accepted → (barcodeAnswer (codeOf line) ≡ Accepted) × (lineOf (codeOf line) ≡ line)
+LineToCodeAndBack =
+    (line : List ℕ) → lineAnswer line ≡ Accepted
+    → (barcodeAnswer (codeOf line) ≡ Accepted) × (lineOf (codeOf line) ≡ line)
 
 -- a line decoded to its fields and free field, built and converted is the same 48 bytes
 abbrev pub LineIsItsFields : Type 0
@@ -44,13 +46,15 @@ LineIsItsFields =
 -- every field set within its ranges gives an accepted line, which decodes to it
 abbrev pub FieldsGiveALine : Type 0
 FieldsGiveALine =
-    (i : Issuer) (kind amount : ℕ) (rest : List ℕ) → isSegment (i .segment) ≡ true → isKind kind ≡ true → amount < 10 ^ widthOf value
-    → i .number < 10 ^ widthOf (issuer (i .segment)) → length rest ≡ widthOf (free (i .segment)) → all (isOf Digit) rest ≡ true
-    → decodedLine (lineOf (builtOf i kind amount rest)) ≡ Read (record { kind = kind; value = amount; issuer = i; due = dateOf (take 8 rest) })
+    (i : Issuer) (kind amount : ℕ) (rest : List ℕ) → WithinRanges i kind amount rest
+    → decodedLine (lineOf (builtOf i kind amount rest))
+    ≡ Read (record { kind = kind; value = amount; issuer = i; due = dateOf (take 8 rest) })
 
--- a refused conversion leaves every lent byte as it was
+-- a refused conversion leaves every byte of the caller's buffer as it was
 abbrev pub RefusedConversionsKeep : Type 0
 RefusedConversionsKeep =
     (out line code : List ℕ)
-    → ((toCodeAnswer (length out) line ≡ Accepted → ⊥) → ifAccepted (toCodeAnswer (length out) line) (codeOf line) out ≡ out)
-    × ((toLineAnswer (length out) code ≡ Accepted → ⊥) → ifAccepted (toLineAnswer (length out) code) (lineOf code) out ≡ out)
+    → ((toCodeAnswer (length out) line ≡ Accepted → ⊥)
+    → ifAccepted (toCodeAnswer (length out) line) (codeOf line) out ≡ out)
+    × ((toLineAnswer (length out) code ≡ Accepted → ⊥)
+    → ifAccepted (toLineAnswer (length out) code) (lineOf code) out ≡ out)

@@ -1,4 +1,4 @@
-// The typed line of 48 digits: checked, decoded, and turned into a barcode and back.
+// The typed line of 48 digits (SPEC.md, "Typed line"): checked, decoded, and turned into a barcode and back.
 ghost use mathlib.Core.Path.{_≡_};
 ghost use Prim.Native.Nat.{_+_, _≤_, _<_};
 ghost use lib.ListN.{length};
@@ -6,14 +6,17 @@ ghost use Rattle.answer.specs.Refusals.{answerPlace};
 ghost use Rattle.answer.specs.Orders.{firstRefusal, movedBy, ifAccepted};
 ghost use Rattle.decimal.specs.Places.{putAt};
 ghost use Rattle.modulus.specs.Checks.{checkOf};
-ghost use Rattle.barcode.specs.Codes.{codeLength, digitAt, modulusOf};
-ghost use Rattle.line.specs.Lines.{lineLength, boxes, codeOf, inLine, boxRight, boxAnswer, checksAnswer, lineBody, lineAnswer, decodedLine, checkedBox, lineOf, toLineAnswer, toCodeAnswer};
+ghost use Rattle.barcode.specs.Codes.{codeLength, digitAt, modulusOf, barcodeAnswer};
+ghost use Rattle.barcode.specs.RoundTrips.{answerOfBarcode};
+ghost use Rattle.line.specs.Lines.{lineLength, boxes, codeOf, inLine, boxRight, boxAnswer, checksAnswer};
+ghost use Rattle.line.specs.Lines.{lineBody, lineAnswer, decodedLine, checkedBox, lineOf};
+ghost use Rattle.line.specs.Lines.{toLineAnswer, toCodeAnswer};
 use answer::Answer;
 use answer::Reason;
 use barcode::Decoded;
 use modulus::Modulus;
 
-// The digits of a line.
+// The bytes of a line.
 pub const LENGTH: usize = 48;
 
 // The check digit of a box, as a byte.
@@ -24,7 +27,7 @@ fn check_byte(m: Modulus, part: &[u8]) -> u8
 }
 
 // Whether the eleven digits from an index on are followed by their check.
-fn box_right(m: Modulus, line: &[u8], from: usize) -> bool
+fn is_box_right(m: Modulus, line: &[u8], from: usize) -> bool
     requires { ⌜ from + 11 < length (now line) ⌝ }
     ensures { λ r. ⌜ r ≡ boxRight m (now (line .entry)) (record { first = from + 1; last = from + 11 }) ⌝ }
 {
@@ -37,23 +40,23 @@ fn check_boxes(m: Modulus, line: &[u8]) -> Answer
     requires { ⌜ (length (now line) ≡ lineLength) × (m ≡ modulusOf (digitAt 3 (now line))) ⌝ }
     ensures { λ r. ⌜ r ≡ firstRefusal (boxAnswer (now (line .entry))) boxes ⌝ }
 {
-    if !box_right(m, line, 0) {
+    if !is_box_right(m, line, 0) {
         return Answer::Refused(Reason::WrongBoxCheck, 12);
     }
-    if !box_right(m, line, 12) {
+    if !is_box_right(m, line, 12) {
         return Answer::Refused(Reason::WrongBoxCheck, 24);
     }
-    if !box_right(m, line, 24) {
+    if !is_box_right(m, line, 24) {
         return Answer::Refused(Reason::WrongBoxCheck, 36);
     }
-    if !box_right(m, line, 36) {
+    if !is_box_right(m, line, 36) {
         return Answer::Refused(Reason::WrongBoxCheck, 48);
     }
     Answer::Accepted
 }
 
 // An answer about the barcode, at its place in the line.
-fn moved(a: Answer) -> Answer
+fn moved_to_line(a: Answer) -> Answer
     requires { ⌜ answerPlace a ≤ 45 ⌝ }
     ensures { λ r. ⌜ r ≡ movedBy inLine a ⌝ }
 {
@@ -79,31 +82,47 @@ fn put_code(line: &[u8], code: &mut [u8])
     decimal::put(&line[36..47], code, 33);
 }
 
-// 6, then 7: the boxes, and what is left to ask of the barcode.
-fn check_all_checks(line: &[u8], code: &[u8]) -> Answer
-    requires { ⌜ (length (now line) ≡ lineLength) × (now code ≡ codeOf (now line)) ⌝ }
+fn answer_of(decoded: Decoded) -> Answer
+    ensures { λ r. ⌜ r ≡ answerOfBarcode decoded ⌝ }
+{
+    match decoded {
+        Decoded::Read(_) => Answer::Accepted,
+        Decoded::Refused(why, place) => Answer::Refused(why, place),
+    }
+}
+
+// 6, then 7: the boxes, then what is left of the answer of the line's barcode.
+fn check_check_digits(line: &[u8], code: Answer) -> Answer
+    requires { ⌜ (length (now line) ≡ lineLength) × (code ≡ barcodeAnswer (codeOf (now line))) ⌝ }
     ensures { λ r. ⌜ r ≡ checksAnswer (now (line .entry)) ⌝ }
 {
     let boxes = check_boxes(barcode::modulus_of_kind(decimal::value(line[2])), line);
     match boxes {
         Answer::Refused(_, _) => boxes,
-        Answer::Accepted => moved(barcode::check(code)),
+        Answer::Accepted => moved_to_line(code),
     }
 }
 
-// Everything but the length.
-fn check_body(line: &[u8], code: &[u8]) -> Answer
-    requires { ⌜ (length (now line) ≡ lineLength) × (now code ≡ codeOf (now line)) ⌝ }
+// All checks but that of the length, given the answer of the line's barcode. A line whose check digits are right is
+// accepted (`LineIsBoxesAndCode`); only if one is wrong is an earlier refusal looked for.
+fn check_full_length(line: &[u8], code: Answer) -> Answer
+    requires { ⌜ (length (now line) ≡ lineLength) × (code ≡ barcodeAnswer (codeOf (now line))) ⌝ }
     ensures { λ r. ⌜ r ≡ lineBody (now (line .entry)) ⌝ }
 {
-    let front = barcode::check_prefix(line);
-    match front {
-        Answer::Refused(_, _) => front,
-        Answer::Accepted => check_all_checks(line, code),
+    let checks = check_check_digits(line, code);
+    match checks {
+        Answer::Accepted => checks,
+        Answer::Refused(_, _) => {
+            let prefix = barcode::check_prefix(line);
+            match prefix {
+                Answer::Refused(_, _) => prefix,
+                Answer::Accepted => checks,
+            }
+        }
     }
 }
 
-// Accepted, or the line's first refusal.
+// Accepted, or the line's first refusal with its place in the line; the place of a wrong length is 0.
 pub fn check(line: &[u8]) -> Answer
     ensures { λ r. ⌜ r ≡ lineAnswer (now (line .entry)) ⌝ }
 {
@@ -112,9 +131,10 @@ pub fn check(line: &[u8]) -> Answer
     }
     let mut code = [48u8; barcode::LENGTH];
     put_code(line, &mut code);
-    check_body(line, &code)
+    check_full_length(line, barcode::check(&code))
 }
 
+// The fields of an accepted line's barcode, or the line's first refusal with its place in the line.
 pub fn decode(line: &[u8]) -> Decoded
     ensures { λ r. ⌜ r ≡ decodedLine (now (line .entry)) ⌝ }
 {
@@ -123,13 +143,15 @@ pub fn decode(line: &[u8]) -> Decoded
     }
     let mut code = [48u8; barcode::LENGTH];
     put_code(line, &mut code);
-    match check_body(line, &code) {
+    let decoded = barcode::decode(&code);
+    match check_full_length(line, answer_of(decoded)) {
         Answer::Refused(why, place) => Decoded::Refused(why, place),
-        Answer::Accepted => Decoded::Read(barcode::read_fields(&code)),
+        Answer::Accepted => decoded,
     }
 }
 
-// Puts the line's barcode into 44 lent bytes; a refusal leaves them as they were.
+// Puts the barcode of an accepted line into the caller's buffer of 44 bytes. A refusal leaves the buffer as it was; a
+// wrong length of the buffer comes before anything about the line.
 pub fn to_barcode(line: &[u8], out: &mut [u8]) -> Answer
     ensures answer { λ r. ⌜ r ≡ toCodeAnswer (length (now (out .entry))) (now (line .entry)) ⌝ }
     ensures bytes { λ r. ⌜ now (out .exit) ≡ ifAccepted r (codeOf (now (line .entry))) (now (out .entry)) ⌝ }
@@ -169,7 +191,8 @@ fn put_line(code: &[u8], out: &mut [u8])
     put_box(m, &code[33..barcode::LENGTH], out, 36);
 }
 
-// Writes the line of a barcode into 48 lent bytes; a refusal leaves them as they were.
+// Writes the line of an accepted barcode into the caller's buffer of 48 bytes. A refusal leaves the buffer as it was; a
+// wrong length of the buffer comes before anything about the barcode, and its places are those in the barcode.
 pub fn from_barcode(code: &[u8], out: &mut [u8]) -> Answer
     ensures answer { λ r. ⌜ r ≡ toLineAnswer (length (now (out .entry))) (now (code .entry)) ⌝ }
     ensures bytes { λ r. ⌜ now (out .exit) ≡ ifAccepted r (lineOf (now (code .entry))) (now (out .entry)) ⌝ }

@@ -22,7 +22,7 @@ use Rattle.calendar.specs.declared.MaybeDate.the-variants as days
 use Rattle.calendar.specs.Dates.{dateOf, isFound}
 use Rattle.barcode.specs.declared.Fields.{Fields}
 use Rattle.barcode.specs.declared.Issuer.{Issuer}
-use Rattle.barcode.specs.declared.MaybeIssuer.the-variants.{Nobody}
+use Rattle.barcode.specs.declared.MaybeIssuer.the-variants.{NoIssuer}
 use Rattle.barcode.specs.declared.Decoded.the-variants as read
 use Rattle.barcode.specs.Codes as codes
 use Rattle.barcode.specs.Codes.{barcodeAnswer, issuerOf, acceptedIssuer, fieldsOf}
@@ -167,7 +167,7 @@ module _ (rec : List ℕ) (n : length rec ≡ recordLength) where
   pub both-dates : {p c : Date} → dateOf (fieldBytes (rowAt paidRow) rec) ≡ days.On p → dateOf (fieldBytes (rowAt creditedRow) rec) ≡ days.On c → isDated rec ≡ true
   both-dates e f = dated rec .1 (ap isFound e, ap isFound f)
 
-  pub no-payee : Nobody ≡ acceptedIssuer (fieldBytes (rowAt barcodeRow) rec) → Unseen rec
+  pub no-payee : NoIssuer ≡ acceptedIssuer (fieldBytes (rowAt barcodeRow) rec) → Unseen rec
   no-payee e = unseen rec (λ a p. let k = rw (right-when a p .3) at e in let z : _≡_ {A = ℕ} 0 1 = cc in omega arith)
 
   pub no-code : {why : Reason} {place : ℕ} → read.Refused why place ≡ codes.decodedBarcode (fieldBytes (rowAt barcodeRow) rec) → Unseen rec

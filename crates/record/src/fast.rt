@@ -184,8 +184,8 @@ pub fn accepted_payment(rec: &[u8]) -> PaymentDue
         return PaymentDue::Nothing;
     }
     match barcode::accepted_issuer(parts::field_bytes(rec, g::BARCODE)) {
-        MaybeIssuer::To(issuer) => PaymentDue::To(issuer, parts::number_in(rec, g::RECEIVED)),
-        MaybeIssuer::Nobody => PaymentDue::Nothing,
+        MaybeIssuer::Is(issuer) => PaymentDue::To(issuer, parts::number_in(rec, g::RECEIVED)),
+        MaybeIssuer::NoIssuer => PaymentDue::Nothing,
     }
 }
 

@@ -1,4 +1,5 @@
--- Under modulo 10 two unequal neighbours that change places pass exactly when they are 0 and 9 among the eleven digits of one box. Assumes nothing.
+-- Under modulo 10 two unequal neighbours that change places pass exactly when they are 0 and 9 among the eleven digits of
+-- one box. Assumes nothing.
 use Prim.Native.Nat.{ℕ, _+_, _-_, _*_, _/_, _%_, _≤_, _<_}
 use mathlib.Core.Bool.{true}
 use mathlib.Core.List.{List}
@@ -15,13 +16,13 @@ use Rattle.decimal.proofs.Places.{part-beside}
 use Rattle.modulus.specs.declared.Modulus.the-variants.{Ten}
 use Rattle.modulus.specs.Checks.{remainderOf, checkOf, digitOfRemainder, exchanged, ZeroAndNine}
 use Rattle.modulus.proofs.Typos.{sum-set, exchange-keeps, check-shows-ten}
-use Rattle.barcode.proofs.Codes.{lead-same}
+use Rattle.barcode.proofs.Codes.{first-three-same}
 use Rattle.typos.specs.Typos.{Names, boxAt, boxOf, InOneBox, wholeOf, ExchangeOfNeighbours}
 use Rattle.decimal.proofs.Bytes.{all-at, all-set}
 use Rattle.typos.proofs.Accepted.{Right, BoxRight, Passed, apart, together}
 use Rattle.typos.proofs.Moves.{same-check, right-again, alone, moves, other-box, boxes-again}
-use Rattle.typos.proofs.Pieces.{Stands, in-box, seat, next-seat, in-whole, whole-beside, whole-fourth}
-use Rattle.typos.proofs.ZeroNine.{turned, past-the-lead}
+use Rattle.typos.proofs.Pieces.{SameByte, in-box, seat, next-seat, in-whole, whole-beside, whole-fourth}
+use Rattle.typos.proofs.ZeroNine.{turned, past-the-first-three}
 
 module _ (line : List ℕ) (i : ℕ) (f : Passed Ten line) (h : i + 1 < 48) (ne : getD line i 0 ≢ getD line (i + 1) 0) where
   abbrev b : ℕ
@@ -47,8 +48,8 @@ module _ (line : List ℕ) (i : ℕ) (f : Passed Ten line) (h : i + 1 < 48) (ne 
       getD-set-other (set line i x) (i + 1) i b 0 (λ e. omega arith)
       ∙ getD-set-same line i x 0 (omega arith)
 
-  -- where both stand in a piece, its remainder stays exactly when they are 0 and 9
-  keeps : (piece : List ℕ → List ℕ) (j : ℕ) → Stands 48 piece i j → Stands 48 piece (i + 1) (j + 1)
+  -- if a piece has both, its remainder stays exactly when they are 0 and 9
+  keeps : (piece : List ℕ → List ℕ) (j : ℕ) → SameByte 48 piece i j → SameByte 48 piece (i + 1) (j + 1)
       → (remainderOf Ten (piece (exchanged line i)) ≡ remainderOf Ten (piece line)) ↔ ZeroAndNine b x
   keeps piece j s t =
       let eb = s .byte line (f .long) in
@@ -83,8 +84,8 @@ module _ (line : List ℕ) (i : ℕ) (f : Passed Ten line) (h : i + 1 < 48) (ne 
   second-is-digit g last =
       let w = whole-beside (set line i x) (i + 1) b (omega arith) in
       let c = same-check Ten wholeOf line 3 (exchanged line i) (other 3 (λ e. omega arith) (λ e. omega arith)) (f .general) (g .general) in
-      let stands = in-whole i (omega arith) (omega arith) (λ e. omega arith) in
-      ne (sym (moves Ten wholeOf line i (seat i) x stands (f .long) left right (check-shows-ten _ _ (omega arith) (omega arith) (rw w at c))))
+      let same = in-whole i (omega arith) (omega arith) (λ e. omega arith) in
+      ne (sym (moves Ten wholeOf line i (seat i) x same (f .long) left right (check-shows-ten _ _ (omega arith) (omega arith) (rw w at c))))
 
   only : Passed Ten (exchanged line i) → ZeroAndNine b x × InOneBox i
   only g =
@@ -108,7 +109,7 @@ module _ (line : List ℕ) (i : ℕ) (f : Passed Ten line) (h : i + 1 < 48) (ne 
   when : Names Ten line → ZeroAndNine b x → i % 12 < 10 → Passed Ten (exchanged line i)
   when t z r =
       let n = i / 12 in
-      let past = past-the-lead line i (f .lead) t z in
+      let past = past-the-first-three line i (f .first-three) t z in
       let same : (j : ℕ) → j < 3 → getD (exchanged line i) j 0 ≡ getD line j 0 = λ j l. other j (λ e. omega arith) (λ e. omega arith) in
       let others : (q : ℕ) → q ≢ n → BoxRight Ten q line → BoxRight Ten q (exchanged line i) = λ q ne o.
       other-box Ten (set line i x) (i + 1) b q (λ e. ne (omega arith)) (other-box Ten line i x q ne o) in
@@ -119,7 +120,7 @@ module _ (line : List ℕ) (i : ℕ) (f : Passed Ten line) (h : i + 1 < 48) (ne 
       record {
         long = length-set (set line i x) (i + 1) b ∙ once;
         digits = all-set (isOf Digit) (set line i x) (i + 1) b (all-set (isOf Digit) line i x (f .digits) right) left;
-        lead = lead-same (exchanged line i) line (same 0 (omega arith)) (same 1 (omega arith)) (same 2 (omega arith)) ∙ f .lead;
+        first-three = first-three-same (exchanged line i) line (same 0 (omega arith)) (same 1 (omega arith)) (same 2 (omega arith)) ∙ f .first-three;
         boxed = boxes-again Ten line (exchanged line i) n others own (f .boxed);
         general = ⊎-elim {A = 3 ≡ i} {B = 3 < i} (λ e. fourth (sym e) z) later (eq-or-lt-of-le past);
       }

@@ -20,7 +20,7 @@ use Rattle.modulus.specs.Checks.{remainderOf, checkOf}
 use Rattle.modulus.proofs.Typos.{one-digit-moves}
 use Rattle.typos.specs.Typos.{boxAt}
 use Rattle.typos.proofs.Accepted.{Right, BoxRight, Passed}
-use Rattle.typos.proofs.Pieces.{Stands}
+use Rattle.typos.proofs.Pieces.{SameByte}
 
 module _ (m : Modulus) (piece : List ℕ → List ℕ) (line : List ℕ) where
   -- a check digit that stays is the check of both lines, or of neither
@@ -34,8 +34,8 @@ module _ (m : Modulus) (piece : List ℕ → List ℕ) (line : List ℕ) where
   pub alone : (at : ℕ) (k : List ℕ) → piece k ≡ piece line → Right m piece at line → Right m piece at k → getD k at 0 ≡ getD line at 0
   alone at k e r r' = cc
 
-  -- a changed digit moves the remainder of each piece that it stands in
-  pub moves : (i j d : ℕ) → Stands 48 piece i j → length line ≡ 48 → isOf Digit (getD line i 0) ≡ true → isOf Digit d ≡ true
+  -- a changed digit moves the remainder of each piece that has it
+  pub moves : (i j d : ℕ) → SameByte 48 piece i j → length line ≡ 48 → isOf Digit (getD line i 0) ≡ true → isOf Digit d ≡ true
       → remainderOf m (piece (set line i d)) ≡ remainderOf m (piece line) → d ≡ getD line i 0
   moves i j d s n hb hd e =
       one-digit-moves m 0 (piece line) j d (s .inside line n) (rw (s .byte line n) hb) hd (rw (s .sets line d n) at e) ∙ s .byte line n

@@ -1,4 +1,5 @@
--- Under modulo 11 one changed digit passes exactly when it is none of the five checks and both its remainders move between 0 and 1. Assumes nothing.
+-- Under modulo 11 one changed digit passes exactly when it is none of the five checks and both its remainders move
+-- between 0 and 1. Assumes nothing.
 use Prim.Native.Nat.{ℕ, _+_, _-_, _*_, _/_, _%_, _≤_, _<_}
 use mathlib.Core.Bool.{Bool, true, false, cond}
 use mathlib.Core.List.{List}
@@ -17,11 +18,12 @@ use Rattle.modulus.specs.declared.Modulus.the-variants.{Ten, Eleven}
 use Rattle.modulus.specs.Checks.{remainderOf, BetweenZeroAndOne}
 use Rattle.modulus.proofs.Typos.{check-shows-eleven}
 use Rattle.barcode.specs.Codes.{digitAt, isKind, modulusOf}
+use Rattle.barcode.proofs.Codes.{first-three-accepts}
 use Rattle.typos.specs.Typos.{boxOf, wholeOf, boxRemainder, codeRemainder, NoCheck, BothMove, OneChangedDigitUnderEleven}
 use Rattle.decimal.proofs.Bytes.{all-at, all-set}
-use Rattle.typos.proofs.Accepted.{Right, BoxRight, Passed, apart, together, lead-accepts}
+use Rattle.typos.proofs.Accepted.{Right, BoxRight, Passed, apart, together}
 use Rattle.typos.proofs.Moves.{same-check, right-again, alone, moves, in-its-box, other-box, boxes-again}
-use Rattle.typos.proofs.Pieces.{Stands, in-box, seat, in-whole, whole-fourth}
+use Rattle.typos.proofs.Pieces.{SameByte, in-box, seat, in-whole, whole-fourth}
 
 -- a digit that names modulo 11 is a value kind
 kind-of-eleven : (k : ℕ) → k ≤ 9 → modulusOf k ≡ Eleven → isKind k ≡ true
@@ -35,8 +37,8 @@ module _ (line : List ℕ) (i d : ℕ) (f : Passed Eleven line) (h : i < 48) (ne
   digit : isOf Digit (getD line i 0) ≡ true
   digit = all-at (isOf Digit) line i (f .digits) (omega arith)
 
-  -- the check of a piece that the digit stands in holds again exactly where the piece's remainder moves between 0 and 1
-  holds-again : (piece : List ℕ → List ℕ) (at j : ℕ) → at ≢ i → Stands 48 piece i j → Right Eleven piece at line
+  -- the check of a piece that has the digit holds again exactly when the piece's remainder moves between 0 and 1
+  holds-again : (piece : List ℕ → List ℕ) (at j : ℕ) → at ≢ i → SameByte 48 piece i j → Right Eleven piece at line
       → Right Eleven piece at (set line i d) ↔ BetweenZeroAndOne (remainderOf Eleven (piece line)) (remainderOf Eleven (piece (set line i d)))
   holds-again piece at j other s r =
       let stays : getD (set line i d) at 0 ≡ getD line at 0 = getD-set-other line i at d 0 other in
@@ -75,7 +77,7 @@ one-changed-digit-under-eleven line i d p t h ne hd first second t' =
           together Eleven (set line i d) t' (record {
             long = length-set line i d ∙ f .long;
             digits = all-set (isOf Digit) line i d (f .digits) hd;
-            lead = lead-accepts (set line i d) .1 (first, second, kind-of-eleven (digitAt 3 (set line i d)) (value-small _) t');
+            first-three = first-three-accepts (set line i d) .1 (first, second, kind-of-eleven (digitAt 3 (set line i d)) (value-small _) t');
             boxed = boxes-again Eleven line (set line i d) (i / 12) (other-box Eleven line i d) (in-the-box line i d f h ne hd r .1 (w .1 .0)) (f .boxed);
             general = in-the-whole line i d f h ne hd r (w .0 .0) .1 (w .1 .1);
           }),

@@ -1,4 +1,4 @@
--- Where the byte at an index of a line stands in its box, in its code and in its whole code. Assumes nothing.
+-- The index that a byte of a line has in its box, in its code and in its whole code. Assumes nothing.
 use Prim.Native.Nat.{ℕ, _+_, _-_, _*_, _/_, _%_, _≤_, _<_, min}
 use mathlib.Core.List.{List}
 use mathlib.Core.Logic.{_≢_, inl, inr, ⊎-elim}
@@ -18,12 +18,12 @@ pub boxes-are-numbered : BoxesAreNumbered
 boxes-are-numbered = (refl, λ i h. omega arith)
 
 -- in every list of n bytes, the byte at index i is the byte at index j of a piece
-pub record Stands (n : ℕ) (piece : List ℕ → List ℕ) (i j : ℕ) : Type 0 where
+pub record SameByte (n : ℕ) (piece : List ℕ → List ℕ) (i j : ℕ) : Type 0 where
   pub inside : (l : List ℕ) → length l ≡ n → j < length (piece l)
   pub byte : (l : List ℕ) → length l ≡ n → getD (piece l) j 0 ≡ getD l i 0
   pub sets : (l : List ℕ) (d : ℕ) → length l ≡ n → piece (set l i d) ≡ set (piece l) j d
 
-pub in-box : (n i : ℕ) → n < 4 → Among (boxAt n) i → Stands 48 (partAt (boxAt n)) i (i - 12 * n)
+pub in-box : (n i : ℕ) → n < 4 → Among (boxAt n) i → SameByte 48 (partAt (boxAt n)) i (i - 12 * n)
 in-box n i h a =
     let j : i + 1 - (12 * n + 1) ≡ i - 12 * n = omega arith in
     record {
@@ -34,14 +34,14 @@ in-box n i h a =
 
 -- Plans.
 
-planned : (n : ℕ) (plan : List Stretch) (i j : ℕ) → Lies n plan → InPlan plan i j → Stands n (gather plan) i j
+planned : (n : ℕ) (plan : List Stretch) (i j : ℕ) → Lies n plan → InPlan plan i j → SameByte n (gather plan) i j
 planned n plan i j lies within = record {
   inside = λ l e. gather-within plan l i j 0 (rw e lies) within .2;
   byte = λ l e. gather-within plan l i j 0 (rw e lies) within .1;
   sets = λ l d e. gather-within plan l i j d (rw e lies) within .0;
 }
 
--- The code: a digit of a box stands in it, a box's check does not.
+-- The code: a digit of a box is in it, a box's check is not.
 
 boxes-lie : Lies 48 boxes
 boxes-lie = omega arith
@@ -62,7 +62,7 @@ within-boxes i h r =
       )) (lt-or-le i 24),
     )) (lt-or-le i 12)
 
-pub in-code : (i : ℕ) → i < 48 → i % 12 < 11 → Stands 48 codeOf i (i - i / 12)
+pub in-code : (i : ℕ) → i < 48 → i % 12 < 11 → SameByte 48 codeOf i (i - i / 12)
 in-code i h r = planned 48 boxes i (i - i / 12) boxes-lie (within-boxes i h r)
 
 beside-check : (n i : ℕ) → i % 12 ≡ 11 → Beside (boxAt n) i
@@ -75,7 +75,7 @@ within-checked j h ne =
     ⊎-elim (λ (a : j < 3). inl (omega arith, omega arith, omega arith, (inl (omega arith), tt)))
     (λ (a : 3 ≤ j). inr (inr a, omega arith, inl (omega arith, omega arith, omega arith, tt))) (lt-or-le j 3)
 
--- where a digit of a box stands in it
+-- the index that a digit of a box has in it
 unfoldable pub seat : ℕ → ℕ
 seat i = i - i / 12 - min 1 (i / 3)
 
@@ -87,7 +87,7 @@ next-seat i h r =
     let b : min 1 (i / 3) ≡ 1 = omega arith in
     rw (q, a, b) (omega arith)
 
-pub in-whole : (i : ℕ) → i < 48 → i % 12 < 11 → i ≢ 3 → Stands 48 wholeOf i (seat i)
+pub in-whole : (i : ℕ) → i < 48 → i % 12 < 11 → i ≢ 3 → SameByte 48 wholeOf i (seat i)
 unfolding seat
 in-whole i h r ne =
     let j = i - i / 12 in

@@ -11,13 +11,13 @@ pub directions-may-differ : DirectionsMayDiffer
 unfolding firstThreeAnswer generalRight boxRight digitOfRemainder termOf addedBy digitsOf valueOf isOf
 directions-may-differ = (refl, refl, refl, refl, refl, refl)
 
-pub segment-may-slip : SegmentTypoPasses
+pub segment-typo-passes : SegmentTypoPasses
 unfolding firstThreeAnswer generalRight boxRight digitOfRemainder termOf addedBy digitsOf valueOf isOf
-segment-may-slip = (refl, refl)
+segment-typo-passes = (refl, refl)
 
-pub kind-may-slip : KindTypoPasses
+pub kind-typo-passes : KindTypoPasses
 unfolding firstThreeAnswer generalRight boxRight digitOfRemainder termOf addedBy digitsOf valueOf isOf
-kind-may-slip = (refl, refl)
+kind-typo-passes = (refl, refl)
 
 pub borders-hold : BordersHold
 unfolding firstThreeAnswer generalRight boxRight digitOfRemainder termOf addedBy digitsOf valueOf isOf

@@ -1,4 +1,4 @@
--- The digits 0 and 9 under modulo 10, and why they never stand in the lead. Assumes nothing.
+-- The digits 0 and 9 under modulo 10, and why they are never among the first three. Assumes nothing.
 use Prim.Native.Nat.{ℕ, zero, suc, _+_, _%_, _≤_}
 use mathlib.Core.Bool.{Bool, true, false, cond, and-eq-true-iff}
 use mathlib.Core.List.{List}
@@ -18,8 +18,8 @@ use Rattle.modulus.specs.Checks.{addedBy, termOf, digitOfRemainder, ZeroAndNine
 use Rattle.modulus.proofs.Typos.{check-shows-ten}
 use Rattle.modulus.proofs.Terms.{period}
 use Rattle.barcode.specs.Codes.{digitAt, modulusOf, firstThreeAnswer}
+use Rattle.barcode.proofs.Codes.{first-three-accepts}
 use Rattle.typos.specs.Typos.{Names}
-use Rattle.typos.proofs.Accepted.{lead-accepts}
 
 -- they add 0 and 9, whatever the weight
 zero-adds : (k : ℕ) → termOf Ten k 48 ≡ 0
@@ -58,14 +58,14 @@ names-ten k e = go (leb k 7) refl e
     go true q f = leb-true k 7 q
     go false q f = let z : _≡_ {A = ℕ} 0 1 = cc in absurd (omega arith)
 
-pub past-the-lead : (line : List ℕ) (i : ℕ) → firstThreeAnswer line ≡ Accepted → Names Ten line → ZeroAndNine (getD line i 0) (getD line (i + 1) 0) → 3 ≤ i
-past-the-lead line i lead t z = go i z
+pub past-the-first-three : (line : List ℕ) (i : ℕ) → firstThreeAnswer line ≡ Accepted → Names Ten line → ZeroAndNine (getD line i 0) (getD line (i + 1) 0) → 3 ≤ i
+past-the-first-three line i accepted t z = go i z
   where
     first : digitAt 1 line ≡ 8
-    first = lead-accepts line .0 lead .0
+    first = first-three-accepts line .0 accepted .0
 
     third : (6 ≤ digitAt 3 line) × (digitAt 3 line ≤ 7)
-    third = (leb-true 6 (digitAt 3 line) (and-eq-true-iff _ _ .0 (lead-accepts line .0 lead .2) .0), names-ten (digitAt 3 line) t)
+    third = (leb-true 6 (digitAt 3 line) (and-eq-true-iff _ _ .0 (first-three-accepts line .0 accepted .2) .0), names-ten (digitAt 3 line) t)
 
     go : (i : ℕ) → ZeroAndNine (getD line i 0) (getD line (i + 1) 0) → 3 ≤ i
     go zero z = absurd (neither _ _ z .0 (omega (arith, first), omega (arith, first)))

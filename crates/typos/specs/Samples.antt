@@ -1,4 +1,4 @@
--- Slips that show where demand 3's cases begin and end. Assumes nothing.
+-- Typos that show where the cases of SPEC.md, "Typing errors", begin and end. Assumes nothing.
 use Prim.Native.Nat.{ℕ}
 use mathlib.Core.List.{List, [], _∷_}
 use mathlib.Core.Path.{_≡_}
@@ -10,14 +10,14 @@ use Rattle.answer.specs.Orders.{Each}
 use Rattle.decimal.specs.Numbers.{digitsOf}
 use Rattle.modulus.specs.declared.Modulus.the-variants.{Eleven}
 use Rattle.modulus.specs.Checks.{exchanged}
-use Rattle.line.specs.Lines.{lineAnswer}
+use Rattle.line.specs.Lines.{lineLength, lineAnswer}
 use Rattle.typos.specs.Typos.{Passes, boxRemainder, codeRemainder}
 
 -- Promises.
 
 -- the two remainders may move in opposite directions: place 25 of a line changed from 0 to 8
 abbrev pub opposite : List ℕ
-opposite = digitsOf 48 818000000004_014361582218_011100202310_001303003101
+opposite = digitsOf lineLength 818000000004_014361582218_011100202310_001303003101
 
 abbrev pub DirectionsMayDiffer : Type 0
 DirectionsMayDiffer =
@@ -28,21 +28,23 @@ DirectionsMayDiffer =
     × Passes opposite
     × Passes (set opposite 24 56)
 
--- a slip of the segment may pass, and then names another issuer: place 2 of a line changed from 2 to 9
+-- a typo in the segment may pass, and then names another issuer: place 2 of a line changed from 2 to 9
 abbrev pub segmented : List ℕ
-segmented = digitsOf 48 829000000000_011351990220_303000212303_030330100000
+segmented = digitsOf lineLength 829000000000_011351990220_303000212303_030330100000
 
 abbrev pub SegmentTypoPasses : Type 0
 SegmentTypoPasses = Passes segmented × Passes (set segmented 1 57)
 
--- a slip of the kind to one that names modulo 11 may pass, and is no case of demand 3: place 3 of a line changed from 7 to 9
+-- a typo in the value kind, to one that names modulo 11, may pass, and none of the cases covers it: place 3 of a line
+-- changed from 7 to 9
 abbrev pub kinded : List ℕ
-kinded = digitsOf 48 827600000000_000196040000_000000000000_000000000000
+kinded = digitsOf lineLength 827600000000_000196040000_000000000000_000000000000
 
 abbrev pub KindTypoPasses : Type 0
 KindTypoPasses = Passes kinded × Passes (set kinded 2 57)
 
--- 0 and 9 exchanged at a border: the general check and the digit behind it, a box's last digit and its check, a box's check and the next box
+-- 0 and 9 exchanged at a border: the general check and the digit behind it, a box's last digit and its check, a box's
+-- check and the next box
 pub record Border : Type 0 where
   pub line : List ℕ
   pub index : ℕ
@@ -50,10 +52,23 @@ pub record Border : Type 0 where
 
 abbrev pub borders : List Border
 borders =
-    record { line = digitsOf 48 827090100039_130000000005_000003000163_000000000026; index = 3; exchange = Accepted }
-    ∷ record { line = digitsOf 48 876800000609_000000700005_000086000007_003000000004; index = 10; exchange = Refused WrongGeneralCheck 4 }
-    ∷ record { line = digitsOf 48 876800000609_000000700005_000086000007_003000000004; index = 11; exchange = Refused WrongBoxCheck 12 }
+    record {
+      line = digitsOf lineLength 827090100039_130000000005_000003000163_000000000026;
+      index = 3;
+      exchange = Accepted;
+    }
+    ∷ record {
+      line = digitsOf lineLength 876800000609_000000700005_000086000007_003000000004;
+      index = 10;
+      exchange = Refused WrongGeneralCheck 4;
+    }
+    ∷ record {
+      line = digitsOf lineLength 876800000609_000000700005_000086000007_003000000004;
+      index = 11;
+      exchange = Refused WrongBoxCheck 12;
+    }
     ∷ []
 
 abbrev pub BordersHold : Type 0
-BordersHold = Each (λ (b : Border). Passes (b .line) × (lineAnswer (exchanged (b .line) (b .index)) ≡ b .exchange)) borders
+BordersHold =
+    Each (λ (b : Border). Passes (b .line) × (lineAnswer (exchanged (b .line) (b .index)) ≡ b .exchange)) borders

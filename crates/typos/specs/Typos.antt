@@ -1,4 +1,5 @@
--- Typing slips in a line that is accepted (demand 3). A slip is at an index of the line, which counts from 0. Assumes nothing.
+-- Typing errors in an accepted line (SPEC.md, "Typing errors"). A typo is at an index of the line, which counts from 0.
+-- Assumes nothing.
 use Prim.Native.Nat.{ℕ, _+_, _*_, _/_, _≤_, _<_}
 use mathlib.Core.Bool.{true}
 use mathlib.Core.List.{List, [], _∷_}
@@ -14,7 +15,7 @@ use Rattle.modulus.specs.declared.Modulus.{Modulus}
 use Rattle.modulus.specs.declared.Modulus.the-variants.{Ten, Eleven}
 use Rattle.modulus.specs.Checks.{remainderOf, exchanged, ZeroAndNine, BetweenZeroAndOne}
 use Rattle.barcode.specs.Codes.{digitAt, product, isSegment, modulusOf, checked, prefixAnswer, generalRight}
-use Rattle.line.specs.Lines.{boxes, codeOf, boxRight, lineAnswer}
+use Rattle.line.specs.Lines.{lineLength, boxDigits, boxes, codeOf, boxRight, lineAnswer}
 
 -- the line is accepted
 abbrev pub Passes : List ℕ → Type 0
@@ -26,14 +27,18 @@ Names m line = modulusOf (digitAt 3 line) ≡ m
 
 -- the line passes the five checks: its boxes are right, and its general check is
 abbrev pub PassesChecks : List ℕ → Type 0
-PassesChecks line = Each (λ box. boxRight (modulusOf (digitAt 3 line)) line box ≡ true) boxes × (generalRight (codeOf line) ≡ true)
+PassesChecks line =
+    Each (λ box. boxRight (modulusOf (digitAt 3 line)) line box ≡ true) boxes × (generalRight (codeOf line) ≡ true)
 
 -- a box and its check are twelve places: box n, from 0, and the one that holds an index
+abbrev pub boxPlaces : ℕ
+boxPlaces = boxDigits + 1
+
 abbrev pub boxAt : ℕ → Stretch
-boxAt n = record { first = 12 * n + 1; last = 12 * n + 11 }
+boxAt n = record { first = boxPlaces * n + 1; last = boxPlaces * n + boxDigits }
 
 abbrev pub boxOf : ℕ → Stretch
-boxOf i = boxAt (i / 12)
+boxOf i = boxAt (i / boxPlaces)
 
 -- the index is among a box's eleven digits
 abbrev pub Among : Stretch → ℕ → Type 0
@@ -53,12 +58,13 @@ wholeOf line = gather checked (codeOf line)
 abbrev pub codeRemainder : Modulus → List ℕ → ℕ
 codeRemainder m line = remainderOf m (wholeOf line)
 
--- both move between 0 and 1, each by itself, from a line to a slip of it at an index
+-- both move between 0 and 1, each by itself, from a line to one with a typo at an index
 abbrev pub BothMove : ℕ → List ℕ → List ℕ → Type 0
-BothMove i line slip =
-    BetweenZeroAndOne (boxRemainder Eleven i line) (boxRemainder Eleven i slip) × BetweenZeroAndOne (codeRemainder Eleven line) (codeRemainder Eleven slip)
+BothMove i line typo =
+    BetweenZeroAndOne (boxRemainder Eleven i line) (boxRemainder Eleven i typo)
+    × BetweenZeroAndOne (codeRemainder Eleven line) (codeRemainder Eleven typo)
 
--- the index is none of the five check digits: not place 4, and not the place behind a box
+-- the index is that of none of the five check digits: not place 4, and not the place behind a box
 abbrev pub NoCheck : ℕ → Type 0
 NoCheck i = (i ≢ 3) × Each (λ box. i ≢ box .last) boxes
 
@@ -68,28 +74,34 @@ NoCheck i = (i ≢ 3) × Each (λ box. i ≢ box .last) boxes
 abbrev pub BoxesAreNumbered : Type 0
 BoxesAreNumbered =
     (boxes ≡ boxAt 0 ∷ boxAt 1 ∷ boxAt 2 ∷ boxAt 3 ∷ [])
-    × ((i : ℕ) → i < 48 → (i / 12 < 4) × ((boxOf i) .first ≤ i + 1) × (i ≤ (boxOf i) .last))
+    × ((i : ℕ) → i < lineLength → (i / boxPlaces < 4) × ((boxOf i) .first ≤ i + 1) × (i ≤ (boxOf i) .last))
 
--- a line passes exactly when it has 48 bytes, its front is accepted and it passes the five checks
+-- a line passes exactly when it has 48 bytes, its prefix is accepted and it passes the five checks
 abbrev pub PassesByChecks : Type 0
-PassesByChecks = (line : List ℕ) → Passes line ↔ ((length line ≡ 48) × (prefixAnswer line ≡ Accepted) × PassesChecks line)
+PassesByChecks =
+    (line : List ℕ) → Passes line ↔ ((length line ≡ lineLength) × (prefixAnswer line ≡ Accepted) × PassesChecks line)
 
--- Under modulo 10, change one digit, so that the third digit still names modulo 10: it is always refused. It is so for every byte put in.
+-- Under modulo 10, change one digit, so that the third digit still names modulo 10: it is always refused. It is so for
+-- every byte put in.
 abbrev pub OneChangedDigitIsRefused : Type 0
 OneChangedDigitIsRefused =
-    (line : List ℕ) (i d : ℕ) → Passes line → Names Ten line → i < 48 → d ≢ getD line i 0 → Names Ten (set line i d) → ¬ Passes (set line i d)
+    (line : List ℕ) (i d : ℕ) → Passes line → Names Ten line → i < lineLength → d ≢ getD line i 0
+    → Names Ten (set line i d) → ¬ Passes (set line i d)
 
 -- Under modulo 10, exchange two unequal neighbours, so that the third digit still names modulo 10:
 -- it passes exactly when the two are 0 and 9 among the eleven digits of one box.
 abbrev pub ExchangeOfNeighbours : Type 0
 ExchangeOfNeighbours =
-    (line : List ℕ) (i : ℕ) → Passes line → Names Ten line → i + 1 < 48 → getD line i 0 ≢ getD line (i + 1) 0 → Names Ten (exchanged line i)
+    (line : List ℕ) (i : ℕ) → Passes line → Names Ten line → i + 1 < lineLength → getD line i 0 ≢ getD line (i + 1) 0
+    → Names Ten (exchanged line i)
     → Passes (exchanged line i) ↔ (ZeroAndNine (getD line i 0) (getD line (i + 1) 0) × InOneBox i)
 
 -- Under modulo 11, change one digit so that the first is still 8, the second a segment and the third names modulo 11:
--- it passes exactly when it is none of the five check digits and the remainders of its box and of the whole code both move between 0 and 1.
+-- it passes exactly when it is none of the five check digits and the remainders of its box and of the whole code both
+-- move between 0 and 1.
 abbrev pub OneChangedDigitUnderEleven : Type 0
 OneChangedDigitUnderEleven =
-    (line : List ℕ) (i d : ℕ) → Passes line → Names Eleven line → i < 48 → d ≢ getD line i 0 → isOf Digit d ≡ true
-    → digitAt 1 (set line i d) ≡ product → isSegment (digitAt 2 (set line i d)) ≡ true → Names Eleven (set line i d)
+    (line : List ℕ) (i d : ℕ) → Passes line → Names Eleven line → i < lineLength → d ≢ getD line i 0
+    → isOf Digit d ≡ true → digitAt 1 (set line i d) ≡ product → isSegment (digitAt 2 (set line i d)) ≡ true
+    → Names Eleven (set line i d)
     → Passes (set line i d) ↔ (NoCheck i × BothMove i line (set line i d))

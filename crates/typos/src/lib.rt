@@ -1,1 +1,1 @@
-// Theorems only: demand 3, which typing slips pass.
+// Theorems only: which typing errors the checks of a line let pass (SPEC.md, "Typing errors").

@@ -13,17 +13,17 @@ issuer-end-requires c κs = search needs
 digit-requires : tie.Need-digit-requires
 digit-requires c κs = search needs
 
-sub-number : tie.Need-sub-number
-sub-number c = search needs
+sub-low-number : tie.Need-sub-low-number
+sub-low-number c = search needs
 
-part-number-start : tie.Need-part-number-start
-part-number-start c = search needs
+part-low-number-start : tie.Need-part-low-number-start
+part-low-number-start c = search needs
 
-part-number-end : tie.Need-part-number-end
-part-number-end c = search needs
+part-low-number-end : tie.Need-part-low-number-end
+part-low-number-end c = search needs
 
-number-requires : tie.Need-number-requires
-number-requires c κs = search needs
+low-number-requires : tie.Need-low-number-requires
+low-number-requires c κs = search needs
 
 add-read-date : tie.Need-add-read-date
 add-read-date c = search needs
@@ -45,8 +45,8 @@ returns c =
     let digit = c .before .before .before .before in
     let issuer = digit .before .before in
     let start = issuer .before .before in
-    as-fields (start .args .code .now) (start .pre) (issuer .issuer-of .ensures) (digit .before .issuer-end .ensures .0)
-    (digit .digit .ensures) (c .before .before .number .ensures) (c .read-date .ensures)
+    as-fields (start .args .code .now) (start .pre .0) (start .pre .1) (issuer .issuer-of .ensures) (digit .before .issuer-end .ensures .0)
+    (digit .digit .ensures) (c .before .before .low-number .ensures) (c .read-date .ensures)
 
 pub fields-of-spec : {M : Type 1} → statement M
 fields-of-spec =
@@ -55,10 +55,10 @@ fields-of-spec =
     issuer-of-requires
     issuer-end-requires
     digit-requires
-    sub-number
-    part-number-start
-    part-number-end
-    number-requires
+    sub-low-number
+    part-low-number-start
+    part-low-number-end
+    low-number-requires
     add-read-date
     sub-read-date
     part-read-date-start

@@ -1,6 +1,7 @@
 -- `line::check` meets its contract. Assumes nothing.
-use mathlib.Core.Path.{sym, _∙_}
+use mathlib.Core.Path.{sym, ap, _∙_}
 use borrow.Author.Needs.{needs}
+use Rattle.barcode.specs.Codes.{barcodeAnswer}
 use Rattle.line.proofs.Lines.{line-short, line-body}
 use Rattle.line.proofs.check.Statement.{statement}
 use Rattle.line.proofs.check.Tie as tie
@@ -14,14 +15,21 @@ slice-aggregate-put-code c = search needs
 put-code-requires : tie.Need-put-code-requires
 put-code-requires c κs = search needs
 
-slice-aggregate-check-body : tie.Need-slice-aggregate-check-body
-slice-aggregate-check-body c = search needs
+slice-aggregate-check : tie.Need-slice-aggregate-check
+slice-aggregate-check c = search needs
 
-check-body-requires : tie.Need-check-body-requires
-check-body-requires c κs = search needs
+check-requires : tie.Need-check-requires
+check-requires c κs = search needs
+
+check-full-length-requires : tie.Need-check-full-length-requires
+check-full-length-requires c κs =
+    let put = c .before .before .before in
+    (put .before .before .if1 .left, c .check .ensures ∙ ap barcodeAnswer (put .put-code .ensures))
 
 returns-2 : tie.Need-returns-2
-returns-2 c = c .check-body .ensures ∙ sym (line-body (c .before .before .before .before .before .before .before .args .line .now) (c .before .before .before .before .before .if1 .left))
+returns-2 c =
+    let long = c .before .before .before .before .before .before in
+    c .check-full-length .ensures ∙ sym (line-body (long .before .before .args .line .now) (long .if1 .left))
 
 pub check-spec : {M : Type 1} → statement M
 check-spec =
@@ -30,6 +38,7 @@ check-spec =
     returns
     slice-aggregate-put-code
     put-code-requires
-    slice-aggregate-check-body
-    check-body-requires
+    slice-aggregate-check
+    check-requires
+    check-full-length-requires
     returns-2)

@@ -1,8 +1,12 @@
 -- `line::decode` meets its contract. Assumes nothing.
 use mathlib.Core.Path.{refl, sym, ap, _∙_}
 use borrow.Author.Needs.{needs}
-use Rattle.barcode.specs.Codes.{readOf}
-use Rattle.line.proofs.Lines.{line-short, line-body, shown-refused, shown-read, fields-read}
+use Rattle.barcode.specs.Codes.{decodedBarcode}
+use Rattle.barcode.specs.RoundTrips.{answerOfBarcode}
+use Rattle.barcode.proofs.RoundTrips.{decoded-answers}
+use Rattle.line.specs.Lines.{codeOf}
+use Rattle.line.proofs.Lines.{line-short, line-body, shown-refused}
+use Rattle.line.proofs.RoundTrips.{decodes-as-code}
 use Rattle.line.proofs.decode.Statement.{statement}
 use Rattle.line.proofs.decode.Tie as tie
 
@@ -15,11 +19,22 @@ slice-aggregate-put-code c = search needs
 put-code-requires : tie.Need-put-code-requires
 put-code-requires c κs = search needs
 
-slice-aggregate-check-body : tie.Need-slice-aggregate-check-body
-slice-aggregate-check-body c = search needs
+slice-aggregate-decode : tie.Need-slice-aggregate-decode
+slice-aggregate-decode c = search needs
 
-check-body-requires : tie.Need-check-body-requires
-check-body-requires c κs = search needs
+decode-requires : tie.Need-decode-requires
+decode-requires c κs = search needs
+
+answer-of-requires : tie.Need-answer-of-requires
+answer-of-requires c κs = search needs
+
+check-full-length-requires : tie.Need-check-full-length-requires
+check-full-length-requires c κs =
+    let decoded = c .before in
+    let put = decoded .before .before .before in
+    let long = put .before .before in
+    let code = ap answerOfBarcode (decoded .decode .ensures ∙ ap decodedBarcode (put .put-code .ensures)) in
+    (long .if1 .left, c .answer-of .ensures ∙ code ∙ decoded-answers (codeOf (long .before .before .args .line .now)))
 
 enum-known-why : tie.Need-enum-known-why
 enum-known-why c = search needs
@@ -27,28 +42,23 @@ enum-known-why c = search needs
 enum-told : tie.Need-enum-told
 enum-told c = search needs
 
-slice-aggregate-read-fields : tie.Need-slice-aggregate-read-fields
-slice-aggregate-read-fields c = search needs
-
-read-fields-requires : tie.Need-read-fields-requires
-read-fields-requires c κs = search needs
-
 returns-2 : tie.Need-returns-2
 returns-2 c =
-    let asked = c .before .before .before in
-    let long = asked .before .before .before .before .before in
+    let checked = c .before .before .before in
+    let long = checked .before .before .before .before .before .before .before in
     let body = line-body (long .before .before .args .line .now) (long .if1 .left) in
-    shown-refused _ (asked .check-body .ensures ∙ sym body) (c .before .why .given .1)
+    shown-refused _ (checked .check-full-length .ensures ∙ sym body) (c .before .why .given .1)
 
 returns-3 : tie.Need-returns-3
 returns-3 c =
-    let asked = c .before .before .before .before in
-    let put = asked .before .before .before in
+    let checked = c .before .before in
+    let decoded = checked .before .before in
+    let put = decoded .before .before .before in
     let long = put .before .before in
-    let n = long .if1 .left in
     let line = long .before .before .args .line .now in
-    let read = c .read-fields .ensures ∙ ap readOf (put .put-code .ensures) ∙ fields-read line n in
-    shown-read (asked .check-body .ensures ∙ sym (line-body line n)) (c .before .before .enum-told .given .1) read
+    let body = line-body line (long .if1 .left) in
+    let accepted = body ∙ sym (checked .check-full-length .ensures) ∙ c .enum-told .given .1 in
+    decoded .decode .ensures ∙ ap decodedBarcode (put .put-code .ensures) ∙ decodes-as-code line accepted
 
 pub decode-spec : {M : Type 1} → statement M
 decode-spec =
@@ -57,11 +67,11 @@ decode-spec =
     returns
     slice-aggregate-put-code
     put-code-requires
-    slice-aggregate-check-body
-    check-body-requires
+    slice-aggregate-decode
+    decode-requires
+    answer-of-requires
+    check-full-length-requires
     enum-known-why
     enum-told
-    slice-aggregate-read-fields
-    read-fields-requires
     returns-2
     returns-3)

@@ -21,10 +21,10 @@ enum-told-2 c = search needs
 
 put-code-requires : tie.Need-put-code-requires
 put-code-requires c κs =
-    let asked = c .before .before .before in
-    let start = asked .before .before .before .before in
-    let accepted = sym (asked .check .ensures) ∙ c .before .enum-told2 .given .1 in
-    (line-length (start .args .line .now) accepted, asked .before .if1 .left)
+    let checked = c .before .before .before in
+    let start = checked .before .before .before .before in
+    let accepted = sym (checked .check .ensures) ∙ c .before .enum-told2 .given .1 in
+    (line-length (start .args .line .now) accepted, checked .before .if1 .left)
 
 returns-2 : tie.Need-returns-2
 returns-2 c = (goes _ _ _ (eq-eqb _ _ (c .before .before .before .if1 .left)) (c .before .before .check .ensures), rw (c .enum-told .given .1))

@@ -1,13 +1,14 @@
 -- `barcode::builder::build` meets its contract. Assumes nothing.
 use mathlib.Core.Path.{sym, _∙_}
 use borrow.Author.Needs.{needs}
-use borrow.Author.Tests.{eq-eqb, ne-eqb}
-use Rattle.answer.proofs.Steps.{stops, goes, handed, onward}
-use Rattle.barcode.proofs.Building.{fit-of}
+use borrow.Author.Tests.{ne-eqb}
+use Rattle.answer.proofs.Steps.{stops}
+use Rattle.barcode.specs.Building.{buildAnswer}
 use Rattle.barcode.proofs.builder.build.Statement.{statement}
 use Rattle.barcode.proofs.builder.build.Tie as tie
 
 returns : tie.Need-returns
+unfolding buildAnswer
 returns c = (stops _ _ _ _ (ne-eqb _ _ (c .if1 .taken)), search needs)
 
 check-fields-requires : tie.Need-check-fields-requires
@@ -20,20 +21,21 @@ enum-told-2 : tie.Need-enum-told-2
 enum-told-2 c = search needs
 
 finish-requires : tie.Need-finish-requires
-finish-requires c κs = (c .before .before .before .before .if1 .left, fit-of _ _ _ _ (sym (c .before .before .before .check-fields .ensures) ∙ c .before .enum-told2 .given .1))
+finish-requires c κs = (c .before .before .before .before .if1 .left, sym (c .before .before .before .check-fields .ensures) ∙ c .before .enum-told2 .given .1)
 
 returns-2 : tie.Need-returns-2
-returns-2 c = (goes _ _ _ (eq-eqb _ _ (c .before .before .before .if1 .left)) (handed _ (c .before .before .check-fields .ensures) (c .enum-told .given .1)), rw (c .enum-told .given .1))
+returns-2 c = (rw (c .before .before .before .if1 .left) (c .before .before .check-fields .ensures), rw (c .enum-told .given .1))
 
 same-length : tie.Need-same-length
 same-length c = search needs
 
 returns-3 : tie.Need-returns-3
-returns-3 c = (
-  goes _ _ _ (eq-eqb _ _ (c .before .before .before .before .before .before .before .if1 .left))
-      (onward (c .before .before .before .before .before .before .check-fields .ensures) (c .before .before .before .before .enum-told2 .given .1) (c .before .before .finish .ensures .0)),
-  c .before .before .finish .ensures .1,
-)
+returns-3 c =
+    let finish = c .before .before .finish .ensures in
+    let told = c .before .before .before .before in
+    let checked = told .before .before in
+    let accepted = sym (checked .check-fields .ensures) ∙ told .enum-told2 .given .1 in
+    (rw (checked .before .if1 .left) (finish .0 ∙ sym accepted), rw (finish .0) (finish .1))
 
 pub build-spec : {M : Type 1} → statement M
 build-spec =

@@ -1,7 +1,8 @@
 -- `barcode::builder::finish` meets its contract. Assumes nothing.
+use mathlib.Core.Path.{refl}
 use native.Mathlib.Omega.{arith}
 use borrow.Author.Needs.{needs}
-use Rattle.barcode.proofs.Building.{finished}
+use Rattle.barcode.proofs.Building.{ranges-of, finished}
 use Rattle.barcode.proofs.builder.finish.Statement.{statement}
 use Rattle.barcode.proofs.builder.finish.Tie as tie
 
@@ -18,7 +19,7 @@ general-check-requires : tie.Need-general-check-requires
 general-check-requires c κs = search needs
 
 returns : tie.Need-returns
-returns c = let small = c .before .general-check .ensures .1 in (absurd (omega arith), search needs)
+returns c = let small = c .before .general-check .ensures .1 in absurd (omega arith)
 
 add-code : tie.Need-add-code
 add-code c = search needs
@@ -44,8 +45,11 @@ returns-2 c =
     let put = checked .before .before .before in
     let start = put .before .before .before .before in
     let a = start .args in
-    finished (a .issuer) (a .kind) (a .value) (a .free .now) (start .pre .1) (a .out .now) (start .pre .0)
-    (put .put-fields .ensures) (checked .general-check .ensures .0) (checked .general-check .ensures .1) (c .before .before .put .ensures)
+    let fit = ranges-of _ _ _ _ (start .pre .1) in (
+      refl,
+      finished (a .issuer) (a .kind) (a .value) (a .free .now) fit (a .out .now) (start .pre .0)
+          (put .put-fields .ensures) (checked .general-check .ensures .0) (c .before .before .put .ensures),
+    )
 
 pub finish-spec : {M : Type 1} → statement M
 finish-spec =

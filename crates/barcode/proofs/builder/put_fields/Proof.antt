@@ -1,23 +1,32 @@
 -- `barcode::builder::put_fields` meets its contract. Assumes nothing.
+use native.Mathlib.Omega.{arith}
 use borrow.Author.Needs.{needs}
-use Rattle.barcode.proofs.Building.{pieces}
+use Rattle.barcode.proofs.Codes.{issuer-end-range}
+use Rattle.barcode.proofs.Building.{ranges-of, segment-small, kind-small, pieces}
 use Rattle.barcode.proofs.builder.put_fields.Statement.{statement}
 use Rattle.barcode.proofs.builder.put_fields.Tie as tie
 
-issuer-end-requires : tie.Need-issuer-end-requires
-issuer-end-requires c κs = search needs
+issuer-width-requires : tie.Need-issuer-width-requires
+issuer-width-requires c κs = search needs
 
 put-head-requires : tie.Need-put-head-requires
-put-head-requires c κs = search needs
+put-head-requires c κs =
+    let start = c .before .before .before .before in
+    let fit = ranges-of _ _ _ _ (start .pre .1) in
+    (start .pre .0, segment-small _ (fit .segment), kind-small _ (fit .kinds))
 
 put-number-requires : tie.Need-put-number-requires
 put-number-requires c κs = search needs
 
-sub-put-number : tie.Need-sub-put-number
-sub-put-number c = search needs
-
 put-number-requires-2 : tie.Need-put-number-requires-2
 put-number-requires-2 c κs = search needs
+
+add-put : tie.Need-add-put
+add-put c =
+    let value = c .before .before .before .before .before .before .before in
+    let width = value .before .before .before .before .before .before in
+    let range = issuer-end-range (width .before .before .before .args .issuer .segment) in
+    record { fits = omega (arith, width .issuer-width .ensures) }
 
 put-requires : tie.Need-put-requires
 put-requires c κs = search needs
@@ -30,21 +39,22 @@ returns c =
     let number = c .before .before .before .before .before .before in
     let value = number .before .before .before .before in
     let head = value .before .before .before .before in
-    let end = head .before .before in
-    let start = end .before .before .before in
+    let width = head .before .before in
+    let start = width .before .before .before in
     let a = start .args in
-    pieces (a .issuer) (a .kind) (a .value) (a .free .now) (a .code .now) (start .pre .1) (start .pre .0) (end .issuer-end .ensures .0) (head .put-head .ensures)
+    let fit = ranges-of _ _ _ _ (start .pre .1) in
+    pieces (a .issuer) (a .kind) (a .value) (a .free .now) (a .code .now) fit (start .pre .0) (width .issuer-width .ensures) (head .put-head .ensures)
     (value .put-number .ensures .0) (value .put-number .ensures .1) (number .put-number2 .ensures .0) (number .put-number2 .ensures .1) (c .before .before .put .ensures)
 
 pub put-fields-spec : {M : Type 1} → statement M
 put-fields-spec =
     tie.close
     (tie.spec
-    issuer-end-requires
+    issuer-width-requires
     put-head-requires
     put-number-requires
-    sub-put-number
     put-number-requires-2
+    add-put
     put-requires
     same-length
     returns)

@@ -2,7 +2,7 @@
 use mathlib.Core.Path.{sym, ap, _∙_}
 use borrow.Author.Tests.{not-true, not-false}
 use Rattle.barcode.specs.Codes.{acceptedIssuer}
-use Rattle.barcode.proofs.OnePass.{paid-accepts, paid-issuer}
+use Rattle.barcode.proofs.OnePass.{issuer-tells}
 use Rattle.layout.specs.Layouts.{rowAt, table, layoutOf, barcodeRow}
 use Rattle.record.specs.Records.{fieldBytes}
 use Rattle.record.proofs.Exact.{not-sized, not-looking, not-dated, no-payee, pays-it}
@@ -55,7 +55,8 @@ returns-4 c =
     let to = sym (c .before .before .issuer .given .1) ∙ paid .accepted-issuer .ensures ∙ ap acceptedIssuer (paid .before .field-bytes .ensures) in
     let looks = sym (looked .before .looks-like-payment .ensures) ∙ not-false _ (looked .if2 .left) in
     let dates = sym (dated .before .is-dated .ensures) ∙ not-false _ (dated .if3 .left) in
-    pays-it rec (sized .if1 .left) looks dates (sym (paid-accepts part to)) (paid-issuer part to) (c .number-in .ensures)
+    let told = issuer-tells part to in
+    pays-it rec (sized .if1 .left) looks dates (told .0) (told .1) (c .number-in .ensures)
 
 returns-5 : tie.Need-returns-5
 unfolding rowAt table layoutOf
