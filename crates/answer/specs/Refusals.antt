@@ -1,18 +1,11 @@
 -- The refusals of SPEC.md, "Refusals": their numbers, and the number and place that an answer shows. Assumes nothing.
 use Prim.Native.Nat.{ℕ}
-use mathlib.Core.Bool.{cond}
-use mathlib.Core.List.{List, [], _∷_}
 use mathlib.Core.Logic.{_↔_}
 use mathlib.Core.Path.{_≡_}
-use lib.Dec.{eqb}
 use Rattle.answer.specs.declared.Reason.{Reason}
 use Rattle.answer.specs.declared.Reason.the-variants as reason
-use Rattle.answer.specs.declared.MaybeReason.{MaybeReason}
-use Rattle.answer.specs.declared.MaybeReason.the-variants as found
 use Rattle.answer.specs.declared.Answer.{Answer}
 use Rattle.answer.specs.declared.Answer.the-variants.{Accepted, Refused}
-use Rattle.answer.specs.declared.MaybeAnswer.{MaybeAnswer}
-use Rattle.answer.specs.declared.MaybeAnswer.the-variants.{Is, NoAnswer}
 
 -- each reason's number, and when it is given
 abbrev pub reasonNumber : Reason → ℕ
@@ -47,31 +40,6 @@ abbrev pub answerPlace : Answer → ℕ
 answerPlace Accepted = 0
 answerPlace (Refused why place) = place
 
--- every reason, in any order
-abbrev pub reasons : List Reason
-reasons =
-    reason.WrongLength ∷ reason.NoDigit ∷ reason.WrongProduct ∷ reason.UnknownSegment ∷ reason.UnknownKind
-    ∷ reason.WrongBoxCheck ∷ reason.WrongGeneralCheck ∷ reason.NoText ∷ reason.NotExpected ∷ reason.FixedDiffers
-    ∷ reason.NoDate ∷ reason.UnknownCode ∷ reason.CountDiffers ∷ reason.TotalDiffers ∷ reason.FileFull
-    ∷ reason.FileTotalPassed ∷ reason.BoardFull ∷ reason.BoardTotalPassed ∷ reason.FileOpen ∷ reason.CheckTwoPlaces
-    ∷ reason.TooWide ∷ []
-
--- the first of some reasons that has the number
-abbrev pub reasonAmong : ℕ → List Reason → MaybeReason
-reasonAmong number [] = found.NoReason
-reasonAmong number (why ∷ rest) = cond (eqb (reasonNumber why) number) (found.Is why) (reasonAmong number rest)
-
-unfoldable pub reasonFrom : ℕ → MaybeReason
-reasonFrom number = reasonAmong number reasons
-
--- the answer with a number and a place; 0 is accepted, whatever the place
-abbrev pub refusedFor : MaybeReason → ℕ → MaybeAnswer
-refusedFor (found.Is why) place = Is (Refused why place)
-refusedFor found.NoReason place = NoAnswer
-
-abbrev pub answerFrom : ℕ → ℕ → MaybeAnswer
-answerFrom number place = cond (eqb number 0) (Is Accepted) (refusedFor (reasonFrom number) place)
-
 -- The places of a payment record that refusals 16 to 18 point at: its received centavos, and the issuer in its barcode.
 
 abbrev pub receivedPlace : ℕ
@@ -89,10 +57,3 @@ NumbersDiffer = (a b : Reason) → reasonNumber a ≡ reasonNumber b → a ≡ b
 -- 0 names acceptance alone
 abbrev pub ZeroIsAccepted : Type 0
 ZeroIsAccepted = (a : Answer) → (answerNumber a ≡ 0) ↔ (a ≡ Accepted)
-
--- an answer comes back from its number and place, and what comes back has the number
-abbrev pub AnswerComesBack : Type 0
-AnswerComesBack = (a : Answer) → answerFrom (answerNumber a) (answerPlace a) ≡ Is a
-
-abbrev pub FromItsNumber : Type 0
-FromItsNumber = (number place : ℕ) (a : Answer) → answerFrom number place ≡ Is a → answerNumber a ≡ number

@@ -1,14 +1,13 @@
 // What a call answers: accepted, or one refusal with its place.
 ghost use mathlib.Core.Path.{_≡_};
-ghost use Rattle.answer.specs.Refusals.{reasonNumber, answerNumber, answerPlace, reasonFrom, answerFrom};
+ghost use Rattle.answer.specs.Refusals.{reasonNumber, answerNumber, answerPlace};
 ghost use Rattle.answer.specs.Orders.{movedBy, cappedBehind};
 
 // Why something is refused (SPEC.md, "Refusals"). The order of the variants means nothing.
 //
-// A new reason changes together: this enum, `Reason::number`, `REASONS` with its count, and in specs/Refusals.antt
-// `reasonNumber` and `reasons`. The proof of `Reason::number` gets a line in each of its two lists. Nothing else
-// lists the reasons: that the numbers differ, and that the list has them all, is computed over the enum as it is
-// declared (proofs/Refusals.antt).
+// A new reason changes together: this enum, `Reason::number`, and `reasonNumber` in specs/Refusals.antt; the proof of
+// `Reason::number` gets a line in each of its two lists. No other proof lists the reasons: that their numbers differ is
+// computed over the enum as it is declared (proofs/Refusals.antt).
 pub enum Reason {
     WrongLength,
     NoDigit,
@@ -33,38 +32,6 @@ pub enum Reason {
     TooWide,
 }
 
-const REASON_COUNT: usize = 21;
-
-// Every reason once, in any order: a number is looked up here, never taken for a position.
-const REASONS: [Reason; REASON_COUNT] = [
-    Reason::WrongLength,
-    Reason::NoDigit,
-    Reason::WrongProduct,
-    Reason::UnknownSegment,
-    Reason::UnknownKind,
-    Reason::WrongBoxCheck,
-    Reason::WrongGeneralCheck,
-    Reason::NoText,
-    Reason::NotExpected,
-    Reason::FixedDiffers,
-    Reason::NoDate,
-    Reason::UnknownCode,
-    Reason::CountDiffers,
-    Reason::TotalDiffers,
-    Reason::FileFull,
-    Reason::FileTotalPassed,
-    Reason::BoardFull,
-    Reason::BoardTotalPassed,
-    Reason::FileOpen,
-    Reason::CheckTwoPlaces,
-    Reason::TooWide,
-];
-
-enum MaybeReason {
-    Is(Reason),
-    NoReason,
-}
-
 // The places of a payment record, G, that refusals 16 to 18 point at: its received centavos, and the issuer in its
 // barcode.
 pub const RECEIVED_PLACE: usize = 82;
@@ -75,12 +42,6 @@ pub const ISSUER_PLACE: usize = 53;
 pub enum Answer {
     Accepted,
     Refused(Reason, usize),
-}
-
-// What `Answer::from_number` finds.
-pub enum MaybeAnswer {
-    Is(Answer),
-    NoAnswer,
 }
 
 impl Reason {
@@ -114,21 +75,6 @@ impl Reason {
     }
 }
 
-fn reason_from(number: u64) -> MaybeReason
-    ensures { λ r. ⌜ r ≡ reasonFrom number ⌝ }
-{
-    let reasons = REASONS;
-    let mut i = 0;
-    while i < REASON_COUNT {
-        let reason = reasons[i];
-        if reason.number() as u64 == number {
-            return MaybeReason::Is(reason);
-        }
-        i += 1;
-    }
-    MaybeReason::NoReason
-}
-
 fn place_behind(before: usize, place: usize) -> usize
     ensures { λ r. ⌜ r ≡ cappedBehind before place ⌝ }
 {
@@ -159,20 +105,6 @@ impl Answer {
         match self {
             Answer::Accepted => 0,
             Answer::Refused(_, place) => place,
-        }
-    }
-
-    // The inverse of `number` and `place`: the answer that has them. Accepted for 0, whatever the place; none for a
-    // number that no refusal has.
-    pub fn from_number(number: u64, place: usize) -> MaybeAnswer
-        ensures { λ r. ⌜ r ≡ answerFrom number place ⌝ }
-    {
-        if number == 0 {
-            return MaybeAnswer::Is(Answer::Accepted);
-        }
-        match reason_from(number) {
-            MaybeReason::Is(why) => MaybeAnswer::Is(Answer::Refused(why, place)),
-            MaybeReason::NoReason => MaybeAnswer::NoAnswer,
         }
     }
 
