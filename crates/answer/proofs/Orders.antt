@@ -11,7 +11,7 @@ use Rattle.answer.specs.declared.Answer.{Answer}
 use Rattle.answer.specs.declared.Answer.the-variants.{Accepted, Refused}
 use Rattle.answer.specs.Limits.{capped}
 use Rattle.answer.specs.Refusals.{answerPlace}
-use Rattle.answer.specs.Orders.{require, _then_, firstRefusal, StopsAt, RequireAccepts, ThenAccepts, ThenRefuses, ThenGroups, FirstAccepts, FirstRefuses, FirstJoins, MovedNumber, MovedAccepts, MovedThen, MovedTwice, BehindIsExact, RefusalKeeps, AcceptedTakes, SeenIfAccepted}
+use Rattle.answer.specs.Orders.{require, _then_, firstRefusal, Each, StopsAt, RequireAccepts, ThenAccepts, ThenRefuses, ThenGroups, FirstAccepts, FirstRefuses, FirstJoins, MovedNumber, MovedAccepts, MovedThen, MovedTwice, BehindIsExact, RefusalKeeps, AcceptedTakes, SeenIfAccepted}
 
 -- an answer is accepted or refused, not both
 pub not-both : {X : Type 0} (a : Answer) {why : Reason} {p : ℕ} → a ≡ Refused why p → a ≡ Accepted → X
@@ -32,6 +32,20 @@ then-refuses (Refused w q) b why p = (λ e. inl e, λ h. ⊎-elim (λ e. e) (λ 
 pub then-groups : ThenGroups
 then-groups Accepted b c = refl
 then-groups (Refused why p) b c = refl
+
+pub then-accepted : (a : Answer) → a then Accepted ≡ a
+then-accepted Accepted = refl
+then-accepted (Refused why p) = refl
+
+-- what holds of every element
+pub each-map : {A : Type 0} {P Q : A → Type 0} → ((x : A) → P x → Q x) → (xs : List A) → Each P xs → Each Q xs
+each-map f [] h = tt
+each-map f (x ∷ xs) h = (f x (h .0), each-map f xs (h .1))
+
+pub each-both : {A : Type 0} {P Q R : A → Type 0} → ((x : A) → P x → Q x → R x) → (xs : List A) → Each P xs → Each Q xs
+    → Each R xs
+each-both f [] p q = tt
+each-both f (x ∷ xs) p q = (f x (p .0) (q .0), each-both f xs (p .1) (q .1))
 
 pub first-accepts : {A : Type 0} → FirstAccepts A
 first-accepts check [] = (λ e. tt, λ h. refl)

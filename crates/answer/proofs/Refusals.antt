@@ -1,4 +1,4 @@
--- A number names one reason, and none is 0: each computed over the reasons that the enum declares. Assumes nothing.
+-- A number names one reason, and none is 0: computed over the reasons that the enum declares. Assumes nothing.
 use Prim.Native.Nat.{_<_}
 use mathlib.Core.Path.{refl, ap}
 use native.Mathlib.Omega.{arith}
@@ -13,7 +13,7 @@ use Rattle.answer.proofs.Reason.{enum}
 pub numbers-differ : NumbersDiffer
 numbers-differ = one-value enum reasonNumber refl
 
-pub number-positive : (why : Reason) → 0 < reasonNumber why
+number-positive : (why : Reason) → 0 < reasonNumber why
 number-positive why = ltb-true 0 (reasonNumber why) (at enum (λ (r : Reason). ltb 0 (reasonNumber r)) refl why)
 
 pub zero-is-accepted : ZeroIsAccepted

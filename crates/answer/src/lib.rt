@@ -5,9 +5,9 @@ ghost use Rattle.answer.specs.Orders.{movedBy, cappedBehind};
 
 // Why something is refused (SPEC.md, "Refusals"). The order of the variants means nothing.
 //
-// A new reason changes together: this enum, `Reason::number`, and `reasonNumber` in specs/Refusals.antt. The proof of
-// `Reason::number` gets a line in each of its two lists. Nothing else in the crates lists the reasons, and nothing looks
-// one up by its number: that the numbers differ is computed over the enum as it is declared (proofs/Refusals.antt).
+// A new reason changes together: this enum, `Reason::number`, and `reasonNumber` in specs/Refusals.antt; the proof of
+// `Reason::number` gets a line in each of its two lists. No other proof lists the reasons: that their numbers differ is
+// computed over the enum as it is declared (proofs/Refusals.antt).
 pub enum Reason {
     WrongLength,
     NoDigit,

@@ -7,13 +7,13 @@ use mathlib.Core.Path.{_≡_, refl, sym, ap, _∙_}
 use native.Mathlib.Omega.{arith}
 use borrow.Author.Tests.{eqb-true, eqb-false, le-leb}
 use lib.Dec.{eqb}
-use lib.ListN.{length, take, drop, length-drop}
-use lib.Seq.{length-take-le}
+use lib.ListN.{length, take}
 use Rattle.decimal.specs.declared.Class.the-variants.{Digit}
 use Rattle.decimal.specs.Bytes.{isOf, all}
 use Rattle.decimal.specs.Places.{places}
 use Rattle.decimal.specs.Numbers.{numberOf}
 use Rattle.decimal.proofs.Numbers.{number-fits}
+use Rattle.decimal.proofs.Places.{length-piece}
 use Rattle.calendar.specs.declared.Date.{Date}
 use Rattle.calendar.specs.AnyYear.{DateInAnyYear}
 use Rattle.calendar.specs.Dates.{isLeap, daysIn, dateOf, isFound}
@@ -49,6 +49,6 @@ pub any-year-date : (bs : List ℕ) {c m d : ℕ} → length bs ≡ 8 → all (i
     → d ≡ numberOf (places 7 8 bs) → DateInAnyYear c m d → true ≡ isFound (dateOf bs)
 any-year-date bs n a ec em ed h =
     let y = numberOf (places 3 4 bs) in
-    let l : length (places 3 4 bs) ≡ 2 = length-take-le 2 (drop 2 bs) (omega (arith, length-drop 2 bs)) in
+    let l : length (places 3 4 bs) ≡ 2 = length-piece 2 2 bs (omega arith) in
     let small : y < 10 ^ 2 = rw l at (number-fits (places 3 4 bs)) in
     ap isFound (judged bs n a (as-spelled bs n ec refl em ed) (sym (h y (omega arith))))

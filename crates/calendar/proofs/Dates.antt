@@ -8,7 +8,7 @@ use native.Mathlib.Omega.{arith}
 use borrow.Author.Tests.{eq-eqb, ne-eqb, le-leb, eqb-true, leb-true, leb-false}
 use lib.Dec.{eqb, leb}
 use lib.ListN.{length, getD, take, drop, length-append, length-drop, take-append-drop}
-use lib.Seq.{length-take-le, take-all, take-at, drop-at, drop-drop, drop-cons}
+use lib.Seq.{take-all, take-at, drop-at, drop-drop, drop-cons}
 use Rattle.decimal.specs.declared.Class.the-variants.{Digit}
 use Rattle.decimal.specs.Bytes.{within, isOf, all}
 use Rattle.decimal.specs.Places.{places}
@@ -16,6 +16,7 @@ use Rattle.decimal.specs.Numbers.{valueOf, numberOf, digitsOf}
 use Rattle.decimal.proofs.Bytes.{all-joins, all-of-part, all-at}
 use Rattle.decimal.proofs.Finite.{below, at}
 use Rattle.decimal.proofs.Numbers.{digit-range, value-digit, number-of-digits, digits-of-number, digits-fill}
+use Rattle.decimal.proofs.Places.{length-piece}
 use Rattle.calendar.specs.declared.Date.{Date}
 use Rattle.calendar.specs.declared.MaybeDate.the-variants.{On, NoDate}
 use Rattle.calendar.specs.Dates.{isLeap, months, daysIn, isDate, spelled, dateOf, spelling, DateIsItsSpelling, SpellingIsItsDate}
@@ -72,7 +73,7 @@ module _ (bs : List ℕ) (n : length bs ≡ 8) (a : all (isOf Digit) bs ≡ true
   part-spelled : (from count : ℕ) → from + count ≤ 8
       → digitsOf count (numberOf (take count (drop from bs))) ≡ take count (drop from bs)
   part-spelled from count fits =
-      let l : length (take count (drop from bs)) ≡ count = length-take-le count (drop from bs) (omega (arith, length-drop from bs)) in
+      let l : length (take count (drop from bs)) ≡ count = length-piece from count bs (omega arith) in
       rw l at (digits-of-number (take count (drop from bs)) (all-of-part (isOf Digit) from count bs a))
 
   spelled-back : spelling (spelled bs) ≡ bs

@@ -1,13 +1,10 @@
--- A fact about every number below a numeral, from a test that antt computes over them all; and facts about tests.
--- Assumes nothing.
-use Prim.Native.Nat.{ℕ, zero, suc, _≤_, _<_}
-use mathlib.Core.Bool.{Bool, true, false, cond, not, _&&_, _||_, and-eq-true-iff}
-use mathlib.Core.Logic.{_⊎_, inl, inr, ⊎-elim}
+-- A fact about every number below a numeral, from a test that antt computes over them all. Assumes nothing.
+use Prim.Native.Nat.{ℕ, zero, suc, _<_}
+use mathlib.Core.Bool.{Bool, true, false, cond, not, _&&_, and-eq-true-iff}
+use mathlib.Core.Logic.{⊎-elim}
 use mathlib.Core.Path.{_≡_, refl, sym}
 use native.Mathlib.Nat.{not-suc-le-zero, le-of-suc-le-suc, eq-or-lt-of-le}
-use native.Mathlib.Omega.{arith}
-use borrow.Author.Tests.{ltb-true, ltb-false}
-use lib.Dec.{ltb}
+pub use Rattle.answer.proofs.Tests.{never, or-cases, lt-or-le}
 
 abbrev pub below : ℕ → (ℕ → Bool) → Bool
 below zero test = true
@@ -36,19 +33,3 @@ pub agrees : (t u : Bool) → cond t u (not u) ≡ true → t ≡ u
 agrees true u h = sym h
 agrees false true h = h
 agrees false false h = refl
-
--- two cases
-pub or-cases : (t u : Bool) → (t || u) ≡ true → (t ≡ true) ⊎ (u ≡ true)
-or-cases true u h = inl refl
-or-cases false u h = inr h
-
-pub lt-or-le : (a b : ℕ) → (a < b) ⊎ (b ≤ a)
-lt-or-le a b = go (ltb a b) refl
-  where
-    go : (t : Bool) → ltb a b ≡ t → (a < b) ⊎ (b ≤ a)
-    go true e = inl (ltb-true a b e)
-    go false e = inr (ltb-false a b e)
-
--- from a test that both held and failed
-pub never : {A : Type 0} → false ≡ true → A
-never e = let z : _≡_ {A = ℕ} 0 1 = cc in absurd (omega arith)

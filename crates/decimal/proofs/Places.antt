@@ -4,24 +4,50 @@ use mathlib.Core.Bool.{Bool, true}
 use mathlib.Core.List.{List, [], _∷_, _++_, append-assoc, append-nil}
 use mathlib.Core.Logic.{inl, inr, ⊎-elim}
 use mathlib.Core.Path.{_≡_, refl, ap, sym, _∙_}
+use native.Mathlib.Nat.{not-suc-le-zero, le-of-suc-le-suc}
 use native.Mathlib.Omega.{arith}
 use borrow.Author.Tests.{le-leb, lt-leb}
 use borrow.Rule.Slice.PartMut.{putMid}
 use lib.ListN.{length, getD, set, take, drop, length-append, length-drop, drop-of-length-le, List·getD-append}
-use lib.Seq.{length-take-le, take-set-lt, take-set-le, drop-set-lt, drop-set-add, set-append-left, getD-take, getD-drop, getD-append-add, take-append-seam, drop-append-add, drop-drop, take-length}
+use lib.Seq.{length-take-le, take-set-lt, take-set-le, drop-set-lt, drop-set-add, set-append-left, getD-take, getD-drop, getD-append-add, take-append-seam, drop-append-add, drop-drop, take-all, take-take, take-length}
+use Rattle.answer.proofs.Tests.{lt-or-le}
 use Rattle.decimal.specs.Bytes.{all}
 use Rattle.decimal.specs.OneByte.{Beside, GatherOutside, GatherWithin}
 use Rattle.decimal.specs.Places.{Stretch, widthOf, partAt, gather, putAt, PutsJoin}
-use Rattle.decimal.proofs.Finite.{lt-or-le}
-use Rattle.decimal.proofs.Bytes.{all-joins, all-of-part}
+use Rattle.decimal.proofs.Bytes.{all-joins, all-of-part, row-passes}
 
 -- pieces that are equal, joined
 pub joins : {a b c d : List ℕ} → a ≡ b → c ≡ d → a ++ c ≡ b ++ d
 joins p q = cc
 
+-- a piece by its first index and its length; a piece of a piece
+pub length-piece : (from count : ℕ) (l : List ℕ) → from + count ≤ length l → length (take count (drop from l)) ≡ count
+length-piece from count l h = length-take-le count (drop from l) (omega (arith, length-drop from l))
+
+drop-take : (m w : ℕ) (l : List ℕ) → m ≤ w → drop m (take w l) ≡ take (w - m) (drop m l)
+drop-take zero w l h = let e : w - 0 ≡ w = omega arith in rw e
+drop-take (suc m) zero l h = absurd (not-suc-le-zero h)
+drop-take (suc m) (suc w) [] h = sym (take-all (suc w - suc m) [] (omega arith))
+drop-take (suc m) (suc w) (x ∷ l) h =
+    let e : suc w - suc m ≡ w - m = omega arith in
+    rw e (drop-take m w l (le-of-suc-le-suc h))
+
+pub part-of-part : (l : List ℕ) (a w m n : ℕ) → m + n ≤ w → take n (drop m (take w (drop a l))) ≡ take n (drop (a + m) l)
+part-of-part l a w m n h =
+    rw (drop-take m w (drop a l) (omega arith), drop-drop m a l) (take-take n (w - m) (drop (a + m) l) (omega arith))
+
+-- a test that every byte of a piece passes, within the piece, and over two pieces side by side
+pub all-inner : (ok : ℕ → Bool) (l : List ℕ) (a w m n : ℕ) → m + n ≤ w → all ok (take w (drop a l)) ≡ true
+    → all ok (take n (drop (a + m) l)) ≡ true
+all-inner ok l a w m n h t = ap (all ok) (sym (part-of-part l a w m n h)) ∙ all-of-part ok m n (take w (drop a l)) t
+
+pub all-side-by-side : (ok : ℕ → Bool) (l : List ℕ) (a m n : ℕ) → all ok (take m (drop a l)) ≡ true
+    → all ok (take n (drop (a + m) l)) ≡ true → all ok (take (m + n) (drop a l)) ≡ true
+all-side-by-side ok l a m n t u = row-passes ok (drop a l) m n refl (rw (drop-drop m a l) u) t
+
 pub length-part : (s : Stretch) (l : List ℕ) → 1 ≤ s .first → s .first ≤ s .last → s .last ≤ length l
     → length (partAt s l) ≡ widthOf s
-length-part s l p q r = length-take-le (widthOf s) (drop (s .first - 1) l) (omega (arith, length-drop (s .first - 1) l))
+length-part s l p q r = length-piece (s .first - 1) (widthOf s) l (omega arith)
 
 pub part-beside : (s : Stretch) (l : List ℕ) (i d : ℕ) → Beside s i → partAt s (set l i d) ≡ partAt s l
 part-beside s l i d (inl p) = ap (take (widthOf s)) (drop-set-lt (s .first - 1) l i d (omega arith))
@@ -123,9 +149,14 @@ put-mid at piece l {n} {q} e h f =
     let k : at + n - at ≡ length piece = omega arith in
     rw (k, f, drop-drop (length piece) at l) (sym (put-fits at piece l (omega arith)))
 
+-- a buffer into which as many bytes were copied, and a part of one
+pub copied-whole : (piece out : List ℕ) {q : List ℕ} → length piece ≡ length out
+    → q ≡ take (length piece) piece ++ drop (length piece) out → q ≡ piece
+copied-whole piece out n e =
+    let past : length out ≤ length piece = omega arith in
+    e ∙ rw (take-length piece, drop-of-length-le out past) (append-nil piece)
+
 pub copied : (at : ℕ) (piece l : List ℕ) {q : List ℕ} → at + length piece ≤ length l
     → q ≡ take (length piece) piece ++ drop (length piece) (take (at + length piece - at) (drop at l)) → q ≡ piece
 copied at piece l h e =
-    let k : at + length piece - at ≡ length piece = omega arith in
-    let n : length (take (length piece) (drop at l)) ≤ length piece = omega (arith, length-take-le (length piece) (drop at l) (omega (arith, length-drop at l))) in
-    e ∙ rw (k, take-length piece, drop-of-length-le (take (length piece) (drop at l)) n) (append-nil piece)
+    copied-whole piece (take (at + length piece - at) (drop at l)) (sym (length-piece at (at + length piece - at) l (omega arith) ∙ omega arith)) e

@@ -3,8 +3,8 @@ use Prim.Native.Nat.{_+_, _-_, _%_, _≤_}
 use mathlib.Core.Path.{_≡_, _∙_}
 use native.Mathlib.Omega.{arith}
 use borrow.Author.Needs.{needs}
-use lib.ListN.{length, take, drop, length-drop}
-use lib.Seq.{length-take-le}
+use lib.ListN.{length, take, drop}
+use Rattle.decimal.proofs.Places.{length-piece}
 use Rattle.modulus.proofs.Sums.{blocks-start, blocks-step, sum-small, remainder-small}
 use Rattle.modulus.specs.Checks.{sizeOf, weightedSum}
 use Rattle.modulus.proofs.weighted_remainder.Statement.{statement}
@@ -47,7 +47,7 @@ add-remainder c =
     let end = c .before .before .before .before .loop .end in
     let start = c .before .before .block-start .result in
     let behind = (a .right % 8 + (length bs - end)) % 8 in
-    let l : length (take (end - start) (drop start bs)) ≡ end - start = length-take-le (end - start) (drop start bs) (omega (arith, length-drop start bs)) in
+    let l : length (take (end - start) (drop start bs)) ≡ end - start = length-piece start (end - start) bs (omega arith) in
     let small = sum-small (a .m) behind (take (end - start) (drop start bs)) in
     record { fits = rw (c .short-sum .ensures) (omega arith) }
 
