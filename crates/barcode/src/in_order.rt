@@ -7,6 +7,7 @@ use crate::parts;
 use answer::Answer;
 use answer::Reason;
 
+// A refusal and its place.
 pub(crate) struct Refusal {
     pub why: Reason,
     pub place: usize,

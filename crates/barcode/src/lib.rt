@@ -35,6 +35,7 @@ pub struct Fields {
     pub due: MaybeDate,
 }
 
+// The fields of an accepted barcode, or the first refusal and its place; 0 where there is no place.
 pub enum Decoded {
     Read(Fields),
     Refused(Reason, usize),
