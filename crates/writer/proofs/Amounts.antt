@@ -29,7 +29,8 @@ use Rattle.fields.proofs.Trips.{fields-make-the-record, made-is-accepted}
 use Rattle.file.specs.Files.{figuresOf, closingAnswer}
 use Rattle.file.proofs.Files.{closing-accepts, figures-fit}
 use Rattle.writer.specs.declared.Writer.{Writer}
-use Rattle.writer.specs.Writers.{callAnswer, countBytes, trailerBytes, WrittenAmountsAreRead, TrailerShowsTheFigures}
+use Rattle.writer.specs.Writers.{callAnswer, countBytes, trailerBytes}
+use Rattle.writer.specs.Promises.{WrittenAmountsAreRead, TrailerShowsTheFigures}
 use Rattle.writer.proofs.Written.{making-is, written-is-accepted}
 
 -- One field: what is written for two amounts is as long, and tells them apart.
@@ -104,10 +105,10 @@ amounts-back (f ∷ fs) given xs ys a b e =
     (amounts-back fs rest (amountsAfter f xs) (amountsAfter f ys) (pa .1) (pb .1) (cut .1))
 
 -- what was made has the amounts it was made of
-read-back : (r : Record) (given amounts : List ℕ) (room : ℕ) → makeAnswer r given amounts room ≡ Accepted
+read-back : (r : Record) (given amounts : List ℕ) (size : ℕ) → makeAnswer r given amounts size ≡ Accepted
     → moneys (layoutOf r) (amountsIn (layoutOf r) (madeOf (layoutOf r) given amounts)) ≡ moneys (layoutOf r) amounts
-read-back r given amounts room e =
-    let making = making-is r given amounts room e in
+read-back r given amounts size e =
+    let making = making-is r given amounts size e in
     let made = made-is-accepted r given amounts (making .0) (making .1) in
     let rec = madeOf (layoutOf r) given amounts in
     let again = fields-make-the-record r rec (made .0) (made .1) in
@@ -115,8 +116,8 @@ read-back r given amounts room e =
 
 pub written-amounts-are-read : WrittenAmountsAreRead
 unfolding layoutOf rowAt table
-written-amounts-are-read given received tariff room e =
-    let back = read-back Payment given (received ∷ tariff ∷ []) room e in
+written-amounts-are-read given received tariff size e =
+    let back = read-back Payment given (received ∷ tariff ∷ []) size e in
     (ap (λ (l : List ℕ). getD l 0 0) back, ap (λ (l : List ℕ). getD l 1 0) back)
 
 -- The trailer: its count is its field bytes, its total its one amount.
@@ -128,15 +129,15 @@ count-written : (w : Writer) → closingAnswer (w .file) ≡ Accepted → number
 unfolding givenLength layoutOf
 count-written w c = number-of-digits 6 (figuresOf (w .file) .count) (figures-fit (w .file) (closing-accepts (w .file) .0 c) .0)
 
-total-back : (w : Writer) (room : ℕ) → makeAnswer Trailer (countBytes w) (figuresOf (w .file) .total ∷ 0 ∷ []) room ≡ Accepted → trailerShown (trailerBytes w) .total ≡ w .file .total
+total-back : (w : Writer) (size : ℕ) → makeAnswer Trailer (countBytes w) (figuresOf (w .file) .total ∷ 0 ∷ []) size ≡ Accepted → trailerShown (trailerBytes w) .total ≡ w .file .total
 unfolding layoutOf rowAt table
-total-back w room e = ap (λ (l : List ℕ). getD l 0 0) (read-back Trailer (countBytes w) (figuresOf (w .file) .total ∷ 0 ∷ []) room e)
+total-back w size e = ap (λ (l : List ℕ). getD l 0 0) (read-back Trailer (countBytes w) (figuresOf (w .file) .total ∷ 0 ∷ []) size e)
 
 pub trailer-shows-the-figures : TrailerShowsTheFigures
-trailer-shows-the-figures w room e =
-    let door = callAnswer w Trailer (givenLength Trailer) room in
-    let make = makeAnswer Trailer (countBytes w) (figuresOf (w .file) .total ∷ 0 ∷ []) room in
-    let behind-door = then-accepts door (closingAnswer (w .file) then make) .0 e .1 in
-    let both = then-accepts (closingAnswer (w .file)) make .0 behind-door in
-    let joined = written-is-accepted Trailer (countBytes w) (figuresOf (w .file) .total ∷ 0 ∷ []) room (both .1) .1 in
-    (ap numberOf (sym (count-back (trailerBytes w)) ∙ joined) ∙ count-written w (both .0), total-back w room (both .1))
+trailer-shows-the-figures w size e =
+    let call = callAnswer w Trailer (givenLength Trailer) size in
+    let make = makeAnswer Trailer (countBytes w) (figuresOf (w .file) .total ∷ 0 ∷ []) size in
+    let behind-call = then-accepts call (closingAnswer (w .file) then make) .0 e .1 in
+    let both = then-accepts (closingAnswer (w .file)) make .0 behind-call in
+    let joined = written-is-accepted Trailer (countBytes w) (figuresOf (w .file) .total ∷ 0 ∷ []) size (both .1) .1 in
+    (ap numberOf (sym (count-back (trailerBytes w)) ∙ joined) ∙ count-written w (both .0), total-back w size (both .1))

@@ -1,4 +1,4 @@
-pub mod Doors
-pub mod Written
 pub mod Amounts
+pub mod Calls
 pub mod Trailers
+pub mod Written

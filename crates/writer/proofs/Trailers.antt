@@ -6,31 +6,31 @@ use mathlib.Core.Path.{_≡_, refl, sym, ap, _∙_}
 use native.Mathlib.Omega.{arith}
 use lib.Dec.{lit<}
 use lib.ListN.{length, getD}
-use Rattle.answer.specs.declared.Reason.the-variants.{NoDigit}
 use Rattle.answer.specs.declared.Answer.the-variants.{Accepted}
-use Rattle.answer.specs.Orders.{_then_, behind}
-use Rattle.answer.proofs.Orders.{then-accepts, first-accepts, moved-accepts}
+use Rattle.answer.specs.Orders.{_then_}
+use Rattle.answer.proofs.Orders.{then-accepts}
 use Rattle.decimal.specs.declared.Class.the-variants.{Digit}
-use Rattle.decimal.specs.Bytes.{isOf, all, eachIs}
+use Rattle.decimal.specs.Bytes.{isOf, all}
 use Rattle.decimal.specs.Numbers.{numberOf, digitsOf}
-use Rattle.decimal.proofs.Bytes.{each-accepts}
 use Rattle.decimal.proofs.Numbers.{digits-of-number, number-fits}
 use Rattle.layout.specs.declared.MaybeRecord.the-variants.{Is}
 use Rattle.layout.specs.declared.Record.the-variants.{Trailer}
 use Rattle.layout.specs.Layouts.{recordLength, namedBy, noField, layoutOf, givenLength, joinedOf, rowAt, table, countRow, totalRow}
 use Rattle.layout.proofs.Layouts.{row-lies}
-use Rattle.kinds.specs.Kinds.{kindAnswer}
-use Rattle.record.specs.Records.{fieldBytes, fieldAnswer, layoutAnswer, recordAnswer}
+use Rattle.record.specs.Records.{fieldBytes, layoutAnswer, recordAnswer}
 use Rattle.record.specs.Values.{trailerShown}
 use Rattle.record.proofs.FieldBytes.{part-length}
+use Rattle.record.proofs.KindRules.{digits}
+use Rattle.record.proofs.Shown.{layout-accepts}
 use Rattle.fields.specs.Promises.{amountsIn}
 use Rattle.fields.specs.Making.{madeOf, makingAnswer, makeAnswer}
 use Rattle.file.specs.Files.{figuresOf, closingAnswer}
 use Rattle.file.proofs.Files.{closing-accepts}
 use Rattle.writer.specs.declared.Writer.{Writer}
-use Rattle.writer.specs.Writers.{writerExpects, callAnswer, countBytes, FieldsWriteTheTrailer}
+use Rattle.writer.specs.Writers.{writerExpects, callAnswer, countBytes}
+use Rattle.writer.specs.Promises.{FieldsWriteTheTrailer}
 use Rattle.writer.proofs.Amounts.{count-back}
-use Rattle.writer.proofs.Written.{body, made, door-opens, makes, joined-length}
+use Rattle.writer.proofs.Written.{body, made, call-accepted, makes, joined-length}
 
 -- its count has six digits, its total 17
 module _ (rec : List ℕ) (n : length rec ≡ recordLength) where
@@ -43,13 +43,10 @@ module _ (rec : List ℕ) (n : length rec ≡ recordLength) where
   total-width = part-length (rowAt totalRow) rec (row-lies totalRow noField (lit< tt)) n
 
 count-digits : (rec : List ℕ) → layoutAnswer Trailer rec ≡ Accepted → all (isOf Digit) (fieldBytes (rowAt countRow) rec) ≡ true
-unfolding rowAt table layoutOf fieldAnswer kindAnswer
-count-digits rec e =
-    let bs = fieldBytes (rowAt countRow) rec in
-    let each = first-accepts (fieldAnswer rec) (layoutOf Trailer) .0 e in
-    each-accepts (isOf Digit) NoDigit 1 bs .0 (moved-accepts (behind 1) (eachIs (isOf Digit) NoDigit 1 bs) .0 (each .1 .0))
+unfolding rowAt table layoutOf
+count-digits rec e = digits (fieldBytes (rowAt countRow) rec) .0 (layout-accepts Trailer rec .0 e .1 .0)
 
--- one amount; behind it the writer gives a 0 that no field givenWidth
+-- one amount; behind it the writer gives a 0 that no field takes
 one-amount : (rec given : List ℕ)
     → (makingAnswer (layoutOf Trailer) given (amountsIn (layoutOf Trailer) rec) ≡ makingAnswer (layoutOf Trailer) given (trailerShown rec .total ∷ 0 ∷ []))
     × (madeOf (layoutOf Trailer) given (amountsIn (layoutOf Trailer) rec) ≡ madeOf (layoutOf Trailer) given (trailerShown rec .total ∷ 0 ∷ []))
@@ -85,12 +82,12 @@ fields-write-the-trailer w rec accepts named opened c t =
     let both = made w Trailer rec amounts accepts named in
     let same = one-amount rec given in
     let expected : writerExpects (w .stage) Trailer ≡ true = rw opened in
-    let door : callAnswer w Trailer (givenLength Trailer) recordLength ≡ Accepted =
-    ap (λ (k : ℕ). callAnswer w Trailer k recordLength) (sym (joined-length Trailer rec n)) ∙ door-opens w Trailer rec amounts accepts named expected in
+    let call : callAnswer w Trailer (givenLength Trailer) recordLength ≡ Accepted =
+    ap (λ (k : ℕ). callAnswer w Trailer k recordLength) (sym (joined-length Trailer rec n)) ∙ call-accepted w Trailer rec amounts accepts named expected in
     let count = count-is w rec accepts named c in
     let make : makeAnswer Trailer (countBytes w) (figuresOf (w .file) .total ∷ 0 ∷ []) recordLength ≡ Accepted =
     rw (count, ← t) (makes w Trailer rec amounts accepts named (sym (same .0) ∙ both .0)) in (
       then-accepts (callAnswer w Trailer (givenLength Trailer) recordLength) (closingAnswer (w .file) then makeAnswer Trailer (countBytes w) (figuresOf (w .file) .total ∷ 0 ∷ []) recordLength) .1
-          (door, then-accepts (closingAnswer (w .file)) (makeAnswer Trailer (countBytes w) (figuresOf (w .file) .total ∷ 0 ∷ []) recordLength) .1 (closes w rec accepts named c t, make)),
+          (call, then-accepts (closingAnswer (w .file)) (makeAnswer Trailer (countBytes w) (figuresOf (w .file) .total ∷ 0 ∷ []) recordLength) .1 (closes w rec accepts named c t, make)),
       rw (count, ← t) (sym (same .1) ∙ both .1),
     )

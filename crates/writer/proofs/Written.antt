@@ -22,11 +22,12 @@ use Rattle.record.specs.Records.{layoutAnswer, recordAnswer}
 use Rattle.record.specs.Values.{paymentShown}
 use Rattle.fields.specs.Promises.{amountsIn}
 use Rattle.fields.specs.Making.{madeOf, makingAnswer, makeAnswer}
-use Rattle.record.proofs.Shown.{accepted-is, named-is}
+use Rattle.record.proofs.Shown.{accepted-named, named-is}
 use Rattle.fields.proofs.Trips.{fields-make-the-record, made-is-accepted}
 use Rattle.file.specs.Files.{fileAnswer}
 use Rattle.writer.specs.declared.Writer.{Writer}
-use Rattle.writer.specs.Writers.{freshWriter, writerExpects, callAnswer, WrittenIsAccepted, FieldsWriteTheHeader, FieldsWriteThePayment}
+use Rattle.writer.specs.Writers.{freshWriter, writerExpects, callAnswer}
+use Rattle.writer.specs.Promises.{WrittenIsAccepted, FieldsWriteTheHeader, FieldsWriteThePayment}
 
 pub first-byte : (r : Record) (given amounts : List ℕ) → getD (madeOf (layoutOf r) given amounts) 0 0 ≡ markOf r
 unfolding layoutOf
@@ -38,19 +39,19 @@ first-byte Trailer given amounts = refl
 accepted : (r : Record) (rec : List ℕ) → length rec ≡ recordLength → getD rec 0 0 ≡ markOf r → layoutAnswer r rec ≡ Accepted → recordAnswer rec ≡ Accepted
 accepted r rec n m b = named-is r rec n (ap namedBy m ∙ mark-names r .0) ∙ b
 
--- an accepted making: as many field bytes as are asked, and every field accepted
-pub making-is : (r : Record) (given amounts : List ℕ) (room : ℕ) → makeAnswer r given amounts room ≡ Accepted
+-- an accepted making: as many field bytes as the record takes, and every field accepted
+pub making-is : (r : Record) (given amounts : List ℕ) (size : ℕ) → makeAnswer r given amounts size ≡ Accepted
     → (length given ≡ givenLength r) × (makingAnswer (layoutOf r) given amounts ≡ Accepted)
 unfolding makeAnswer
-making-is r given amounts room e =
-    let lengths = eqb room recordLength && eqb (length given) (givenLength r) in
+making-is r given amounts size e =
+    let lengths = eqb size recordLength && eqb (length given) (givenLength r) in
     let both = then-accepts (require lengths WrongLength 0) (makingAnswer (layoutOf r) given amounts) .0 e in
     let t = asked-accepts lengths WrongLength 0 .0 (both .0) in
-    (eqb-true (length given) (givenLength r) (and-eq-true-iff (eqb room recordLength) (eqb (length given) (givenLength r)) .0 t .1), both .1)
+    (eqb-true (length given) (givenLength r) (and-eq-true-iff (eqb size recordLength) (eqb (length given) (givenLength r)) .0 t .1), both .1)
 
 pub written-is-accepted : WrittenIsAccepted
-written-is-accepted r given amounts room e =
-    let making = making-is r given amounts room e in
+written-is-accepted r given amounts size e =
+    let making = making-is r given amounts size e in
     let made = made-is-accepted r given amounts (making .0) (making .1) in
     (accepted r (madeOf (layoutOf r) given amounts) (made .0) (first-byte r given amounts) (made .1), made .2)
 
@@ -81,7 +82,7 @@ joined-length r rec n = gathered-length (planOf r) rec (rw n (lies-inside r))
 -- The fields of an accepted record, with any amounts that make it as its own do.
 module _ (w : Writer) (r : Record) (rec amounts : List ℕ) (accepts : recordAnswer rec ≡ Accepted) (named : namedBy (getD rec 0 0) ≡ Is r) where
   pub body : (length rec ≡ recordLength) × (layoutAnswer r rec ≡ Accepted)
-  body = let both = accepted-is rec accepts in (both .0, rw named at (both .1))
+  body = accepted-named r rec accepts named
 
   pub made : (makingAnswer (layoutOf r) (joinedOf r rec) (amountsIn (layoutOf r) rec) ≡ Accepted)
       × (madeOf (layoutOf r) (joinedOf r rec) (amountsIn (layoutOf r) rec) ≡ rec)
@@ -90,8 +91,8 @@ module _ (w : Writer) (r : Record) (rec amounts : List ℕ) (accepts : recordAns
   lengths-right : eqb recordLength recordLength && eqb (length (joinedOf r rec)) (givenLength r) ≡ true
   lengths-right = let n = joined-length r rec (body .0) in rw n (and-eq-true-iff (eqb recordLength recordLength) (eqb (givenLength r) (givenLength r)) .1 (refl, eq-eqb (givenLength r) (givenLength r) refl))
 
-  pub door-opens : writerExpects (w .stage) r ≡ true → callAnswer w r (length (joinedOf r rec)) recordLength ≡ Accepted
-  door-opens t =
+  pub call-accepted : writerExpects (w .stage) r ≡ true → callAnswer w r (length (joinedOf r rec)) recordLength ≡ Accepted
+  call-accepted t =
       then-accepts (require (eqb recordLength recordLength && eqb (length (joinedOf r rec)) (givenLength r)) WrongLength 0) (require (writerExpects (w .stage) r) NotExpected 1) .1
       (asked-accepts (eqb recordLength recordLength && eqb (length (joinedOf r rec)) (givenLength r)) WrongLength 0 .1 lengths-right, asked-accepts (writerExpects (w .stage) r) NotExpected 1 .1 t)
 
@@ -117,21 +118,21 @@ fields-write-the-header rec accepts named =
     let both = made freshWriter Header rec (0 ∷ 0 ∷ []) accepts named in
     let same = header-amounts rec in (
       then-accepts (callAnswer freshWriter Header (length (joinedOf Header rec)) recordLength) (makeAnswer Header (joinedOf Header rec) (0 ∷ 0 ∷ []) recordLength) .1
-          (door-opens freshWriter Header rec (0 ∷ 0 ∷ []) accepts named refl, makes freshWriter Header rec (0 ∷ 0 ∷ []) accepts named (sym (same .0) ∙ both .0)),
+          (call-accepted freshWriter Header rec (0 ∷ 0 ∷ []) accepts named refl, makes freshWriter Header rec (0 ∷ 0 ∷ []) accepts named (sym (same .0) ∙ both .0)),
       sym (same .1) ∙ both .1,
     )
 
 pub fields-write-the-payment : FieldsWriteThePayment
-fields-write-the-payment w rec accepts named opened room =
+fields-write-the-payment w rec accepts named opened size =
     let amounts = paymentShown rec .received ∷ paymentShown rec .tariff ∷ [] in
     let given = joinedOf Payment rec in
     let both = made w Payment rec amounts accepts named in
     let same = payment-amounts rec in
     let expected : writerExpects (w .stage) Payment ≡ true = rw opened in
-    let asks : makingAnswer (layoutOf Payment) given amounts ≡ Accepted = rw same at (both .0) in (
+    let makes-it : makingAnswer (layoutOf Payment) given amounts ≡ Accepted = rw same at (both .0) in (
       then-accepts (callAnswer w Payment (length given) recordLength) (makeAnswer Payment given amounts recordLength then fileAnswer (w .file) (paymentShown rec .received)) .1 (
-        door-opens w Payment rec amounts accepts named expected,
-        then-accepts (makeAnswer Payment given amounts recordLength) (fileAnswer (w .file) (paymentShown rec .received)) .1 (makes w Payment rec amounts accepts named asks, room),
+        call-accepted w Payment rec amounts accepts named expected,
+        then-accepts (makeAnswer Payment given amounts recordLength) (fileAnswer (w .file) (paymentShown rec .received)) .1 (makes w Payment rec amounts accepts named makes-it, size),
       ),
       ap (madeOf (layoutOf Payment) given) (sym same) ∙ both .1,
     )

@@ -19,15 +19,15 @@ is-expected-requires c κs = search needs
 
 returns-3 : tie.Need-returns-3
 returns-3 c =
-    let room = eq-eqb _ _ (c .before .before .before .before .if1 .left) in
+    let size = eq-eqb _ _ (c .before .before .before .before .if1 .left) in
     let given = eq-eqb _ _ (c .before .before .if2 .left ∙ c .before .before .before .given-length .ensures) in
-    rw (room, given, sym (c .before .is-expected .ensures) ∙ not-true _ (c .if3 .taken))
+    rw (size, given, sym (c .before .is-expected .ensures) ∙ not-true _ (c .if3 .taken))
 
 returns-4 : tie.Need-returns-4
 returns-4 c =
-    let room = eq-eqb _ _ (c .before .before .before .before .if1 .left) in
+    let size = eq-eqb _ _ (c .before .before .before .before .if1 .left) in
     let given = eq-eqb _ _ (c .before .before .if2 .left ∙ c .before .before .before .given-length .ensures) in
-    rw (room, given, sym (c .before .is-expected .ensures) ∙ not-false _ (c .if3 .left))
+    rw (size, given, sym (c .before .is-expected .ensures) ∙ not-false _ (c .if3 .left))
 
 pub check-call-spec : {M : Type 1} → statement M
 check-call-spec =
