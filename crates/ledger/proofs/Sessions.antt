@@ -24,34 +24,35 @@ use Rattle.record.specs.declared.Decoded.{Decoded}
 use Rattle.record.specs.Records.{recordAnswer}
 use Rattle.record.specs.Values.{trailerShown, recordShown, shownUnlessRefused, decodedRecord}
 use Rattle.record.proofs.Shown.{accepted-is}
+use Rattle.file.specs.Files.{countPlace, totalPlace}
 use Rattle.session.specs.declared.Session.{Session}
 use Rattle.session.specs.Sessions.{closedAt, sessionExpects, sessionAnswer, sessionWith, takeAnswer, takeOf, abandonOf}
 use Rattle.ledger.specs.Ledgers.{Filed, Ledger, receivedIn, trailerStateAnswer, ledgerAnswer, taking, abandoning}
 use Rattle.ledger.specs.Promises.{ledgerOf, TrueTrailersOnly, RefusalKeepsSession, OnlyTrailersShow, TrailersShowAll, NothingShowsBefore, AbandonKeepsBoard, AbandonDropsFile, AbandonNothing, FinishKeepsSession, FinishAnswers}
-use Rattle.ledger.proofs.Agreement.{next-answer-is-the-books}
+use Rattle.ledger.proofs.Agreement.{next-answer-is-the-ledgers}
 
 -- The trailer.
 
--- both figures are asked
-figures-asked : (f : Filed) (rec : List ℕ)
+-- both figures are checked
+figures-accept : (f : Filed) (rec : List ℕ)
     → (trailerStateAnswer f rec ≡ Accepted) ↔ ((trailerShown rec .count ≡ length (f .payments) + 2) × (trailerShown rec .total ≡ receivedIn (f .payments)))
-figures-asked f rec =
+figures-accept f rec =
     let count = eqb (trailerShown rec .count) (length (f .payments) + 2) in
     let total = eqb (trailerShown rec .total) (receivedIn (f .payments)) in
-    let two = then-accepts (require count CountDiffers 2) (require total TotalDiffers 8) in
-    let one = asked-accepts count CountDiffers 2 in
-    let other = asked-accepts total TotalDiffers 8 in (
+    let two = then-accepts (require count CountDiffers countPlace) (require total TotalDiffers totalPlace) in
+    let one = asked-accepts count CountDiffers countPlace in
+    let other = asked-accepts total TotalDiffers totalPlace in (
       λ e. (eqb-true _ _ (one .0 (two .0 e .0)), eqb-true _ _ (other .0 (two .0 e .1))),
       λ h. two .1 (one .1 (eq-eqb _ _ (h .0)), other .1 (eq-eqb _ _ (h .1))),
     )
 
--- a Z whose fields are right is asked only those
+-- of a Z with right fields only the figures are checked
 trailer-answer : (k : Ledger) (f : Filed) (rec : List ℕ) → k .opened ≡ some f → recordAnswer rec ≡ Accepted → namedBy (getD rec 0 0) ≡ Is Trailer
     → ledgerAnswer k rec ≡ trailerStateAnswer f rec
 trailer-answer k f rec o e n = rw (o, e, n, eq-eqb (length rec) recordLength (accepted-is rec e .0))
 
 pub true-trailers-only : TrueTrailersOnly
-true-trailers-only steps f rec o e n = rw (next-answer-is-the-books steps rec, trailer-answer (ledgerOf steps) f rec o e n) (figures-asked f rec)
+true-trailers-only steps f rec o e n = rw (next-answer-is-the-ledgers steps rec, trailer-answer (ledgerOf steps) f rec o e n) (figures-accept f rec)
 
 -- Any session.
 

@@ -1,4 +1,4 @@
--- The board shown is the payment records of accepted files: by issuer, in order, lane for lane, in sum. Assumes nothing.
+-- The board shown is the payment records of accepted files: by issuer, in order, each lane, the sums. Assumes nothing.
 use Prim.Native.Nat.{ℕ}
 use mathlib.Core.Bool.{Bool, true, false, cond, false≢true}
 use mathlib.Core.List.{List, [], _∷_}
@@ -29,19 +29,19 @@ no-issuer-has-two-lanes steps = rw (lanes-are-the-payments steps) (no-issuer-twi
 
 -- The sums.
 
-pub count-paid : (recs : List (List ℕ)) → sumBy (each (λ t. t .payments)) (lanesOfRecords recs) ≡ length recs
-count-paid [] = refl
-count-paid (rec ∷ recs) = omega (arith, count-paid recs)
+pub lanes-count : (recs : List (List ℕ)) → sumBy (each (λ t. t .payments)) (lanesOfRecords recs) ≡ length recs
+lanes-count [] = refl
+lanes-count (rec ∷ recs) = omega (arith, lanes-count recs)
 
-pub sum-paid : (recs : List (List ℕ)) → sumBy (each (λ t. t .centavos)) (lanesOfRecords recs) ≡ receivedIn recs
-sum-paid [] = refl
-sum-paid (rec ∷ recs) = omega (arith, sum-paid recs)
+pub lanes-sum : (recs : List (List ℕ)) → sumBy (each (λ t. t .centavos)) (lanesOfRecords recs) ≡ receivedIn recs
+lanes-sum [] = refl
+lanes-sum (rec ∷ recs) = omega (arith, lanes-sum recs)
 
 pub sums-are-the-records : SumsAreTheRecords
 sums-are-the-records steps =
     let recs = acceptedRecords steps in
     rw (lanes-are-the-payments steps)
-    (sums-agree (λ t. t .payments) payments-add (lanesOfRecords recs) ∙ count-paid recs, sums-agree (λ t. t .centavos) centavos-add (lanesOfRecords recs) ∙ sum-paid recs)
+    (sums-agree (λ t. t .payments) payments-add (lanesOfRecords recs) ∙ lanes-count recs, sums-agree (λ t. t .centavos) centavos-add (lanesOfRecords recs) ∙ lanes-sum recs)
 
 pub totals-are-the-records : TotalsAreTheRecords
 totals-are-the-records steps =
@@ -73,7 +73,7 @@ neither : (t u : Bool) → cond t true u ≡ false → (t ≡ false) × (u ≡ f
 neither true u e = absurd (false≢true (sym e))
 neither false u e = (refl, e)
 
--- where no issuer has two lanes, an issuer's sum is what its lane shows
+-- if no issuer has two lanes, an issuer's sum is what its lane shows
 module _ (w : Tally → ℕ) where
   not-there : (i : Issuer) (ls : List Lane) → isAmong i (issuersOf ls) ≡ false → sumBy (only i w) ls ≡ 0
   not-there i [] e = refl

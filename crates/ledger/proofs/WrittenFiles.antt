@@ -1,4 +1,4 @@
--- A file that the writer closed is whole and true, so a fresh session accepts it. Assumes nothing.
+-- A file that the writer closed is whole with true figures, so a fresh session accepts it. Assumes nothing.
 use Prim.Native.Nat.{ℕ, _+_, _≤_}
 use mathlib.Core.List.{List, [], _∷_, map}
 use mathlib.Core.Path.{_≡_, refl, sym, ap, subst, _∙_}
@@ -38,24 +38,24 @@ right : (r : Record) (given amounts : List ℕ) → makeAnswer r given amounts r
 right r given amounts e = (written-is-accepted r given amounts recordLength e .0, ap namedBy (first-byte r given amounts) ∙ mark-names r .0)
 
 -- payments that were written to an open file
-record Walked (f : File) (gs : List Given) : Type 0 where
+record AllWritten (f : File) (gs : List Given) : Type 0 where
   each : Each (IsRight Payment) (writtenRecords gs)
   fits : fileAnswers f (receivedEach (writtenRecords gs)) ≡ Accepted
   leaves : writerAfterPayments (opened f) gs ≡ opened (fileWithAll f (receivedEach (writtenRecords gs)))
 
-walk : (f : File) (gs : List Given) → PaymentsWritten (opened f) gs → Walked f gs
-walk f [] p = record { each = tt; fits = refl; leaves = refl }
-walk f (g ∷ gs) p =
+write-all : (f : File) (gs : List Given) → PaymentsWritten (opened f) gs → AllWritten f gs
+write-all f [] p = record { each = tt; fits = refl; leaves = refl }
+write-all f (g ∷ gs) p =
     let amounts = g .received ∷ g .tariff ∷ [] in
     let make = makeAnswer Payment (g .fields) amounts recordLength in
-    let asks = then-accepts (callAnswer (opened f) Payment (length (g .fields)) recordLength) (make then fileAnswer f (g .received)) .0 (p .0) .1 in
-    let both = then-accepts make (fileAnswer f (g .received)) .0 asks in
+    let own = then-accepts (callAnswer (opened f) Payment (length (g .fields)) recordLength) (make then fileAnswer f (g .received)) .0 (p .0) .1 in
+    let both = then-accepts make (fileAnswer f (g .received)) .0 own in
     let x = values.paymentShown (recordOf g) .received in
     let xs = receivedEach (writtenRecords gs) in
     let read : x ≡ g .received = written-amounts-are-read (g .fields) (g .received) (g .tariff) recordLength (both .0) .0 in
     let next : paymentWritten (opened f) (g .fields) (g .received) (g .tariff) recordLength .writer ≡ opened (fileWith f (g .received)) =
     accepted-takes (paymentAnswer (opened f) (g .fields) (g .received) (g .tariff) recordLength) (opened (fileWith f (g .received))) (opened f) (p .0) in
-    let rest = walk (fileWith f (g .received)) gs (subst (λ (w : Writer). PaymentsWritten w gs) next (p .1)) in
+    let rest = write-all (fileWith f (g .received)) gs (subst (λ (w : Writer). PaymentsWritten w gs) next (p .1)) in
     record {
       each = (right Payment (g .fields) amounts (both .0), rest .each);
       fits =
@@ -78,21 +78,21 @@ module _ (header : List ℕ) (gs : List Given) (c : Closed header gs) where
   opens : openedBy header ≡ opened freshFile
   opens = accepted-takes (headerAnswer freshWriter header recordLength) (opened freshFile) freshWriter (c .opens)
 
-  walked : Walked freshFile gs
-  walked = walk freshFile gs (subst (λ (w : Writer). PaymentsWritten w gs) opens (c .pays))
+  all-written : AllWritten freshFile gs
+  all-written = write-all freshFile gs (subst (λ (w : Writer). PaymentsWritten w gs) opens (c .pays))
 
   abbrev last : Writer
   last = writerAfterPayments (openedBy header) gs
 
   file-is : last .file ≡ record { taken = length (writtenRecords gs); total = receivedIn (writtenRecords gs) }
   file-is =
-      ap (λ (w : Writer). writerAfterPayments w gs .file) opens ∙ ap (λ (w : Writer). w .file) (walked .leaves) ∙ holds-all (writtenRecords gs)
+      ap (λ (w : Writer). writerAfterPayments w gs .file) opens ∙ ap (λ (w : Writer). w .file) (all-written .leaves) ∙ holds-all (writtenRecords gs)
 
   trailer-made : makeAnswer Trailer (countBytes last) (figuresOf (last .file) .total ∷ 0 ∷ []) recordLength ≡ Accepted
   trailer-made =
       let make = makeAnswer Trailer (countBytes last) (figuresOf (last .file) .total ∷ 0 ∷ []) recordLength in
-      let asks = then-accepts (callAnswer last Trailer (givenLength Trailer) recordLength) (closingAnswer (last .file) then make) .0 (c .closes) .1 in
-      then-accepts (closingAnswer (last .file)) make .0 asks .1
+      let own = then-accepts (callAnswer last Trailer (givenLength Trailer) recordLength) (closingAnswer (last .file) then make) .0 (c .closes) .1 in
+      then-accepts (closingAnswer (last .file)) make .0 own .1
 
   header-made : makeAnswer Header header (0 ∷ 0 ∷ []) recordLength ≡ Accepted
   header-made = then-accepts (callAnswer freshWriter Header (length header) recordLength) (makeAnswer Header header (0 ∷ 0 ∷ []) recordLength) .0 (c .opens) .1
@@ -101,7 +101,7 @@ module _ (header : List ℕ) (gs : List Given) (c : Closed header gs) where
   whole =
       record {
         header = right Header header (0 ∷ 0 ∷ []) header-made;
-        payments = walked .each;
+        payments = all-written .each;
         trailer = right Trailer (countBytes last) (figuresOf (last .file) .total ∷ 0 ∷ []) trailer-made;
       }
 
@@ -112,7 +112,7 @@ module _ (header : List ℕ) (gs : List Given) (c : Closed header gs) where
 
   limits : (length (writtenRecords gs) ≤ mostPayments) × (receivedIn (writtenRecords gs) ≤ mostCentavos)
   limits =
-      let both = fresh-file-takes (receivedEach (writtenRecords gs)) .0 (walked .fits) in
+      let both = fresh-file-takes (receivedEach (writtenRecords gs)) .0 (all-written .fits) in
       (subst (λ (n : ℕ). n ≤ mostPayments) (counted (writtenRecords gs)) (both .0), subst (λ (n : ℕ). n ≤ mostCentavos) (received-each (writtenRecords gs)) (both .1))
 
 pub closed-file-is-whole : ClosedFileIsWhole
@@ -124,7 +124,7 @@ closed-file-is-accepted header gs c few =
     let all = fresh-session-accepts (headerBytes header) recs (trailerAfter header gs) (whole header gs c) .1 (limits header gs c .0, limits header gs c .1, few, figures header gs c) in
     (all, fresh-session-shows (headerBytes header) recs (trailerAfter header gs) (whole header gs c) all .0)
 
--- The other way: the fields of right payments that an open file has room for write them again.
+-- The converse: the fields of right payments that an open file has room for write them again.
 record Rewritten (f : File) (recs : List (List ℕ)) : Type 0 where
   pays : PaymentsWritten (opened f) (map givenBy recs)
   same : writtenRecords (map givenBy recs) ≡ recs
@@ -168,7 +168,7 @@ module _ (b : Board) (a : List ℕ) (recs : List (List ℕ)) (z : List ℕ) (w :
 
   end : writerAfterPayments (openedBy header) gs ≡ opened (record { taken = length recs; total = receivedIn recs })
   end =
-      ap (λ (x : Writer). writerAfterPayments x gs) starts ∙ walk freshFile gs (again .pays) .leaves
+      ap (λ (x : Writer). writerAfterPayments x gs) starts ∙ write-all freshFile gs (again .pays) .leaves
       ∙ ap (λ (l : List (List ℕ)). opened (fileWithAll freshFile (receivedEach l))) (again .same) ∙ ap opened (holds-all recs)
 
   tail : (trailerAnswer (writerAfterPayments (openedBy header) gs) recordLength ≡ Accepted) × (trailerAfter header gs ≡ z)
