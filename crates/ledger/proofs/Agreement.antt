@@ -37,7 +37,8 @@ use Rattle.ledger.specs.Promises.{sessionStep, sessionAfter, answersOf, 
 
 -- a session, and a ledger by its parts
 module _ (s : Session) (files : List Filed) (rec : List ℕ) where
-  payment-answer : (f : Filed) → Agrees s (record { accepted = files; opened = some f }) → payAnswer s (laneOfRecord rec) ≡ paymentStateAnswer files f rec
+  payment-answer : (f : Filed) → Agrees s (record { accepted = files; opened = some f })
+      → payAnswer s (laneOfRecord rec) ≡ paymentStateAnswer files f rec
   unfolding fileAnswer
   payment-answer f h =
       rw (answers-as-payments (s .work) (lanesOfRecords (paymentRecords files ++ f .payments)) (laneOfRecord rec) (h .soundWork) (h .work), h .taken, h .total)
@@ -72,24 +73,28 @@ answer-agrees s k rec h =
 
 -- The records of a ledger, one more at the end.
 
-records-joined : (files : List Filed) (f : Filed) → paymentRecords (files ++ (f ∷ [])) ≡ paymentRecords files ++ f .payments
+records-joined : (files : List Filed) (f : Filed)
+    → paymentRecords (files ++ (f ∷ [])) ≡ paymentRecords files ++ f .payments
 records-joined [] f = append-nil (f .payments)
 records-joined (g ∷ files) f =
     ap (λ (recs : List (List ℕ)). g .payments ++ recs) (records-joined files f) ∙
     sym (append-assoc (g .payments) (paymentRecords files) (f .payments))
 
-lanes-joined : (recs : List (List ℕ)) (rec : List ℕ) → lanesOfRecords (recs ++ (rec ∷ [])) ≡ lanesOfRecords recs ++ (laneOfRecord rec ∷ [])
+lanes-joined : (recs : List (List ℕ)) (rec : List ℕ)
+    → lanesOfRecords (recs ++ (rec ∷ [])) ≡ lanesOfRecords recs ++ (laneOfRecord rec ∷ [])
 lanes-joined [] rec = refl
 lanes-joined (r ∷ recs) rec = ap (λ (ps : List Lane). laneOfRecord r ∷ ps) (lanes-joined recs rec)
 
-received-joined : (recs : List (List ℕ)) (rec : List ℕ) → receivedIn (recs ++ (rec ∷ [])) ≡ receivedIn recs + paymentShown rec .received
+received-joined : (recs : List (List ℕ)) (rec : List ℕ)
+    → receivedIn (recs ++ (rec ∷ [])) ≡ receivedIn recs + paymentShown rec .received
 received-joined [] rec = omega arith
 received-joined (r ∷ recs) rec = omega (arith, received-joined recs rec)
 
 -- The session that follows.
 
 -- both boards are those of the accepted files
-at-rest : (b : Board) (files : List Filed) (o : Option Filed) → lanesOf b ≡ lanesFrom (lanesOfRecords (paymentRecords files)) → SoundBoard b → openRecords o ≡ []
+at-rest : (b : Board) (files : List Filed) (o : Option Filed)
+    → lanesOf b ≡ lanesFrom (lanesOfRecords (paymentRecords files)) → SoundBoard b → openRecords o ≡ []
     → Agrees (record { shown = b; work = b; opened = isOpen o; file = freshFile }) (record { accepted = files; opened = o })
 at-rest b files o e sound none-yet =
     record {
@@ -103,7 +108,8 @@ at-rest b files o e sound none-yet =
     }
 
 module _ (s : Session) (files : List Filed) (rec : List ℕ) where
-  opens : (o : Option Filed) → Agrees s (record { accepted = files; opened = o }) → Agrees (openedAt (s .shown)) (withRecord files none (Is Header) rec)
+  opens : (o : Option Filed) → Agrees s (record { accepted = files; opened = o })
+      → Agrees (openedAt (s .shown)) (withRecord files none (Is Header) rec)
   opens o h = at-rest (s .shown) files (some (record { header = rec; payments = [] })) (h .shown) (h .soundShown) refl
 
   drops : (o : Option Filed) → Agrees s (record { accepted = files; opened = o })
@@ -117,25 +123,33 @@ module _ (s : Session) (files : List Filed) (rec : List ℕ) where
     more : allRecords (withRecord files (some f) (Is Payment) rec) ≡ (paymentRecords files ++ f .payments) ++ (rec ∷ [])
     more = sym (append-assoc (paymentRecords files) (f .payments) (rec ∷ []))
 
-    pays : payAnswer s (laneOfRecord rec) ≡ Accepted → Agrees (sessionWithPayment s (laneOfRecord rec)) (withRecord files (some f) (Is Payment) rec)
+    pays : payAnswer s (laneOfRecord rec) ≡ Accepted
+        → Agrees (sessionWithPayment s (laneOfRecord rec)) (withRecord files (some f) (Is Payment) rec)
     pays e =
         let before = paymentRecords files ++ f .payments in
-        let posted = then-accepts (fileAnswer (s .file) (paymentShown rec .received)) (postAnswer (s .work) (laneOfRecord rec)) .0 e .1 in
+        let posted =
+        then-accepts (fileAnswer (s .file) (paymentShown rec .received))
+        (postAnswer (s .work) (laneOfRecord rec)) .0 e .1 in
         record {
           opened = h .opened;
           shown = h .shown;
           work =
-              post-places (s .work) (laneOfRecord rec) (h .soundWork) posted ∙ ap (placed (laneOfRecord rec)) (h .work) ∙
-              sym (one-payment-more (lanesOfRecords before) (laneOfRecord rec)) ∙ ap lanesFrom (sym (lanes-joined before rec)) ∙
+              post-places (s .work) (laneOfRecord rec) (h .soundWork) posted
+              ∙ ap (placed (laneOfRecord rec)) (h .work) ∙
+              sym (one-payment-more (lanesOfRecords before) (laneOfRecord rec))
+              ∙ ap lanesFrom (sym (lanes-joined before rec)) ∙
               ap (λ (recs : List (List ℕ)). lanesFrom (lanesOfRecords recs)) (sym more);
           taken = omega (arith, h .taken, length-append (f .payments) (rec ∷ []));
           total = omega (arith, h .total, received-joined (f .payments) rec);
           soundShown = h .soundShown;
-          soundWork = with-sound (s .work) (laneOfRecord rec) (h .soundWork) (fit (s .work) (laneOfRecord rec) .0 posted);
+          soundWork =
+              with-sound (s .work) (laneOfRecord rec) (h .soundWork) (fit (s .work) (laneOfRecord rec) .0 posted);
         }
 
-  followed : (o : Option Filed) (n : MaybeRecord) (a : Answer) → Agrees s (record { accepted = files; opened = o }) → sessionExpects (s .opened) n ≡ true
-      → sessionAnswer s (shownUnlessRefused a (recordShown n rec)) ≡ Accepted → Agrees (sessionWith s (shownUnlessRefused a (recordShown n rec))) (withRecord files o n rec)
+  followed : (o : Option Filed) (n : MaybeRecord) (a : Answer) → Agrees s (record { accepted = files; opened = o })
+      → sessionExpects (s .opened) n ≡ true
+      → sessionAnswer s (shownUnlessRefused a (recordShown n rec)) ≡ Accepted
+      → Agrees (sessionWith s (shownUnlessRefused a (recordShown n rec))) (withRecord files o n rec)
   followed o n (Refused why p) h x e = not-both _ refl e
   followed o Other Accepted h x e = absurd (false≢true x)
   followed none (Is Header) Accepted h x e = opens none h
@@ -145,14 +159,16 @@ module _ (s : Session) (files : List Filed) (rec : List ℕ) where
   followed (some f) (Is Payment) Accepted h x e = pays f h e
   followed (some f) (Is Trailer) Accepted h x e = closes f h
 
-  abandoned : (o : Option Filed) → Agrees s (record { accepted = files; opened = o }) → Agrees (abandonOf s) (record { accepted = files; opened = none })
+  abandoned : (o : Option Filed) → Agrees s (record { accepted = files; opened = o })
+      → Agrees (abandonOf s) (record { accepted = files; opened = none })
   abandoned none h =
       split (λ (r : Session). Agrees r (record { accepted = files; opened = none })) (s .opened) (λ t. drops none h) (λ t. h)
   abandoned (some f) h =
       split (λ (r : Session). Agrees r (record { accepted = files; opened = none })) (s .opened) (λ t. drops (some f) h)
       (λ t. absurd (false≢true (sym t ∙ h .opened)))
 
-pub take-agrees : (s : Session) (k : Ledger) (rec : List ℕ) → Agrees s k → Agrees (takeOf s rec .session) (ledgerStep k (taking rec))
+pub take-agrees : (s : Session) (k : Ledger) (rec : List ℕ) → Agrees s k
+    → Agrees (takeOf s rec .session) (ledgerStep k (taking rec))
 take-agrees s k rec h = rw (← answer-agrees s k rec h) (go (takeAnswer s rec) refl)
   where
     go : (a : Answer) → takeAnswer s rec ≡ a
@@ -169,7 +185,8 @@ step-agrees s k abandoning h = abandoned s (k .accepted) [] (k .opened) h
 
 -- Any list of steps.
 
-steps-agree : (steps : List Step) (s : Session) (k : Ledger) → Agrees s k → Agrees (sessionAfter s steps) (ledgerAfter k steps)
+steps-agree : (steps : List Step) (s : Session) (k : Ledger) → Agrees s k
+    → Agrees (sessionAfter s steps) (ledgerAfter k steps)
 steps-agree [] s k h = h
 steps-agree (step ∷ steps) s k h = steps-agree steps (sessionStep s step) (ledgerStep k step) (step-agrees s k step h)
 
@@ -192,4 +209,5 @@ pub answers-are-the-ledgers : AnswersAreTheLedgers
 answers-are-the-ledgers steps = answers-agree steps freshSession freshLedger fresh-agrees
 
 pub next-answer-is-the-ledgers : NextAnswerIsTheLedgers
-next-answer-is-the-ledgers steps rec = answer-agrees (sessionAfter freshSession steps) (ledgerAfter freshLedger steps) rec (session-agrees steps)
+next-answer-is-the-ledgers steps rec =
+    answer-agrees (sessionAfter freshSession steps) (ledgerAfter freshLedger steps) rec (session-agrees steps)

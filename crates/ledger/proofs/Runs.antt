@@ -56,13 +56,16 @@ module _ (rec : List ℕ) (recs : List (List ℕ)) (s next : Session) (k after :
   steps-more = ap (λ (m : ℕ). map taking (take m (rec ∷ recs))) one
 
   more : takeOf s rec .session ≡ next → ledgerStep k (taking rec) ≡ after → ledgerAnswer k rec ≡ Accepted
-      → length (after .accepted) ≡ length (k .accepted) + c → RunOn next after recs r → RunOn s k (rec ∷ recs) (addCounts 1 c r)
+      → length (after .accepted) ≡ length (k .accepted) + c → RunOn next after recs r
+      → RunOn s k (rec ∷ recs) (addCounts 1 c r)
   more followed noted e grown t =
       let steps = stepsOf recs r in
       let same : ledgerAfter k (stepsOf (rec ∷ recs) (addCounts 1 c r)) ≡ ledgerAfter after steps =
       ap (ledgerAfter k) steps-more ∙ ap (λ (b : Ledger). ledgerAfter b steps) noted in
       record {
-        session = t .session ∙ ap (λ (x : Session). sessionAfter x steps) (sym followed) ∙ ap (sessionAfter s) (sym steps-more);
+        session =
+            t .session ∙ ap (λ (x : Session). sessionAfter x steps) (sym followed)
+            ∙ ap (sessionAfter s) (sym steps-more);
         files = omega (arith, t .files, grown) ∙ ap (λ (b : Ledger). length (b .accepted)) (sym same);
         accepted =
             subst (λ (all : List Step). AllAccepted (ledgerAnswers k all)) (sym steps-more)
@@ -75,7 +78,8 @@ run-on : (recs : List (List ℕ)) (s : Session) (k : Ledger) → Agrees s k → 
 run-on [] s k h = record { session = refl; files = omega arith; accepted = tt; answer = refl; whole = λ e. refl }
 run-on (rec ∷ recs) s k h = go (takeAnswer s rec) refl (run-on recs)
   where
-    go : (a : Answer) → takeAnswer s rec ≡ a → ((s : Session) (k : Ledger) → Agrees s k → RunOn s k recs (runAll s recs))
+    go : (a : Answer) → takeAnswer s rec ≡ a
+        → ((s : Session) (k : Ledger) → Agrees s k → RunOn s k recs (runAll s recs))
         → RunOn s k (rec ∷ recs) (stoppedIfRefused a s (addCounts 1 (filesClosed (namedBy (getD rec 0 0))) (runAll (sessionWith s (decodedRecord rec)) recs)))
     go (Refused why p) e later =
         record {
@@ -89,12 +93,17 @@ run-on (rec ∷ recs) s k h = go (takeAnswer s rec) refl (run-on recs)
         let n = namedBy (getD rec 0 0) in
         let after = withRecord (k .accepted) (k .opened) n rec in
         let own : ledgerAnswer k rec ≡ Accepted = sym (answer-agrees s k rec h) ∙ e in
-        let followed : takeOf s rec .session ≡ sessionWith s (decodedRecord rec) = accepted-takes (takeAnswer s rec) (sessionWith s (decodedRecord rec)) s e in
+        let followed : takeOf s rec .session ≡ sessionWith s (decodedRecord rec) =
+        accepted-takes (takeAnswer s rec) (sessionWith s (decodedRecord rec)) s e in
         let noted : ledgerStep k (taking rec) ≡ after = accepted-takes (ledgerAnswer k rec) after k own in
         let agrees : Agrees (sessionWith s (decodedRecord rec)) after =
-        subst (λ (x : Session). Agrees x after) followed (subst (λ (b : Ledger). Agrees (takeOf s rec .session) b) noted (take-agrees s k rec h)) in
-        let expected = passed (ledgerExpects (k .opened) n) NotExpected 1 (passed (eqb (length rec) recordLength) WrongLength 0 own .1) .0 in
-        more rec recs s (sessionWith s (decodedRecord rec)) k after (filesClosed n) (runAll (sessionWith s (decodedRecord rec)) recs) followed noted own
+        subst (λ (x : Session). Agrees x after) followed
+        (subst (λ (b : Ledger). Agrees (takeOf s rec .session) b) noted (take-agrees s k rec h)) in
+        let expected =
+        passed (ledgerExpects (k .opened) n) NotExpected 1
+        (passed (eqb (length rec) recordLength) WrongLength 0 own .1) .0 in
+        more rec recs s (sessionWith s (decodedRecord rec)) k after (filesClosed n)
+        (runAll (sessionWith s (decodedRecord rec)) recs) followed noted own
         (files-after (k .accepted) (k .opened) n rec expected) (later (sessionWith s (decodedRecord rec)) after agrees)
 
 pub run-is-the-ledgers : RunIsTheLedgers

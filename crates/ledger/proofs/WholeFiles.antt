@@ -53,18 +53,24 @@ Passes z b f recs =
     × (figuresAnswer (fileWithAll f (receivedEach recs)) (figuresIn (trailerShown z)) ≡ Accepted)
 
 module _ (shown : Board) (z : List ℕ) (right : IsRight Trailer z) where
-  closing : (b : Board) (f : File) → takeOf (inside shown b f) z ≡ takeResult (figuresAnswer f (figuresIn (trailerShown z))) (closedAt b) (inside shown b f)
+  closing : (b : Board) (f : File)
+      → takeOf (inside shown b f) z
+      ≡ takeResult (figuresAnswer f (figuresIn (trailerShown z))) (closedAt b) (inside shown b f)
   closing b f = taken (inside shown b f) Trailer z right refl
 
   module _ (b : Board) (f : File) (rec : List ℕ) (h : IsRight Payment rec) where
-    payment-takes : takeOf (inside shown b f) rec ≡ takeResult (payAnswer (inside shown b f) (laneOfRecord rec)) (sessionWithPayment (inside shown b f) (laneOfRecord rec)) (inside shown b f)
+    payment-takes : takeOf (inside shown b f) rec
+        ≡ takeResult (payAnswer (inside shown b f) (laneOfRecord rec))
+        (sessionWithPayment (inside shown b f) (laneOfRecord rec)) (inside shown b f)
     payment-takes = taken (inside shown b f) Payment rec h refl
 
     payment-next : payAnswer (inside shown b f) (laneOfRecord rec) ≡ Accepted
-        → takeOf (inside shown b f) rec .session ≡ inside shown (boardWith b (laneOfRecord rec)) (fileWith f (paymentShown rec .received))
+        → takeOf (inside shown b f) rec .session
+        ≡ inside shown (boardWith b (laneOfRecord rec)) (fileWith f (paymentShown rec .received))
     payment-next e =
         ap (λ (t : TakeResult). t .session) payment-takes ∙
-        accepted-takes (payAnswer (inside shown b f) (laneOfRecord rec)) (sessionWithPayment (inside shown b f) (laneOfRecord rec)) (inside shown b f) e
+        accepted-takes (payAnswer (inside shown b f) (laneOfRecord rec))
+        (sessionWithPayment (inside shown b f) (laneOfRecord rec)) (inside shown b f) e
 
   rest-accepts : (recs : List (List ℕ)) → Each (IsRight Payment) recs → (b : Board) (f : File)
       → AllAccepted (answersOf (inside shown b f) (rest z recs)) ↔ Passes z b f recs
@@ -74,8 +80,12 @@ module _ (shown : Board) (z : List ℕ) (right : IsRight Trailer z) where
   )
   rest-accepts (rec ∷ recs) h b f =
       let two = then-accepts (fileAnswer f (paymentShown rec .received)) (postAnswer b (laneOfRecord rec)) in
-      let files = then-accepts (fileAnswer f (paymentShown rec .received)) (fileAnswers (fileWith f (paymentShown rec .received)) (receivedEach recs)) in
-      let boards = then-accepts (postAnswer b (laneOfRecord rec)) (postAnswers (boardWith b (laneOfRecord rec)) (lanesOfRecords recs)) in
+      let files =
+      then-accepts (fileAnswer f (paymentShown rec .received))
+      (fileAnswers (fileWith f (paymentShown rec .received)) (receivedEach recs)) in
+      let boards =
+      then-accepts (postAnswer b (laneOfRecord rec))
+      (postAnswers (boardWith b (laneOfRecord rec)) (lanesOfRecords recs)) in
       let later = rest-accepts recs (h .1) (boardWith b (laneOfRecord rec)) (fileWith f (paymentShown rec .received)) in
       let step = ap (λ (t : TakeResult). t .answer) (payment-takes b f rec (h .0)) in (
         λ e.
@@ -83,20 +93,26 @@ module _ (shown : Board) (z : List ℕ) (right : IsRight Trailer z) where
             let t = later .0 (rw (payment-next b f rec (h .0) one) at (e .1)) in
             (files .1 (two .0 one .0, t .0), boards .1 (two .0 one .1, t .1), t .2),
         λ t.
-            let one : payAnswer (inside shown b f) (laneOfRecord rec) ≡ Accepted = two .1 (files .0 (t .0) .0, boards .0 (t .1) .0) in
+            let one : payAnswer (inside shown b f) (laneOfRecord rec) ≡ Accepted =
+            two .1 (files .0 (t .0) .0, boards .0 (t .1) .0) in
             (step ∙ one, rw (payment-next b f rec (h .0) one) (later .1 (files .0 (t .0) .1, boards .0 (t .1) .1, t .2))),
       )
 
-  left-rest : (recs : List (List ℕ)) → Each (IsRight Payment) recs → (b : Board) (f : File) → AllAccepted (answersOf (inside shown b f) (rest z recs))
+  left-rest : (recs : List (List ℕ)) → Each (IsRight Payment) recs → (b : Board) (f : File)
+      → AllAccepted (answersOf (inside shown b f) (rest z recs))
       → sessionAfter (inside shown b f) (rest z recs) ≡ closedAt (boardWithAll b (lanesOfRecords recs))
   left-rest [] h b f e =
-      let one : figuresAnswer f (figuresIn (trailerShown z)) ≡ Accepted = sym (ap (λ (t : TakeResult). t .answer) (closing b f)) ∙ e .0 in
-      ap (λ (t : TakeResult). t .session) (closing b f) ∙ accepted-takes (figuresAnswer f (figuresIn (trailerShown z))) (closedAt b) (inside shown b f) one
+      let one : figuresAnswer f (figuresIn (trailerShown z)) ≡ Accepted =
+      sym (ap (λ (t : TakeResult). t .answer) (closing b f)) ∙ e .0 in
+      ap (λ (t : TakeResult). t .session) (closing b f)
+      ∙ accepted-takes (figuresAnswer f (figuresIn (trailerShown z))) (closedAt b) (inside shown b f) one
   left-rest (rec ∷ recs) h b f e =
-      let one : payAnswer (inside shown b f) (laneOfRecord rec) ≡ Accepted = sym (ap (λ (t : TakeResult). t .answer) (payment-takes b f rec (h .0))) ∙ e .0 in
+      let one : payAnswer (inside shown b f) (laneOfRecord rec) ≡ Accepted =
+      sym (ap (λ (t : TakeResult). t .answer) (payment-takes b f rec (h .0))) ∙ e .0 in
       let next = payment-next b f rec (h .0) one in
       ap (λ (s : Session). sessionAfter s (rest z recs)) next ∙
-      left-rest recs (h .1) (boardWith b (laneOfRecord rec)) (fileWith f (paymentShown rec .received)) (rw next at (e .1))
+      left-rest recs (h .1) (boardWith b (laneOfRecord rec)) (fileWith f (paymentShown rec .received))
+      (rw next at (e .1))
 
 -- The file from its header on.
 
@@ -106,13 +122,17 @@ received-each (rec ∷ recs) = omega (arith, received-each recs)
 
 -- what a file has taken, and the figures of its one right trailer
 true-figures : (recs : List (List ℕ)) (z : List ℕ)
-    → (figuresAnswer (fileWithAll freshFile (receivedEach recs)) (figuresIn (trailerShown z)) ≡ Accepted) ↔ TrueFigures recs z
+    → (figuresAnswer (fileWithAll freshFile (receivedEach recs)) (figuresIn (trailerShown z)) ≡ Accepted)
+    ↔ TrueFigures recs z
 true-figures recs z =
     let one = one-right-trailer (fileWithAll freshFile (receivedEach recs)) (figuresIn (trailerShown z)) in
     let holds = fresh-file-holds (receivedEach recs) in
-    let count : fileWithAll freshFile (receivedEach recs) .taken ≡ length recs = ap (λ (f : File). f .taken) holds ∙ simp length-map in
-    let total : fileWithAll freshFile (receivedEach recs) .total ≡ receivedIn recs = ap (λ (f : File). f .total) holds ∙ received-each recs in (
-      λ e. let is = one .0 e in (ap (λ (x : Figures). x .count) is ∙ omega (arith, count), ap (λ (x : Figures). x .total) is ∙ total),
+    let count : fileWithAll freshFile (receivedEach recs) .taken ≡ length recs =
+    ap (λ (f : File). f .taken) holds ∙ simp length-map in
+    let total : fileWithAll freshFile (receivedEach recs) .total ≡ receivedIn recs =
+    ap (λ (f : File). f .total) holds ∙ received-each recs in (
+      λ e. let is =
+          one .0 e in (ap (λ (x : Figures). x .count) is ∙ omega (arith, count), ap (λ (x : Figures). x .total) is ∙ total),
       λ h. one .1 (ap₂ {C = Figures} (λ (n m : ℕ). record { count = n; total = m }) (h .0 ∙ omega (arith, count)) (h .1 ∙ sym total)),
     )
 
@@ -140,7 +160,8 @@ file-posted b a recs z whole e =
 
 -- A fresh session.
 
-lanes-tally : (recs : List (List ℕ)) → tallySum (lanesOfRecords recs) ≡ record { payments = length recs; centavos = receivedIn recs }
+lanes-tally : (recs : List (List ℕ))
+    → tallySum (lanesOfRecords recs) ≡ record { payments = length recs; centavos = receivedIn recs }
 lanes-tally recs =
     alike (sum-read (λ t. t .payments) payments-add (lanesOfRecords recs) ∙ lanes-count recs)
     (sum-read (λ t. t .centavos) centavos-add (lanesOfRecords recs) ∙ lanes-sum recs)
@@ -157,7 +178,8 @@ fresh-session-accepts a recs z whole =
           let within = file .0 (t .0) in
           (omega (arith, count, within .0), omega (arith, total, within .1), board .0 (t .1) .0, t .2),
       λ t.
-          let fit = low-fits (tallySum (lanesOfRecords recs)) (rw (lanes-tally recs) (record { payments = omega (arith, t .0); centavos = omega (arith, t .1) })) in
+          let fit =
+          low-fits (tallySum (lanesOfRecords recs)) (rw (lanes-tally recs) (record { payments = omega (arith, t .0); centavos = omega (arith, t .1) })) in
           all .1 (file .1 (omega (arith, count, t .0), omega (arith, total, t .1)), board .1 (t .2, fit), t .3),
     )
 

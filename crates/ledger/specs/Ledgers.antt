@@ -81,11 +81,10 @@ ledgerExpects (some f) Other = false
 
 -- a G: 15, 16 from the open file's payments; 17, 18 from those of all accepted files and the open one
 abbrev pub paymentStateAnswer : List Filed → Filed → List ℕ → Answer
-paymentStateAnswer files f rec =
+paymentStateAnswer files f r =
     require (ltb (length (f .payments)) mostPayments) FileFull 1
-    then require (leb (receivedIn (f .payments) + paymentShown rec .received) mostCentavos)
-    FileTotalPassed receivedPlace
-    then answerAfter (lanesOfRecords (paymentRecords files ++ f .payments)) (laneOfRecord rec)
+    then require (leb (receivedIn (f .payments) + paymentShown r .received) mostCentavos) FileTotalPassed receivedPlace
+    then answerAfter (lanesOfRecords (paymentRecords files ++ f .payments)) (laneOfRecord r)
 
 -- a Z: 13, the number of the file's records, A and Z included; 14, what its payments received
 abbrev pub trailerStateAnswer : Filed → List ℕ → Answer
