@@ -1,4 +1,5 @@
--- Laws of a sound board: what it accepts, what it answers, and that a fresh one holds its payments grouped by issuer. Assumes nothing.
+-- Laws of a sound board: what it accepts and answers, and that a fresh one holds its payments grouped by issuer.
+-- Assumes nothing.
 use Prim.Native.Nat.{ℕ, zero, suc, _≤_, _<_}
 use mathlib.Core.Bool.{Bool, true, false, cond, _&&_, and-false, false≢true}
 use mathlib.Core.List.{List, [], _∷_, _++_}
@@ -30,7 +31,8 @@ use Rattle.board.specs.Boards.{blank, freshBoard, lanesOf, indexOf, slot
 
 -- a lane has no more than the sum
 lane-below : (ls : List Lane) (k : ℕ) → k < length ls
-    → (getD ls k blank .tally .payments ≤ tallySum ls .payments) × (getD ls k blank .tally .centavos ≤ tallySum ls .centavos)
+    → (getD ls k blank .tally .payments ≤ tallySum ls .payments)
+    × (getD ls k blank .tally .centavos ≤ tallySum ls .centavos)
 lane-below [] k h = absurd (omega arith)
 lane-below (l ∷ ls) zero h = (omega arith, omega arith)
 lane-below (l ∷ ls) (suc k) h =
@@ -38,28 +40,35 @@ lane-below (l ∷ ls) (suc k) h =
     (omega arith, omega arith)
 
 -- if the total fits, the lane fits
-own-fits : (b : Board) (p : Lane) → SoundBoard b → (k : ℕ) → k ≤ length (lanesOf b) → fits (plus (b .total) (p .tally)) ≡ true
-    → (t : Bool) → ltb k (b .used) ≡ t → fits (plus (cond t (getD (b .lanes) k blank .tally) emptyTally) (p .tally)) ≡ true
+own-fits : (b : Board) (p : Lane) → SoundBoard b → (k : ℕ) → k ≤ length (lanesOf b)
+    → fits (plus (b .total) (p .tally)) ≡ true
+    → (t : Bool) → ltb k (b .used) ≡ t
+    → fits (plus (cond t (getD (b .lanes) k blank .tally) emptyTally) (p .tally)) ≡ true
 own-fits b p s k h e true t =
     let f = low (plus (b .total) (p .tally)) e in
     let m : k < b .used = ltb-true k (b .used) t in
-    let r = rw (getD-take (b .used) (b .lanes) k blank m, ← s .total) at (lane-below (lanesOf b) k (omega (arith, length-lanes b s))) in
+    let r =
+    rw (getD-take (b .used) (b .lanes) k blank m, ← s .total) at
+    (lane-below (lanesOf b) k (omega (arith, length-lanes b s))) in
     low-fits _ (record { payments = omega (arith, f .payments, r .0); centavos = omega (arith, f .centavos, r .1) })
 own-fits b p s k h e false t =
     let f = low (plus (b .total) (p .tally)) e in
     low-fits _ (record { payments = omega (arith, f .payments); centavos = omega (arith, f .centavos) })
 
-pub sound-fit : (b : Board) (p : Lane) → SoundBoard b → indexOf (p .issuer) (lanesOf b) < mostLanes → fits (plus (b .total) (p .tally)) ≡ true → Fit b p
+pub sound-fit : (b : Board) (p : Lane) → SoundBoard b → indexOf (p .issuer) (lanesOf b) < mostLanes
+    → fits (plus (b .total) (p .tally)) ≡ true → Fit b p
 unfolding ownOf
 sound-fit b p s free e =
     record {
       free = free;
-      own = own-fits b p s (indexOf (p .issuer) (lanesOf b)) (index-within (p .issuer) (lanesOf b)) e (ltb (indexOf (p .issuer) (lanesOf b)) (b .used)) refl;
+      own =
+          own-fits b p s (indexOf (p .issuer) (lanesOf b)) (index-within (p .issuer) (lanesOf b)) e (ltb (indexOf (p .issuer) (lanesOf b)) (b .used)) refl;
       low = e;
     }
 
 -- an issuer is among the lanes exactly if its index is below their number
-known : (i : Issuer) (ls : List Lane) (t : Bool) → isAmong i (issuersOf ls) ≡ t → cond t (indexOf i ls < length ls) (indexOf i ls ≡ length ls)
+known : (i : Issuer) (ls : List Lane) (t : Bool) → isAmong i (issuersOf ls) ≡ t
+    → cond t (indexOf i ls < length ls) (indexOf i ls ≡ length ls)
 known i [] true e = absurd (false≢true e)
 known i [] false e = refl
 known i (l ∷ ls) t e = go (isLaneOf i l) t e (known i ls t)
@@ -82,17 +91,20 @@ post-accepts b p s =
       λ h. fit b p .1 (sound-fit b p s (⊎-elim (λ k. let r = known i (lanesOf b) true k in omega (arith, s .few)) (λ k. omega (arith, index-within i (lanesOf b))) (h .0)) (h .1)),
     )
   where
-    room : Fit b p → (t : Bool) → isAmong (p .issuer) (issuersOf (lanesOf b)) ≡ t → (isAmong (p .issuer) (issuersOf (lanesOf b)) ≡ true) ⊎ (b .used < mostLanes)
+    room : Fit b p → (t : Bool) → isAmong (p .issuer) (issuersOf (lanesOf b)) ≡ t
+        → (isAmong (p .issuer) (issuersOf (lanesOf b)) ≡ true) ⊎ (b .used < mostLanes)
     room f true e = inl e
     room f false e = let r = known (p .issuer) (lanesOf b) false e in inr (omega (arith, f .free, length-lanes b s))
 
 -- Its answer, from the lanes with the payment and from the total.
 
 -- the payment's index is within the board exactly if the lanes with it are at most mostLanes
-free-lane : (p : Lane) (ls : List Lane) → length ls ≤ mostLanes → ltb (indexOf (p .issuer) ls) mostLanes ≡ leb (length (placed p ls)) mostLanes
+free-lane : (p : Lane) (ls : List Lane) → length ls ≤ mostLanes
+    → ltb (indexOf (p .issuer) ls) mostLanes ≡ leb (length (placed p ls)) mostLanes
 free-lane p ls few = go (ltb (indexOf (p .issuer) ls) (length ls)) refl
   where
-    go : (t : Bool) → ltb (indexOf (p .issuer) ls) (length ls) ≡ t → ltb (indexOf (p .issuer) ls) mostLanes ≡ leb (length (placed p ls)) mostLanes
+    go : (t : Bool) → ltb (indexOf (p .issuer) ls) (length ls) ≡ t
+        → ltb (indexOf (p .issuer) ls) mostLanes ≡ leb (length (placed p ls)) mostLanes
     go true e =
         let h = ltb-true (indexOf (p .issuer) ls) (length ls) e in
         rw (← placed-found p ls h, length-set, lt-ltb (indexOf (p .issuer) ls) mostLanes (omega arith), le-leb (length ls) mostLanes few)
@@ -103,7 +115,8 @@ free-lane p ls few = go (ltb (indexOf (p .issuer) ls) (length ls)) refl
 
 -- of a sound board the lane's own sums fit if the total does
 own-follows : (b : Board) (p : Lane) → SoundBoard b
-    → (fits (plus (ownOf (slotOf b (p .issuer))) (p .tally)) && fits (plus (b .total) (p .tally))) ≡ fits (plus (b .total) (p .tally))
+    → (fits (plus (ownOf (slotOf b (p .issuer))) (p .tally)) && fits (plus (b .total) (p .tally)))
+    ≡ fits (plus (b .total) (p .tally))
 unfolding ownOf
 own-follows b p s = go (fits (plus (b .total) (p .tally))) refl
   where
@@ -113,14 +126,16 @@ own-follows b p s = go (fits (plus (b .total) (p .tally))) refl
     go : (t : Bool) → fits (plus (b .total) (p .tally)) ≡ t
         → (fits (plus (cond (ltb at (b .used)) (getD (b .lanes) at blank .tally) emptyTally) (p .tally)) && t) ≡ t
     go true e = rw (own-fits b p s at (index-within (p .issuer) (lanesOf b)) e (ltb at (b .used)) refl)
-    go false e = and-false (fits (plus (cond (ltb at (b .used)) (getD (b .lanes) at blank .tally) emptyTally) (p .tally)))
+    go false e =
+        and-false (fits (plus (cond (ltb at (b .used)) (getD (b .lanes) at blank .tally) emptyTally) (p .tally)))
 
 pub answers-as-payments : AnswersAsPayments
 unfolding slotAnswer
 answers-as-payments b ps p s e =
     let after : placed p (lanesOf b) ≡ lanesFrom (ps ++ (p ∷ [])) = ap (placed p) e ∙ sym (one-payment-more ps p) in
     let sum : plus (b .total) (p .tally) ≡ tallySum (ps ++ (p ∷ [])) =
-    plus-swap (b .total) (p .tally) ∙ ap (plus (p .tally)) (s .total) ∙ sym (placed-kept p (lanesOf b)) ∙ ap tallySum after ∙ sum-is-kept (ps ++ (p ∷ [])) in
+    plus-swap (b .total) (p .tally) ∙ ap (plus (p .tally)) (s .total) ∙ sym (placed-kept p (lanesOf b))
+    ∙ ap tallySum after ∙ sum-is-kept (ps ++ (p ∷ [])) in
     ap₂ (λ (t u : Bool). require t BoardFull issuerPlace then require u BoardTotalPassed receivedPlace)
     (free-lane p (lanesOf b) (omega (arith, length-lanes b s, s .few)) ∙ ap (λ (ls : List Lane). leb (length ls) mostLanes) after)
     (own-follows b p s ∙ ap fits sum)
@@ -128,7 +143,8 @@ answers-as-payments b ps p s e =
 -- A fresh board and any payments.
 
 -- a payment's index is among the lanes with it, and no lane is lost
-placed-longer : (p : Lane) (ls : List Lane) → (indexOf (p .issuer) ls < length (placed p ls)) × (length ls ≤ length (placed p ls))
+placed-longer : (p : Lane) (ls : List Lane)
+    → (indexOf (p .issuer) ls < length (placed p ls)) × (length ls ≤ length (placed p ls))
 placed-longer p [] = (omega arith, omega arith)
 placed-longer p (l ∷ ls) = go (isLaneOf (p .issuer) l) (placed-longer p ls)
   where
@@ -149,7 +165,8 @@ fits-less a b e =
     low-fits a (record { payments = omega (arith, f .payments); centavos = omega (arith, f .centavos) })
 
 takes : (b : Board) → SoundBoard b → (ps : List Lane)
-    → (postAnswers b ps ≡ Accepted) ↔ ((length (placedAll (lanesOf b) ps) ≤ mostLanes) × (fits (plus (b .total) (tallySum ps)) ≡ true))
+    → (postAnswers b ps ≡ Accepted)
+    ↔ ((length (placedAll (lanesOf b) ps) ≤ mostLanes) × (fits (plus (b .total) (tallySum ps)) ≡ true))
 takes b s [] = (λ e. (omega (arith, length-lanes b s, s .few), rw (plus-none (b .total)) (s .low)), λ h. refl)
 takes b s (p ∷ ps) =
     let two = then-accepts (postAnswer b p) (postAnswers (boardWith b p) ps) in
@@ -158,14 +175,18 @@ takes b s (p ∷ ps) =
     λ f. rw (with-placed b p s (f .free), plus-groups (b .total) (p .tally) (tallySum ps)) at (takes (boardWith b p) (with-sound b p s f) ps) in (
       λ e. rest (fit b p .0 (two .0 e .0)) .0 (two .0 e .1),
       λ h.
-          let sum = fits-less (plus (b .total) (p .tally)) (tallySum ps) (rw (plus-groups (b .total) (p .tally) (tallySum ps)) (h .1)) in
-          let free : indexOf (p .issuer) (lanesOf b) < mostLanes = omega (arith, placed-longer p (lanesOf b) .0, placed-all-longer (placed p (lanesOf b)) ps, h .0) in
+          let sum =
+          fits-less (plus (b .total) (p .tally)) (tallySum ps)
+          (rw (plus-groups (b .total) (p .tally) (tallySum ps)) (h .1)) in
+          let free : indexOf (p .issuer) (lanesOf b) < mostLanes =
+          omega (arith, placed-longer p (lanesOf b) .0, placed-all-longer (placed p (lanesOf b)) ps, h .0) in
           let f = sound-fit b p s free sum in
           two .1 (fit b p .1 f, rest f .1 h),
     )
 
 pub fresh-board-takes : FreshBoardTakes
-fresh-board-takes ps = rw (plus-swap emptyTally (tallySum ps), plus-none (tallySum ps)) at (takes freshBoard (stays-sound .0) ps)
+fresh-board-takes ps =
+    rw (plus-swap emptyTally (tallySum ps), plus-none (tallySum ps)) at (takes freshBoard (stays-sound .0) ps)
 
 holds : (b : Board) → SoundBoard b → (ps : List Lane) → postAnswers b ps ≡ Accepted
     → (lanesOf (boardWithAll b ps) ≡ placedAll (lanesOf b) ps) × SoundBoard (boardWithAll b ps)

@@ -37,7 +37,8 @@ same-is i j e =
 -- The sums.
 
 -- a number to which a payment adds its own, at its issuer's lane
-module _ (v : Lane → ℕ) (grows : (l p : Lane) → isLaneOf (p .issuer) l ≡ true → v (grownLane (l .tally) p) ≡ v l + v p) where
+module _ (v : Lane → ℕ)
+    (grows : (l p : Lane) → isLaneOf (p .issuer) l ≡ true → v (grownLane (l .tally) p) ≡ v l + v p) where
   placed-sum : (p : Lane) (ls : List Lane) → sumBy v (placed p ls) ≡ sumBy v ls + v p
   placed-sum p [] = omega arith
   placed-sum p (l ∷ ls) =
@@ -68,7 +69,9 @@ own-sums-agree w adds i ps = placed-all-sum (only i w) grows [] ps ∙ omega ari
     both a b false false e = omega arith
 
     grows : (l p : Lane) → isLaneOf (p .issuer) l ≡ true → only i w (grownLane (l .tally) p) ≡ only i w l + only i w p
-    grows l p t = both (l .tally) (p .tally) (isLaneOf i l) (isLaneOf i p) (ap (λ (j : Issuer). sameIssuer j i) (same-is (l .issuer) (p .issuer) t))
+    grows l p t =
+        both (l .tally) (p .tally) (isLaneOf i l) (isLaneOf i p)
+        (ap (λ (j : Issuer). sameIssuer j i) (same-is (l .issuer) (p .issuer) t))
 
 -- a number of the sum is the sum of that number
 pub sum-read : (w : Tally → ℕ) → Adds w → (ls : List Lane) → w (tallySum ls) ≡ sumBy (each w) ls
@@ -76,7 +79,8 @@ sum-read w adds [] = let h = adds emptyTally emptyTally in omega arith
 sum-read w adds (l ∷ ls) = omega (arith, adds (l .tally) (tallySum ls), sum-read w adds ls)
 
 -- two sums are equal if each of their numbers is
-same-sum : (ls ms : List Lane) → ((w : Tally → ℕ) → Adds w → sumBy (each w) ls ≡ sumBy (each w) ms) → tallySum ls ≡ tallySum ms
+same-sum : (ls ms : List Lane) → ((w : Tally → ℕ) → Adds w → sumBy (each w) ls ≡ sumBy (each w) ms)
+    → tallySum ls ≡ tallySum ms
 same-sum ls ms h = alike (number (λ t. t .payments) payments-add) (number (λ t. t .centavos) centavos-add)
   where
     number : (w : Tally → ℕ) → Adds w → w (tallySum ls) ≡ w (tallySum ms)
@@ -84,7 +88,8 @@ same-sum ls ms h = alike (number (λ t. t .payments) payments-add) (number (λ t
 
 pub placed-kept : (p : Lane) (ls : List Lane) → tallySum (placed p ls) ≡ tallySum (p ∷ ls)
 placed-kept p ls =
-    same-sum (placed p ls) (p ∷ ls) (λ w adds. placed-sum (each w) (λ l q t. adds (l .tally) (q .tally)) p ls ∙ omega arith)
+    same-sum (placed p ls) (p ∷ ls)
+    (λ w adds. placed-sum (each w) (λ l q t. adds (l .tally) (q .tally)) p ls ∙ omega arith)
 
 pub sum-is-kept : SumIsKept
 sum-is-kept ps = same-sum (lanesFrom ps) ps (λ w adds. sums-agree w adds ps)
@@ -96,18 +101,21 @@ past-thirty-two-bits i = rw (eq-eqb (i .segment) (i .segment) refl, eq-eqb (i .n
 
 -- a payment adds its issuer at the end, unless it is there already
 pub placed-issuers : (p : Lane) (ls : List Lane)
-    → issuersOf (placed p ls) ≡ cond (isAmong (p .issuer) (issuersOf ls)) (issuersOf ls) (issuersOf ls ++ (p .issuer ∷ []))
+    → issuersOf (placed p ls)
+    ≡ cond (isAmong (p .issuer) (issuersOf ls)) (issuersOf ls) (issuersOf ls ++ (p .issuer ∷ []))
 placed-issuers p [] = refl
 placed-issuers p (l ∷ ls) = go (isLaneOf (p .issuer) l) refl (isAmong (p .issuer) (issuersOf ls)) (placed-issuers p ls)
   where
-    go : (t : Bool) → isLaneOf (p .issuer) l ≡ t → (u : Bool) → issuersOf (placed p ls) ≡ cond u (issuersOf ls) (issuersOf ls ++ (p .issuer ∷ []))
+    go : (t : Bool) → isLaneOf (p .issuer) l ≡ t → (u : Bool)
+        → issuersOf (placed p ls) ≡ cond u (issuersOf ls) (issuersOf ls ++ (p .issuer ∷ []))
         → issuersOf (cond t (grownLane (l .tally) p ∷ ls) (l ∷ placed p ls))
         ≡ cond (cond t true u) (l .issuer ∷ issuersOf ls) (l .issuer ∷ (issuersOf ls ++ (p .issuer ∷ [])))
     go true e u h = ap (λ (i : Issuer). i ∷ issuersOf ls) (sym (same-is (l .issuer) (p .issuer) e))
     go false e true h = ap (λ (is : List Issuer). l .issuer ∷ is) h
     go false e false h = ap (λ (is : List Issuer). l .issuer ∷ is) h
 
-not-last : (i j : Issuer) (is : List Issuer) → isAmong i is ≡ false → sameIssuer j i ≡ false → isAmong i (is ++ (j ∷ [])) ≡ false
+not-last : (i j : Issuer) (is : List Issuer) → isAmong i is ≡ false → sameIssuer j i ≡ false
+    → isAmong i (is ++ (j ∷ [])) ≡ false
 not-last i j [] h e = rw e
 not-last i j (k ∷ is) h e = go (sameIssuer k i) h (λ q. not-last i j is q e)
   where
@@ -120,7 +128,8 @@ last-distinct : (j : Issuer) (is : List Issuer) → isAmong j is ≡ false → D
 last-distinct j [] e h = (refl, tt)
 last-distinct j (i ∷ is) e h = go (sameIssuer i j) refl e (λ f. last-distinct j is f (h .1))
   where
-    go : (t : Bool) → sameIssuer i j ≡ t → cond t true (isAmong j is) ≡ false → (isAmong j is ≡ false → Distinct (is ++ (j ∷ [])))
+    go : (t : Bool) → sameIssuer i j ≡ t → cond t true (isAmong j is) ≡ false
+        → (isAmong j is ≡ false → Distinct (is ++ (j ∷ [])))
         → Distinct (i ∷ (is ++ (j ∷ [])))
     go true q f later = absurd (false≢true (sym f))
     go false q f later = (not-last i j is (h .0) (same-sym j i ∙ q), later f)
@@ -139,7 +148,9 @@ no-issuer-twice ps = placed-all-distinct [] ps tt
 
 placed-all-issuers : (ls ps : List Lane) → issuersOf (placedAll ls ps) ≡ issuersOf ls ++ appearing (issuersOf ls) ps
 placed-all-issuers ls [] = sym (append-nil (issuersOf ls))
-placed-all-issuers ls (p ∷ ps) = placed-all-issuers (placed p ls) ps ∙ rw (placed-issuers p ls) (go (issuersOf ls) (isAmong (p .issuer) (issuersOf ls)))
+placed-all-issuers ls (p ∷ ps) =
+    placed-all-issuers (placed p ls) ps
+    ∙ rw (placed-issuers p ls) (go (issuersOf ls) (isAmong (p .issuer) (issuersOf ls)))
   where
     go : (seen : List Issuer) (t : Bool)
         → cond t seen (seen ++ (p .issuer ∷ [])) ++ appearing (cond t seen (seen ++ (p .issuer ∷ []))) ps

@@ -30,7 +30,8 @@ refusal-keeps-board b p h = refusal-keeps (postAnswer b p) (boardWith b p) b h
 
 -- the lane of a first payment
 first-grown : (p : Lane) → grownLane emptyTally p ≡ p
-first-grown p = ap {B = Lane} (λ (t : Tally). record { issuer = p .issuer; tally = t }) (alike (omega arith) (omega arith))
+first-grown p =
+    ap {B = Lane} (λ (t : Tally). record { issuer = p .issuer; tally = t }) (alike (omega arith) (omega arith))
 
 -- storing the lane that was found, or a new lane if none was, is `placed`
 module _ (p : Lane) where
@@ -85,7 +86,8 @@ fit b p =
     )
 
 -- at index k: the issuer's lane or the first free one
-module _ (b : Board) (p : Lane) (s : SoundBoard b) (k : ℕ) (is : k ≡ indexOf (p .issuer) (lanesOf b)) (free : k < mostLanes) where
+module _ (b : Board) (p : Lane) (s : SoundBoard b) (k : ℕ) (is : k ≡ indexOf (p .issuer) (lanesOf b))
+    (free : k < mostLanes) where
   stored-placed : (t : Bool) → ltb k (b .used) ≡ t
       → take (cond t (b .used) (k + 1)) (set (b .lanes) k (grownLane (cond t (getD (b .lanes) k blank .tally) emptyTally) p))
       ≡ placed p (lanesOf b)
@@ -109,11 +111,14 @@ module _ (b : Board) (p : Lane) (s : SoundBoard b) (k : ℕ) (is : k ≡ indexOf
 module _ (b : Board) (p : Lane) (s : SoundBoard b) where
   pub with-placed : indexOf (p .issuer) (lanesOf b) < mostLanes → lanesOf (boardWith b p) ≡ placed p (lanesOf b)
   unfolding ownOf usedAfter
-  with-placed free = stored-placed b p s (indexOf (p .issuer) (lanesOf b)) refl free (ltb (indexOf (p .issuer) (lanesOf b)) (b .used)) refl
+  with-placed free =
+      stored-placed b p s (indexOf (p .issuer) (lanesOf b)) refl free
+      (ltb (indexOf (p .issuer) (lanesOf b)) (b .used)) refl
 
   with-few : indexOf (p .issuer) (lanesOf b) < mostLanes → boardWith b p .used ≤ mostLanes
   unfolding usedAfter
-  with-few free = stored-few b p s (indexOf (p .issuer) (lanesOf b)) refl free (ltb (indexOf (p .issuer) (lanesOf b)) (b .used))
+  with-few free =
+      stored-few b p s (indexOf (p .issuer) (lanesOf b)) refl free (ltb (indexOf (p .issuer) (lanesOf b)) (b .used))
 
   pub with-sound : Fit b p → SoundBoard (boardWith b p)
   with-sound f =
@@ -121,7 +126,8 @@ module _ (b : Board) (p : Lane) (s : SoundBoard b) where
         full = simp length-set (s .full);
         few = with-few (f .free);
         once = rw (with-placed (f .free)) (placed-distinct p (lanesOf b) (s .once));
-        total = rw (with-placed (f .free), placed-kept p (lanesOf b), s .total) (plus-swap (tallySum (lanesOf b)) (p .tally));
+        total =
+            rw (with-placed (f .free), placed-kept p (lanesOf b), s .total) (plus-swap (tallySum (lanesOf b)) (p .tally));
         low = f .low;
       }
 
@@ -134,6 +140,7 @@ stays-sound = (
   λ b p s. go b p s (postAnswer b p) refl,
 )
   where
-    go : (b : Board) (p : Lane) → SoundBoard b → (a : Answer) → postAnswer b p ≡ a → SoundBoard (ifAccepted a (boardWith b p) b)
+    go : (b : Board) (p : Lane) → SoundBoard b → (a : Answer) → postAnswer b p ≡ a
+        → SoundBoard (ifAccepted a (boardWith b p) b)
     go b p s Accepted e = with-sound b p s (fit b p .0 e)
     go b p s (Refused why q) e = s

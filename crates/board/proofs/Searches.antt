@@ -28,7 +28,8 @@ index-within i (l ∷ ls) = go (isLaneOf i l) (index-within i ls)
 -- a search that came to index k: the issuer's index is k and as many more as it is among the lanes from k up to `to`
 abbrev pub Searched : Board → Issuer → ℕ → ℕ → Type 0
 Searched b i to k =
-    (k ≤ to) × (to ≤ min (b .used) mostLanes) × (indexOf i (lanesOf b) ≡ k + indexOf i (take (to - k) (drop k (lanesOf b))))
+    (k ≤ to) × (to ≤ min (b .used) mostLanes) ×
+    (indexOf i (lanesOf b) ≡ k + indexOf i (take (to - k) (drop k (lanesOf b))))
 
 module _ (b : Board) (full : length (b .lanes) ≡ mostLanes) (i : Issuer) where
   -- it starts at all lanes in use
@@ -40,7 +41,8 @@ module _ (b : Board) (full : length (b .lanes) ≡ mostLanes) (i : Issuer) where
   module _ (to k : ℕ) (inv : Searched b i to k) where
     -- one lane more is tested
     lane-next : k < to → indexOf i (take (to - k) (drop k (lanesOf b)))
-        ≡ cond (isLaneOf i (getD (b .lanes) k blank)) 0 (suc (indexOf i (take (to - (k + 1)) (drop (k + 1) (lanesOf b)))))
+        ≡ cond (isLaneOf i (getD (b .lanes) k blank)) 0
+        (suc (indexOf i (take (to - (k + 1)) (drop (k + 1) (lanesOf b)))))
     lane-next h =
         let more : to - k ≡ suc (to - (k + 1)) = omega arith in
         let here = getD-take (b .used) (b .lanes) k blank (omega (arith, inv .1)) in

@@ -22,17 +22,20 @@ use Rattle.board.specs.Boards.{blank, lanesOf, indexOf, slotAt, withSlot
 
 -- within the board only the sums are left to check: of the lane with the payment, then of the total
 module _ (s : Slot) (p : Lane) (own : Tally) (free : s .at < mostLanes) (is : own ≡ ownOf s) where
-  sums-left : slotAnswer s p ≡ require (fits (plus own (p .tally)) && fits (plus (s .total) (p .tally))) BoardTotalPassed receivedPlace
+  sums-left : slotAnswer s p
+      ≡ require (fits (plus own (p .tally)) && fits (plus (s .total) (p .tally))) BoardTotalPassed receivedPlace
   unfolding slotAnswer
   sums-left = rw (lt-ltb (s .at) mostLanes free, is)
 
   result : (t u : Bool) → fits (plus own (p .tally)) ≡ t → fits (plus (s .total) (p .tally)) ≡ u
-      → (a : Answer) → a ≡ require (t && u) BoardTotalPassed receivedPlace → record { answer = a; slot = ifAccepted a (grownSlot s p) s } ≡ slotResultOf s p
+      → (a : Answer) → a ≡ require (t && u) BoardTotalPassed receivedPlace
+      → record { answer = a; slot = ifAccepted a (grownSlot s p) s } ≡ slotResultOf s p
   result t u e f a g =
       let h : a ≡ slotAnswer s p = g ∙ sym (sums-left ∙ rw (e, f)) in
       rw h
 
-  pub own-passed : fits (plus own (p .tally)) ≡ false → record { answer = Refused BoardTotalPassed receivedPlace; slot = s } ≡ slotResultOf s p
+  pub own-passed : fits (plus own (p .tally)) ≡ false
+      → record { answer = Refused BoardTotalPassed receivedPlace; slot = s } ≡ slotResultOf s p
   own-passed e = result false (fits (plus (s .total) (p .tally))) e refl (Refused BoardTotalPassed receivedPlace) refl
 
   pub total-passed : fits (plus own (p .tally)) ≡ true → fits (plus (s .total) (p .tally)) ≡ false
@@ -45,11 +48,13 @@ module _ (s : Slot) (p : Lane) (own : Tally) (free : s .at < mostLanes) (is : ow
   within e f t u v = rw (t, u, v, is) (result true true e f Accepted refl)
 
 -- the slot after a posting, put back: if the payment is refused, the board is as it was
-pub put-back : (b : Board) (p : Lane) (at : ℕ) (e : SlotResult) → at ≡ indexOf (p .issuer) (lanesOf b) → e ≡ slotResultOf (slotAt b at) p
+pub put-back : (b : Board) (p : Lane) (at : ℕ) (e : SlotResult) → at ≡ indexOf (p .issuer) (lanesOf b)
+    → e ≡ slotResultOf (slotAt b at) p
     → _≡_ {A = PostResult}
     (record { answer = e .answer; board = record { lanes = set (b .lanes) at (e .slot .lane); used = e .slot .used; total = e .slot .total } })
     (postResultOf b p)
-put-back b p at e i f = rw (f, i) (go (indexOf (p .issuer) (lanesOf b)) (slotAnswer (slotAt b (indexOf (p .issuer) (lanesOf b))) p))
+put-back b p at e i f =
+    rw (f, i) (go (indexOf (p .issuer) (lanesOf b)) (slotAnswer (slotAt b (indexOf (p .issuer) (lanesOf b))) p))
   where
     go : (k : ℕ) (a : Answer)
         → _≡_ {A = PostResult}

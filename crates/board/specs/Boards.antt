@@ -102,8 +102,8 @@ pub record SoundBoard (b : Board) : Type 0 where
   pub total : b .total ≡ tallySum (lanesOf b)
   pub low : fits (b .total) ≡ true
 
--- Promises, of one payment: a refusal changes nothing, and an accepted payment is added to its lane; a sound board stays
--- sound, and accepts exactly if the issuer has a lane or one is free, and no total passes the limit.
+-- Promises, of one payment: a refusal changes nothing, and an accepted payment is added to its lane; a sound board
+-- stays sound, and accepts exactly if the issuer has a lane or one is free, and no total passes the limit.
 
 abbrev pub RefusalKeepsBoard : Type 0
 RefusalKeepsBoard = (b : Board) (p : Lane) → (postResultOf b p .answer ≡ Accepted → ⊥) → postResultOf b p .board ≡ b
@@ -122,13 +122,14 @@ PostAccepts =
     ↔ (((isAmong (p .issuer) (issuersOf (lanesOf b)) ≡ true) ⊎ (b .used < mostLanes))
     × (fits (plus (b .total) (p .tally)) ≡ true))
 
--- Promises, of a board that holds some payments: its answers follow from them alone. A fresh board takes payments exactly
--- if they have at most 64 issuers and a sum within the limit; its lanes are then the payments grouped by issuer, and its
--- total is their sum.
+-- Promises, of a board that holds some payments: its answers follow from them alone. A fresh board takes payments
+-- exactly if they have at most 64 issuers and a sum within the limit; its lanes are then the payments grouped by
+-- issuer, and its total is their sum.
 
 abbrev pub AnswersAsPayments : Type 0
 AnswersAsPayments =
-    (b : Board) (ps : List Lane) (p : Lane) → SoundBoard b → lanesOf b ≡ lanesFrom ps → postAnswer b p ≡ answerAfter ps p
+    (b : Board) (ps : List Lane) (p : Lane) → SoundBoard b → lanesOf b ≡ lanesFrom ps
+    → postAnswer b p ≡ answerAfter ps p
 
 abbrev pub FreshBoardTakes : Type 0
 FreshBoardTakes =

@@ -1,4 +1,4 @@
--- Serves the search of a board kept in a local alone (src/searching.rt): its cache, and where it looks. Assumes nothing.
+-- Serves the search of a board kept in a local alone (src/searching.rt): its cache, where it looks. Assumes nothing.
 use Prim.Native.Nat.{ℕ, min}
 use mathlib.Core.Bool.{cond, _&&_}
 use lib.Dec.{ltb}

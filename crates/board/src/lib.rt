@@ -23,7 +23,7 @@ pub struct Lane {
     pub tally: Tally,
 }
 
-// The lanes in use are the first `used`; all of them if a board in an arbitrary state says more. The total is their sum.
+// The lanes in use are the first `used`; all of them if a board in an arbitrary state says more. `total` is their sum.
 #[repr(C)]
 pub struct Board {
     pub lanes: [Lane; Board::LANES],

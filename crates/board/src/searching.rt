@@ -1,8 +1,9 @@
-// Searching a lane. `Board::lane_index` is the whole search, of a board passed by value, which copies 2 KB. Code that posts
-// many payments keeps its board in a local and searches it there: it remembers in a cache where it found each issuer
-// last (`cache_index`), tries that lane first (`search_for`), and tests each index of the `Search` until a lane `is_of`
-// the issuer; the index it ends at is the lane's, or the first free one. Both ways find the same index, `indexOf` of
-// specs/Boards.antt: if one changes, the other changes with it. proofs/Searches.antt and proofs/Caches.antt tie them.
+// Searching a lane. `Board::lane_index` is the whole search, of a board passed by value, which copies 2 KB. Code that
+// posts many payments keeps its board in a local and searches it there: it remembers in a cache where it found each
+// issuer last (`cache_index`), tries that lane first (`search_for`), and tests each index of the `Search` until a lane
+// `is_of` the issuer; the index it ends at is the lane's, or the first free one. Both ways find the same index,
+// `indexOf` of specs/Boards.antt: if one changes, so does the other. proofs/Searches.antt and proofs/Caches.antt tie
+// them.
 ghost use mathlib.Core.Path.{_≡_};
 ghost use Prim.Native.Nat.{_%_, min};
 ghost use Rattle.board.specs.Lanes.{mostLanes};
@@ -32,8 +33,8 @@ pub fn cache_index(issuer: Issuer) -> usize
     (issuer.number % CACHE_LENGTH as u64) as usize
 }
 
-// Where to search an issuer's lane. If the guess is in use and `seen`, the lane there, is the issuer's, the search is over:
-// `from` and `to` are the guess. Else it goes over all lanes in use. The guess may be any number.
+// Where to search an issuer's lane. If the guess is in use and `seen`, the lane there, is the issuer's, the search is
+// over: `from` and `to` are the guess. Else it goes over all lanes in use. The guess may be any number.
 pub fn search_for(issuer: Issuer, guess: usize, seen: Lane, used: usize) -> Search
     ensures { λ r. ⌜ r ≡ searchOf issuer guess seen used ⌝ }
 {

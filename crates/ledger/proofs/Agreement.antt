@@ -1,4 +1,4 @@
--- A session and the book agree at first and after every step, and so their answers are one. Assumes nothing.
+-- A session and the ledger agree at first and after every step, so their answers are equal. Assumes nothing.
 use Prim.Native.Nat.{ℕ, _+_}
 use mathlib.Core.Bool.{true, false, not, false≢true}
 use mathlib.Core.List.{List, [], _∷_, _++_, append-assoc, append-nil}
@@ -23,73 +23,78 @@ use Rattle.record.specs.Values.{paymentShown, trailerShown, recordShown, shownU
 use Rattle.file.specs.Files.{mostPayments, mostCentavos, freshFile, fileAnswer, figuresAnswer}
 use Rattle.board.specs.declared.Lane.{Lane}
 use Rattle.board.specs.declared.Board.{Board}
-use Rattle.board.specs.Lanes.{place, lanesFrom}
+use Rattle.board.specs.Lanes.{placed, lanesFrom}
 use Rattle.board.specs.Boards.{lanesOf, postAnswer, answerAfter, SoundBoard}
 use Rattle.board.proofs.Lanes.{split, one-payment-more}
 use Rattle.board.proofs.Posting.{fit, with-sound, post-places, stays-sound}
 use Rattle.board.proofs.Boards.{answers-as-payments}
 use Rattle.session.specs.declared.Session.{Session}
 use Rattle.session.specs.Sessions.{freshSession, openedAt, closedAt, sessionExpects, figuresIn, payAnswer, sessionWithPayment, sessionAnswer, sessionWith, takeAnswer, takeOf, abandonOf}
-use Rattle.ledger.specs.Ledgers.{Filed, Ledger, freshLedger, paymentRecords, openRecords, laneOfRecord, lanesOfRecords, receivedIn, awaits, paymentStateAnswer, trailerStateAnswer, stateAnswer, ledgerAnswer, withRecord, Step, taking, abandoning, noted, ledgerAfter, ledgerAnswers}
-use Rattle.ledger.specs.Promises.{stepped, sessionAfter, answersOf, isOpen, allRecords, Agrees, SessionAgrees, AnswersAreTheLedgers, NextAnswerIsTheLedgers}
+use Rattle.ledger.specs.Ledgers.{Filed, Ledger, freshLedger, paymentRecords, openRecords, laneOfRecord, lanesOfRecords, receivedIn, ledgerExpects, paymentStateAnswer, trailerStateAnswer, stateAnswer, ledgerAnswer, withRecord, Step, taking, abandoning, ledgerStep, ledgerAfter, ledgerAnswers}
+use Rattle.ledger.specs.Promises.{sessionStep, sessionAfter, answersOf, isOpen, allRecords, Agrees, SessionAgrees, AnswersAreTheLedgers, NextAnswerIsTheLedgers}
 
 -- The answers.
 
--- a session and a book by its parts
+-- a session, and a ledger by its parts
 module _ (s : Session) (files : List Filed) (rec : List ℕ) where
-  payment-asked : (f : Filed) → Agrees s (record { accepted = files; opened = some f }) → payAnswer s (laneOfRecord rec) ≡ paymentStateAnswer files f rec
+  payment-answer : (f : Filed) → Agrees s (record { accepted = files; opened = some f })
+      → payAnswer s (laneOfRecord rec) ≡ paymentStateAnswer files f rec
   unfolding fileAnswer
-  payment-asked f h =
+  payment-answer f h =
       rw (answers-as-payments (s .work) (lanesOfRecords (paymentRecords files ++ f .payments)) (laneOfRecord rec) (h .soundWork) (h .work), h .taken, h .total)
       (then-groups (require (ltb (length (f .payments)) mostPayments) FileFull 1)
       (require (leb (receivedIn (f .payments) + paymentShown rec .received) mostCentavos) FileTotalPassed receivedPlace)
       (answerAfter (lanesOfRecords (paymentRecords files ++ f .payments)) (laneOfRecord rec)))
 
-  trailer-asked : (f : Filed) → Agrees s (record { accepted = files; opened = some f })
+  trailer-answer : (f : Filed) → Agrees s (record { accepted = files; opened = some f })
       → figuresAnswer (s .file) (figuresIn (trailerShown rec)) ≡ trailerStateAnswer f rec
   unfolding figuresAnswer
-  trailer-asked f h = rw (h .taken, h .total)
+  trailer-answer f h = rw (h .taken, h .total)
 
-  record-asked : (o : Option Filed) (n : MaybeRecord) (a : Answer) → Agrees s (record { accepted = files; opened = o })
+  record-answer : (o : Option Filed) (n : MaybeRecord) (a : Answer) → Agrees s (record { accepted = files; opened = o })
       → require (sessionExpects (s .opened) n) NotExpected 1 then sessionAnswer s (shownUnlessRefused a (recordShown n rec))
-      ≡ require (awaits o n) NotExpected 1 then a then stateAnswer files o n rec
-  record-asked none (Is Header) Accepted h = rw (h .opened)
-  record-asked none (Is Header) (Refused why p) h = rw (h .opened)
-  record-asked none (Is Payment) a h = rw (h .opened)
-  record-asked none (Is Trailer) a h = rw (h .opened)
-  record-asked none Other a h = refl
-  record-asked (some f) (Is Header) a h = rw (h .opened)
-  record-asked (some f) (Is Payment) Accepted h = rw (h .opened) (payment-asked f h)
-  record-asked (some f) (Is Payment) (Refused why p) h = rw (h .opened)
-  record-asked (some f) (Is Trailer) Accepted h = rw (h .opened) (trailer-asked f h)
-  record-asked (some f) (Is Trailer) (Refused why p) h = rw (h .opened)
-  record-asked (some f) Other a h = refl
+      ≡ require (ledgerExpects o n) NotExpected 1 then a then stateAnswer files o n rec
+  record-answer none (Is Header) Accepted h = rw (h .opened)
+  record-answer none (Is Header) (Refused why p) h = rw (h .opened)
+  record-answer none (Is Payment) a h = rw (h .opened)
+  record-answer none (Is Trailer) a h = rw (h .opened)
+  record-answer none Other a h = refl
+  record-answer (some f) (Is Header) a h = rw (h .opened)
+  record-answer (some f) (Is Payment) Accepted h = rw (h .opened) (payment-answer f h)
+  record-answer (some f) (Is Payment) (Refused why p) h = rw (h .opened)
+  record-answer (some f) (Is Trailer) Accepted h = rw (h .opened) (trailer-answer f h)
+  record-answer (some f) (Is Trailer) (Refused why p) h = rw (h .opened)
+  record-answer (some f) Other a h = refl
 
 pub answer-agrees : (s : Session) (k : Ledger) (rec : List ℕ) → Agrees s k → takeAnswer s rec ≡ ledgerAnswer k rec
 answer-agrees s k rec h =
     ap (λ (a : Answer). require (eqb (length rec) recordLength) WrongLength 0 then a)
-    (record-asked s (k .accepted) rec (k .opened) (namedBy (getD rec 0 0)) (recordAnswer rec) h)
+    (record-answer s (k .accepted) rec (k .opened) (namedBy (getD rec 0 0)) (recordAnswer rec) h)
 
--- The records of a book, one more at the end.
+-- The records of a ledger, one more at the end.
 
-records-joined : (files : List Filed) (f : Filed) → paymentRecords (files ++ (f ∷ [])) ≡ paymentRecords files ++ f .payments
+records-joined : (files : List Filed) (f : Filed)
+    → paymentRecords (files ++ (f ∷ [])) ≡ paymentRecords files ++ f .payments
 records-joined [] f = append-nil (f .payments)
 records-joined (g ∷ files) f =
     ap (λ (recs : List (List ℕ)). g .payments ++ recs) (records-joined files f) ∙
     sym (append-assoc (g .payments) (paymentRecords files) (f .payments))
 
-paid-joined : (recs : List (List ℕ)) (rec : List ℕ) → lanesOfRecords (recs ++ (rec ∷ [])) ≡ lanesOfRecords recs ++ (laneOfRecord rec ∷ [])
-paid-joined [] rec = refl
-paid-joined (r ∷ recs) rec = ap (λ (ps : List Lane). laneOfRecord r ∷ ps) (paid-joined recs rec)
+lanes-joined : (recs : List (List ℕ)) (rec : List ℕ)
+    → lanesOfRecords (recs ++ (rec ∷ [])) ≡ lanesOfRecords recs ++ (laneOfRecord rec ∷ [])
+lanes-joined [] rec = refl
+lanes-joined (r ∷ recs) rec = ap (λ (ps : List Lane). laneOfRecord r ∷ ps) (lanes-joined recs rec)
 
-received-joined : (recs : List (List ℕ)) (rec : List ℕ) → receivedIn (recs ++ (rec ∷ [])) ≡ receivedIn recs + paymentShown rec .received
+received-joined : (recs : List (List ℕ)) (rec : List ℕ)
+    → receivedIn (recs ++ (rec ∷ [])) ≡ receivedIn recs + paymentShown rec .received
 received-joined [] rec = omega arith
 received-joined (r ∷ recs) rec = omega (arith, received-joined recs rec)
 
 -- The session that follows.
 
 -- both boards are those of the accepted files
-at-rest : (b : Board) (files : List Filed) (o : Option Filed) → lanesOf b ≡ lanesFrom (lanesOfRecords (paymentRecords files)) → SoundBoard b → openRecords o ≡ []
+at-rest : (b : Board) (files : List Filed) (o : Option Filed)
+    → lanesOf b ≡ lanesFrom (lanesOfRecords (paymentRecords files)) → SoundBoard b → openRecords o ≡ []
     → Agrees (record { shown = b; work = b; opened = isOpen o; file = freshFile }) (record { accepted = files; opened = o })
 at-rest b files o e sound none-yet =
     record {
@@ -103,7 +108,8 @@ at-rest b files o e sound none-yet =
     }
 
 module _ (s : Session) (files : List Filed) (rec : List ℕ) where
-  opens : (o : Option Filed) → Agrees s (record { accepted = files; opened = o }) → Agrees (openedAt (s .shown)) (withRecord files none (Is Header) rec)
+  opens : (o : Option Filed) → Agrees s (record { accepted = files; opened = o })
+      → Agrees (openedAt (s .shown)) (withRecord files none (Is Header) rec)
   opens o h = at-rest (s .shown) files (some (record { header = rec; payments = [] })) (h .shown) (h .soundShown) refl
 
   drops : (o : Option Filed) → Agrees s (record { accepted = files; opened = o })
@@ -117,25 +123,33 @@ module _ (s : Session) (files : List Filed) (rec : List ℕ) where
     more : allRecords (withRecord files (some f) (Is Payment) rec) ≡ (paymentRecords files ++ f .payments) ++ (rec ∷ [])
     more = sym (append-assoc (paymentRecords files) (f .payments) (rec ∷ []))
 
-    pays : payAnswer s (laneOfRecord rec) ≡ Accepted → Agrees (sessionWithPayment s (laneOfRecord rec)) (withRecord files (some f) (Is Payment) rec)
+    pays : payAnswer s (laneOfRecord rec) ≡ Accepted
+        → Agrees (sessionWithPayment s (laneOfRecord rec)) (withRecord files (some f) (Is Payment) rec)
     pays e =
         let before = paymentRecords files ++ f .payments in
-        let posted = then-accepts (fileAnswer (s .file) (paymentShown rec .received)) (postAnswer (s .work) (laneOfRecord rec)) .0 e .1 in
+        let posted =
+        then-accepts (fileAnswer (s .file) (paymentShown rec .received))
+        (postAnswer (s .work) (laneOfRecord rec)) .0 e .1 in
         record {
           opened = h .opened;
           shown = h .shown;
           work =
-              post-places (s .work) (laneOfRecord rec) (h .soundWork) posted ∙ ap (place (laneOfRecord rec)) (h .work) ∙
-              sym (one-payment-more (lanesOfRecords before) (laneOfRecord rec)) ∙ ap lanesFrom (sym (paid-joined before rec)) ∙
+              post-places (s .work) (laneOfRecord rec) (h .soundWork) posted
+              ∙ ap (placed (laneOfRecord rec)) (h .work) ∙
+              sym (one-payment-more (lanesOfRecords before) (laneOfRecord rec))
+              ∙ ap lanesFrom (sym (lanes-joined before rec)) ∙
               ap (λ (recs : List (List ℕ)). lanesFrom (lanesOfRecords recs)) (sym more);
           taken = omega (arith, h .taken, length-append (f .payments) (rec ∷ []));
           total = omega (arith, h .total, received-joined (f .payments) rec);
           soundShown = h .soundShown;
-          soundWork = with-sound (s .work) (laneOfRecord rec) (h .soundWork) (fit (s .work) (laneOfRecord rec) .0 posted);
+          soundWork =
+              with-sound (s .work) (laneOfRecord rec) (h .soundWork) (fit (s .work) (laneOfRecord rec) .0 posted);
         }
 
-  followed : (o : Option Filed) (n : MaybeRecord) (a : Answer) → Agrees s (record { accepted = files; opened = o }) → sessionExpects (s .opened) n ≡ true
-      → sessionAnswer s (shownUnlessRefused a (recordShown n rec)) ≡ Accepted → Agrees (sessionWith s (shownUnlessRefused a (recordShown n rec))) (withRecord files o n rec)
+  followed : (o : Option Filed) (n : MaybeRecord) (a : Answer) → Agrees s (record { accepted = files; opened = o })
+      → sessionExpects (s .opened) n ≡ true
+      → sessionAnswer s (shownUnlessRefused a (recordShown n rec)) ≡ Accepted
+      → Agrees (sessionWith s (shownUnlessRefused a (recordShown n rec))) (withRecord files o n rec)
   followed o n (Refused why p) h x e = not-both _ refl e
   followed o Other Accepted h x e = absurd (false≢true x)
   followed none (Is Header) Accepted h x e = opens none h
@@ -145,14 +159,16 @@ module _ (s : Session) (files : List Filed) (rec : List ℕ) where
   followed (some f) (Is Payment) Accepted h x e = pays f h e
   followed (some f) (Is Trailer) Accepted h x e = closes f h
 
-  abandoned : (o : Option Filed) → Agrees s (record { accepted = files; opened = o }) → Agrees (abandonOf s) (record { accepted = files; opened = none })
+  abandoned : (o : Option Filed) → Agrees s (record { accepted = files; opened = o })
+      → Agrees (abandonOf s) (record { accepted = files; opened = none })
   abandoned none h =
       split (λ (r : Session). Agrees r (record { accepted = files; opened = none })) (s .opened) (λ t. drops none h) (λ t. h)
   abandoned (some f) h =
       split (λ (r : Session). Agrees r (record { accepted = files; opened = none })) (s .opened) (λ t. drops (some f) h)
       (λ t. absurd (false≢true (sym t ∙ h .opened)))
 
-pub take-agrees : (s : Session) (k : Ledger) (rec : List ℕ) → Agrees s k → Agrees (takeOf s rec .session) (noted k (taking rec))
+pub take-agrees : (s : Session) (k : Ledger) (rec : List ℕ) → Agrees s k
+    → Agrees (takeOf s rec .session) (ledgerStep k (taking rec))
 take-agrees s k rec h = rw (← answer-agrees s k rec h) (go (takeAnswer s rec) refl)
   where
     go : (a : Answer) → takeAnswer s rec ≡ a
@@ -163,23 +179,24 @@ take-agrees s k rec h = rw (← answer-agrees s k rec h) (go (takeAnswer s rec) 
         let met = passed (sessionExpects (s .opened) (namedBy (getD rec 0 0))) NotExpected 1 own in
         followed s (k .accepted) rec (k .opened) (namedBy (getD rec 0 0)) (recordAnswer rec) h (met .0) (met .1)
 
-step-agrees : (s : Session) (k : Ledger) (step : Step) → Agrees s k → Agrees (stepped s step) (noted k step)
+step-agrees : (s : Session) (k : Ledger) (step : Step) → Agrees s k → Agrees (sessionStep s step) (ledgerStep k step)
 step-agrees s k (taking rec) h = take-agrees s k rec h
 step-agrees s k abandoning h = abandoned s (k .accepted) [] (k .opened) h
 
 -- Any list of steps.
 
-steps-agree : (steps : List Step) (s : Session) (k : Ledger) → Agrees s k → Agrees (sessionAfter s steps) (ledgerAfter k steps)
+steps-agree : (steps : List Step) (s : Session) (k : Ledger) → Agrees s k
+    → Agrees (sessionAfter s steps) (ledgerAfter k steps)
 steps-agree [] s k h = h
-steps-agree (step ∷ steps) s k h = steps-agree steps (stepped s step) (noted k step) (step-agrees s k step h)
+steps-agree (step ∷ steps) s k h = steps-agree steps (sessionStep s step) (ledgerStep k step) (step-agrees s k step h)
 
 answers-agree : (steps : List Step) (s : Session) (k : Ledger) → Agrees s k → answersOf s steps ≡ ledgerAnswers k steps
 answers-agree [] s k h = refl
 answers-agree (taking rec ∷ steps) s k h =
     ap₂ (λ (a : Answer) (rest : List Answer). a ∷ rest) (answer-agrees s k rec h)
-    (answers-agree steps (stepped s (taking rec)) (noted k (taking rec)) (step-agrees s k (taking rec) h))
+    (answers-agree steps (sessionStep s (taking rec)) (ledgerStep k (taking rec)) (step-agrees s k (taking rec) h))
 answers-agree (abandoning ∷ steps) s k h =
-    answers-agree steps (stepped s abandoning) (noted k abandoning) (step-agrees s k abandoning h)
+    answers-agree steps (sessionStep s abandoning) (ledgerStep k abandoning) (step-agrees s k abandoning h)
 
 pub fresh-agrees : Agrees freshSession freshLedger
 fresh-agrees =
@@ -188,8 +205,9 @@ fresh-agrees =
 pub session-agrees : SessionAgrees
 session-agrees steps = steps-agree steps freshSession freshLedger fresh-agrees
 
-pub answers-are-the-books : AnswersAreTheLedgers
-answers-are-the-books steps = answers-agree steps freshSession freshLedger fresh-agrees
+pub answers-are-the-ledgers : AnswersAreTheLedgers
+answers-are-the-ledgers steps = answers-agree steps freshSession freshLedger fresh-agrees
 
-pub next-answer-is-the-books : NextAnswerIsTheLedgers
-next-answer-is-the-books steps rec = answer-agrees (sessionAfter freshSession steps) (ledgerAfter freshLedger steps) rec (session-agrees steps)
+pub next-answer-is-the-ledgers : NextAnswerIsTheLedgers
+next-answer-is-the-ledgers steps rec =
+    answer-agrees (sessionAfter freshSession steps) (ledgerAfter freshLedger steps) rec (session-agrees steps)

@@ -24,34 +24,38 @@ use Rattle.record.specs.declared.Decoded.{Decoded}
 use Rattle.record.specs.Records.{recordAnswer}
 use Rattle.record.specs.Values.{trailerShown, recordShown, shownUnlessRefused, decodedRecord}
 use Rattle.record.proofs.Shown.{accepted-is}
+use Rattle.file.specs.Files.{countPlace, totalPlace}
 use Rattle.session.specs.declared.Session.{Session}
 use Rattle.session.specs.Sessions.{closedAt, sessionExpects, sessionAnswer, sessionWith, takeAnswer, takeOf, abandonOf}
 use Rattle.ledger.specs.Ledgers.{Filed, Ledger, receivedIn, trailerStateAnswer, ledgerAnswer, taking, abandoning}
 use Rattle.ledger.specs.Promises.{ledgerOf, TrueTrailersOnly, RefusalKeepsSession, OnlyTrailersShow, TrailersShowAll, NothingShowsBefore, AbandonKeepsBoard, AbandonDropsFile, AbandonNothing, FinishKeepsSession, FinishAnswers}
-use Rattle.ledger.proofs.Agreement.{next-answer-is-the-books}
+use Rattle.ledger.proofs.Agreement.{next-answer-is-the-ledgers}
 
 -- The trailer.
 
--- both figures are asked
-figures-asked : (f : Filed) (rec : List ℕ)
-    → (trailerStateAnswer f rec ≡ Accepted) ↔ ((trailerShown rec .count ≡ length (f .payments) + 2) × (trailerShown rec .total ≡ receivedIn (f .payments)))
-figures-asked f rec =
+-- both figures are checked
+figures-accept : (f : Filed) (rec : List ℕ)
+    → (trailerStateAnswer f rec ≡ Accepted)
+    ↔ ((trailerShown rec .count ≡ length (f .payments) + 2) × (trailerShown rec .total ≡ receivedIn (f .payments)))
+figures-accept f rec =
     let count = eqb (trailerShown rec .count) (length (f .payments) + 2) in
     let total = eqb (trailerShown rec .total) (receivedIn (f .payments)) in
-    let two = then-accepts (require count CountDiffers 2) (require total TotalDiffers 8) in
-    let one = asked-accepts count CountDiffers 2 in
-    let other = asked-accepts total TotalDiffers 8 in (
+    let two = then-accepts (require count CountDiffers countPlace) (require total TotalDiffers totalPlace) in
+    let one = asked-accepts count CountDiffers countPlace in
+    let other = asked-accepts total TotalDiffers totalPlace in (
       λ e. (eqb-true _ _ (one .0 (two .0 e .0)), eqb-true _ _ (other .0 (two .0 e .1))),
       λ h. two .1 (one .1 (eq-eqb _ _ (h .0)), other .1 (eq-eqb _ _ (h .1))),
     )
 
--- a Z whose fields are right is asked only those
-trailer-answer : (k : Ledger) (f : Filed) (rec : List ℕ) → k .opened ≡ some f → recordAnswer rec ≡ Accepted → namedBy (getD rec 0 0) ≡ Is Trailer
+-- of a Z with right fields only the figures are checked
+trailer-answer : (k : Ledger) (f : Filed) (rec : List ℕ) → k .opened ≡ some f → recordAnswer rec ≡ Accepted
+    → namedBy (getD rec 0 0) ≡ Is Trailer
     → ledgerAnswer k rec ≡ trailerStateAnswer f rec
 trailer-answer k f rec o e n = rw (o, e, n, eq-eqb (length rec) recordLength (accepted-is rec e .0))
 
 pub true-trailers-only : TrueTrailersOnly
-true-trailers-only steps f rec o e n = rw (next-answer-is-the-books steps rec, trailer-answer (ledgerOf steps) f rec o e n) (figures-asked f rec)
+true-trailers-only steps f rec o e n =
+    rw (next-answer-is-the-ledgers steps rec, trailer-answer (ledgerOf steps) f rec o e n) (figures-accept f rec)
 
 -- Any session.
 
@@ -60,7 +64,8 @@ refusal-keeps-session s rec h = refusal-keeps (takeAnswer s rec) (sessionWith s 
 
 -- what a record leaves of the board shown
 module _ (s : Session) (rec : List ℕ) where
-  stays : (n : MaybeRecord) (own a : Answer) → (n ≡ Is Trailer → ⊥) → ifAccepted a (sessionWith s (shownUnlessRefused own (recordShown n rec))) s .shown ≡ s .shown
+  stays : (n : MaybeRecord) (own a : Answer) → (n ≡ Is Trailer → ⊥)
+      → ifAccepted a (sessionWith s (shownUnlessRefused own (recordShown n rec))) s .shown ≡ s .shown
   stays n own (Refused why p) h = refl
   stays n (Refused why p) Accepted h = refl
   stays (Is Header) Accepted Accepted h = refl
@@ -71,7 +76,8 @@ module _ (s : Session) (rec : List ℕ) where
 pub only-trailers-show : OnlyTrailersShow
 only-trailers-show s rec h = stays s rec (namedBy (getD rec 0 0)) (recordAnswer rec) (takeAnswer s rec) h
 
-own-accepts : (s : Session) (a : Answer) (d : Decoded) → sessionAnswer s (shownUnlessRefused a d) ≡ Accepted → a ≡ Accepted
+own-accepts : (s : Session) (a : Answer) (d : Decoded) → sessionAnswer s (shownUnlessRefused a d) ≡ Accepted
+    → a ≡ Accepted
 own-accepts s Accepted d e = refl
 own-accepts s (Refused why p) d e = e
 
@@ -100,7 +106,8 @@ abandon-nothing s e = ap (λ (t : Bool). cond t (closedAt (s .shown)) s) e
 
 pub nothing-shows-before : NothingShowsBefore
 nothing-shows-before s [] h = refl
-nothing-shows-before s (taking rec ∷ steps) h = nothing-shows-before (takeOf s rec .session) steps (h .1) ∙ only-trailers-show s rec (h .0)
+nothing-shows-before s (taking rec ∷ steps) h =
+    nothing-shows-before (takeOf s rec .session) steps (h .1) ∙ only-trailers-show s rec (h .0)
 nothing-shows-before s (abandoning ∷ steps) h = nothing-shows-before (abandonOf s) steps (h .1) ∙ abandon-keeps-board s
 
 pub finish-keeps-session : FinishKeepsSession
@@ -110,7 +117,8 @@ pub finish-answers : FinishAnswers
 finish-answers s = go (s .opened)
   where
     go : (t : Bool)
-        → ((answerNumber (require (not t) FileOpen 0) ≡ 19) ↔ (t ≡ true)) × ((answerNumber (require (not t) FileOpen 0) ≡ 0) ↔ (t ≡ false))
+        → ((answerNumber (require (not t) FileOpen 0) ≡ 19) ↔ (t ≡ true))
+        × ((answerNumber (require (not t) FileOpen 0) ≡ 0) ↔ (t ≡ false))
         × (answerPlace (require (not t) FileOpen 0) ≡ 0)
     go true = ((λ e. refl, λ e. refl), (λ e. absurd (omega arith), λ e. absurd (false≢true (sym e))), refl)
     go false = ((λ e. absurd (omega arith), λ e. absurd (false≢true e)), (λ e. refl, λ e. refl), refl)

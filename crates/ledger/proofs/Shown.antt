@@ -1,4 +1,4 @@
--- The board shown is the payment records of accepted files: by issuer, in order, lane for lane, in sum. Assumes nothing.
+-- The board shown is the payment records of accepted files: by issuer, in order, each lane, the sums. Assumes nothing.
 use Prim.Native.Nat.{ℕ}
 use mathlib.Core.Bool.{Bool, true, false, cond, false≢true}
 use mathlib.Core.List.{List, [], _∷_}
@@ -22,26 +22,28 @@ pub lanes-are-the-payments : LanesAreThePayments
 lanes-are-the-payments steps = session-agrees steps .shown
 
 pub lanes-in-order : LanesInOrder
-lanes-in-order steps = ap issuersOf (lanes-are-the-payments steps) ∙ in-order-of-appearance (lanesOfRecords (acceptedRecords steps))
+lanes-in-order steps =
+    ap issuersOf (lanes-are-the-payments steps) ∙ in-order-of-appearance (lanesOfRecords (acceptedRecords steps))
 
 pub no-issuer-has-two-lanes : NoIssuerHasTwoLanes
-no-issuer-has-two-lanes steps = rw (lanes-are-the-payments steps) (no-issuer-twice (lanesOfRecords (acceptedRecords steps)))
+no-issuer-has-two-lanes steps =
+    rw (lanes-are-the-payments steps) (no-issuer-twice (lanesOfRecords (acceptedRecords steps)))
 
 -- The sums.
 
-pub count-paid : (recs : List (List ℕ)) → sumBy (each (λ t. t .payments)) (lanesOfRecords recs) ≡ length recs
-count-paid [] = refl
-count-paid (rec ∷ recs) = omega (arith, count-paid recs)
+pub lanes-count : (recs : List (List ℕ)) → sumBy (each (λ t. t .payments)) (lanesOfRecords recs) ≡ length recs
+lanes-count [] = refl
+lanes-count (rec ∷ recs) = omega (arith, lanes-count recs)
 
-pub sum-paid : (recs : List (List ℕ)) → sumBy (each (λ t. t .centavos)) (lanesOfRecords recs) ≡ receivedIn recs
-sum-paid [] = refl
-sum-paid (rec ∷ recs) = omega (arith, sum-paid recs)
+pub lanes-sum : (recs : List (List ℕ)) → sumBy (each (λ t. t .centavos)) (lanesOfRecords recs) ≡ receivedIn recs
+lanes-sum [] = refl
+lanes-sum (rec ∷ recs) = omega (arith, lanes-sum recs)
 
 pub sums-are-the-records : SumsAreTheRecords
 sums-are-the-records steps =
     let recs = acceptedRecords steps in
     rw (lanes-are-the-payments steps)
-    (sums-agree (λ t. t .payments) payments-add (lanesOfRecords recs) ∙ count-paid recs, sums-agree (λ t. t .centavos) centavos-add (lanesOfRecords recs) ∙ sum-paid recs)
+    (sums-agree (λ t. t .payments) payments-add (lanesOfRecords recs) ∙ lanes-count recs, sums-agree (λ t. t .centavos) centavos-add (lanesOfRecords recs) ∙ lanes-sum recs)
 
 pub totals-are-the-records : TotalsAreTheRecords
 totals-are-the-records steps =
@@ -73,7 +75,7 @@ neither : (t u : Bool) → cond t true u ≡ false → (t ≡ false) × (u ≡ f
 neither true u e = absurd (false≢true (sym e))
 neither false u e = (refl, e)
 
--- where no issuer has two lanes, an issuer's sum is what its lane shows
+-- if no issuer has two lanes, an issuer's sum is what its lane shows
 module _ (w : Tally → ℕ) where
   not-there : (i : Issuer) (ls : List Lane) → isAmong i (issuersOf ls) ≡ false → sumBy (only i w) ls ≡ 0
   not-there i [] e = refl
@@ -89,28 +91,34 @@ module _ (w : Tally → ℕ) where
       let n = neither (sameIssuer (m .issuer) (l .issuer)) (isAmong (l .issuer) (issuersOf ms)) e in
       (rw (differ (m .issuer) (l .issuer) (n .0)) (omega (arith, h .0)), behind-lane l ls ms (n .1) (h .1))
 
-  own-lanes : (ls : List Lane) → Distinct (issuersOf ls) → Each (λ (l : Lane). sumBy (only (l .issuer) w) ls ≡ w (l .tally)) ls
+  own-lanes : (ls : List Lane) → Distinct (issuersOf ls)
+      → Each (λ (l : Lane). sumBy (only (l .issuer) w) ls ≡ w (l .tally)) ls
   own-lanes [] h = tt
   own-lanes (l ∷ ls) h = (
     rw (same-self (l .issuer)) (omega (arith, not-there (l .issuer) ls (h .0))),
     behind-lane l ls ls (h .0) (own-lanes ls (h .1)),
   )
 
-own-count : (i : Issuer) (recs : List (List ℕ)) → sumBy (only i (λ t. t .payments)) (lanesOfRecords recs) ≡ length (ofIssuer i recs)
+own-count : (i : Issuer) (recs : List (List ℕ))
+    → sumBy (only i (λ t. t .payments)) (lanesOfRecords recs) ≡ length (ofIssuer i recs)
 own-count i [] = refl
 own-count i (rec ∷ recs) =
-    split (λ (own : List (List ℕ)). sumBy (only i (λ t. t .payments)) (lanesOfRecords (rec ∷ recs)) ≡ length own) (isLaneOf i (laneOfRecord rec))
+    split (λ (own : List (List ℕ)). sumBy (only i (λ t. t .payments)) (lanesOfRecords (rec ∷ recs)) ≡ length own)
+    (isLaneOf i (laneOfRecord rec))
     (λ t. rw t (omega (arith, own-count i recs)))
     (λ t. rw t (omega (arith, own-count i recs)))
 
-own-received : (i : Issuer) (recs : List (List ℕ)) → sumBy (only i (λ t. t .centavos)) (lanesOfRecords recs) ≡ receivedIn (ofIssuer i recs)
+own-received : (i : Issuer) (recs : List (List ℕ))
+    → sumBy (only i (λ t. t .centavos)) (lanesOfRecords recs) ≡ receivedIn (ofIssuer i recs)
 own-received i [] = refl
 own-received i (rec ∷ recs) =
-    split (λ (own : List (List ℕ)). sumBy (only i (λ t. t .centavos)) (lanesOfRecords (rec ∷ recs)) ≡ receivedIn own) (isLaneOf i (laneOfRecord rec))
+    split (λ (own : List (List ℕ)). sumBy (only i (λ t. t .centavos)) (lanesOfRecords (rec ∷ recs)) ≡ receivedIn own)
+    (isLaneOf i (laneOfRecord rec))
     (λ t. rw t (omega (arith, own-received i recs)))
     (λ t. rw t (omega (arith, own-received i recs)))
 
-each-both : {P Q R : Lane → Type 0} → ((l : Lane) → P l → Q l → R l) → (ls : List Lane) → Each P ls → Each Q ls → Each R ls
+each-both : {P Q R : Lane → Type 0} → ((l : Lane) → P l → Q l → R l) → (ls : List Lane) → Each P ls → Each Q ls
+    → Each R ls
 each-both f [] p q = tt
 each-both f (l ∷ ls) p q = (f l (p .0) (q .0), each-both f ls (p .1) (q .1))
 
@@ -122,7 +130,9 @@ each-lane-is-exact steps =
     rw (lanes-are-the-payments steps)
     (each-both
     (λ l p q. (
-      sym p ∙ own-sums-agree (λ t. t .payments) payments-add (l .issuer) (lanesOfRecords recs) ∙ own-count (l .issuer) recs,
-      sym q ∙ own-sums-agree (λ t. t .centavos) centavos-add (l .issuer) (lanesOfRecords recs) ∙ own-received (l .issuer) recs,
+      sym p ∙ own-sums-agree (λ t. t .payments) payments-add (l .issuer) (lanesOfRecords recs)
+          ∙ own-count (l .issuer) recs,
+      sym q ∙ own-sums-agree (λ t. t .centavos) centavos-add (l .issuer) (lanesOfRecords recs)
+          ∙ own-received (l .issuer) recs,
     ))
     lanes (own-lanes (λ t. t .payments) lanes once) (own-lanes (λ t. t .centavos) lanes once))

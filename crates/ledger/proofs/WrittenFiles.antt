@@ -1,4 +1,4 @@
--- A file that the writer closed is whole and true, so a fresh session accepts it. Assumes nothing.
+-- A file that the writer closed is whole with true figures, so a fresh session accepts it. Assumes nothing.
 use Prim.Native.Nat.{ℕ, _+_, _≤_}
 use mathlib.Core.List.{List, [], _∷_, map}
 use mathlib.Core.Path.{_≡_, refl, sym, ap, subst, _∙_}
@@ -34,42 +34,50 @@ use Rattle.ledger.proofs.WholeFiles.{received-each, file-accepted, fres
 abbrev opened : File → Writer
 opened f = record { stage = Open; file = f }
 
-right : (r : Record) (given amounts : List ℕ) → makeAnswer r given amounts recordLength ≡ Accepted → IsRight r (madeOf (layoutOf r) given amounts)
-right r given amounts e = (written-is-accepted r given amounts recordLength e .0, ap namedBy (first-byte r given amounts) ∙ mark-names r .0)
+right : (r : Record) (given amounts : List ℕ) → makeAnswer r given amounts recordLength ≡ Accepted
+    → IsRight r (madeOf (layoutOf r) given amounts)
+right r given amounts e =
+    (written-is-accepted r given amounts recordLength e .0, ap namedBy (first-byte r given amounts) ∙ mark-names r .0)
 
 -- payments that were written to an open file
-record Walked (f : File) (gs : List Given) : Type 0 where
+record AllWritten (f : File) (gs : List Given) : Type 0 where
   each : Each (IsRight Payment) (writtenRecords gs)
   fits : fileAnswers f (receivedEach (writtenRecords gs)) ≡ Accepted
   leaves : writerAfterPayments (opened f) gs ≡ opened (fileWithAll f (receivedEach (writtenRecords gs)))
 
-walk : (f : File) (gs : List Given) → PaymentsWritten (opened f) gs → Walked f gs
-walk f [] p = record { each = tt; fits = refl; leaves = refl }
-walk f (g ∷ gs) p =
+write-all : (f : File) (gs : List Given) → PaymentsWritten (opened f) gs → AllWritten f gs
+write-all f [] p = record { each = tt; fits = refl; leaves = refl }
+write-all f (g ∷ gs) p =
     let amounts = g .received ∷ g .tariff ∷ [] in
     let make = makeAnswer Payment (g .fields) amounts recordLength in
-    let asks = then-accepts (callAnswer (opened f) Payment (length (g .fields)) recordLength) (make then fileAnswer f (g .received)) .0 (p .0) .1 in
-    let both = then-accepts make (fileAnswer f (g .received)) .0 asks in
+    let own =
+    then-accepts (callAnswer (opened f) Payment (length (g .fields)) recordLength)
+    (make then fileAnswer f (g .received)) .0 (p .0) .1 in
+    let both = then-accepts make (fileAnswer f (g .received)) .0 own in
     let x = values.paymentShown (recordOf g) .received in
     let xs = receivedEach (writtenRecords gs) in
-    let read : x ≡ g .received = written-amounts-are-read (g .fields) (g .received) (g .tariff) recordLength (both .0) .0 in
+    let read : x ≡ g .received =
+    written-amounts-are-read (g .fields) (g .received) (g .tariff) recordLength (both .0) .0 in
     let next : paymentWritten (opened f) (g .fields) (g .received) (g .tariff) recordLength .writer ≡ opened (fileWith f (g .received)) =
-    accepted-takes (paymentAnswer (opened f) (g .fields) (g .received) (g .tariff) recordLength) (opened (fileWith f (g .received))) (opened f) (p .0) in
-    let rest = walk (fileWith f (g .received)) gs (subst (λ (w : Writer). PaymentsWritten w gs) next (p .1)) in
+    accepted-takes (paymentAnswer (opened f) (g .fields) (g .received) (g .tariff) recordLength)
+    (opened (fileWith f (g .received))) (opened f) (p .0) in
+    let rest = write-all (fileWith f (g .received)) gs (subst (λ (w : Writer). PaymentsWritten w gs) next (p .1)) in
     record {
       each = (right Payment (g .fields) amounts (both .0), rest .each);
       fits =
           then-accepts (fileAnswer f x) (fileAnswers (fileWith f x) xs) .1
           (ap (fileAnswer f) read ∙ both .1, ap (λ (y : ℕ). fileAnswers (fileWith f y) xs) read ∙ rest .fits);
       leaves =
-          ap (λ (w : Writer). writerAfterPayments w gs) next ∙ rest .leaves ∙ ap (λ (y : ℕ). opened (fileWithAll (fileWith f y) xs)) (sym read);
+          ap (λ (w : Writer). writerAfterPayments w gs) next ∙ rest .leaves
+          ∙ ap (λ (y : ℕ). opened (fileWithAll (fileWith f y) xs)) (sym read);
     }
 
 counted : (recs : List (List ℕ)) → length (receivedEach recs) ≡ length recs
 counted recs = simp length-map
 
 -- a fresh file that took these payments
-holds-all : (recs : List (List ℕ)) → fileWithAll freshFile (receivedEach recs) ≡ record { taken = length recs; total = receivedIn recs }
+holds-all : (recs : List (List ℕ))
+    → fileWithAll freshFile (receivedEach recs) ≡ record { taken = length recs; total = receivedIn recs }
 holds-all recs =
     fresh-file-holds (receivedEach recs) ∙ ap (λ (n : ℕ). record { taken = length (receivedEach recs); total = n }) (received-each recs)
     ∙ ap (λ (n : ℕ). record { taken = n; total = receivedIn recs }) (counted recs)
@@ -78,30 +86,35 @@ module _ (header : List ℕ) (gs : List Given) (c : Closed header gs) where
   opens : openedBy header ≡ opened freshFile
   opens = accepted-takes (headerAnswer freshWriter header recordLength) (opened freshFile) freshWriter (c .opens)
 
-  walked : Walked freshFile gs
-  walked = walk freshFile gs (subst (λ (w : Writer). PaymentsWritten w gs) opens (c .pays))
+  all-written : AllWritten freshFile gs
+  all-written = write-all freshFile gs (subst (λ (w : Writer). PaymentsWritten w gs) opens (c .pays))
 
   abbrev last : Writer
   last = writerAfterPayments (openedBy header) gs
 
   file-is : last .file ≡ record { taken = length (writtenRecords gs); total = receivedIn (writtenRecords gs) }
   file-is =
-      ap (λ (w : Writer). writerAfterPayments w gs .file) opens ∙ ap (λ (w : Writer). w .file) (walked .leaves) ∙ holds-all (writtenRecords gs)
+      ap (λ (w : Writer). writerAfterPayments w gs .file) opens ∙ ap (λ (w : Writer). w .file) (all-written .leaves)
+      ∙ holds-all (writtenRecords gs)
 
   trailer-made : makeAnswer Trailer (countBytes last) (figuresOf (last .file) .total ∷ 0 ∷ []) recordLength ≡ Accepted
   trailer-made =
       let make = makeAnswer Trailer (countBytes last) (figuresOf (last .file) .total ∷ 0 ∷ []) recordLength in
-      let asks = then-accepts (callAnswer last Trailer (givenLength Trailer) recordLength) (closingAnswer (last .file) then make) .0 (c .closes) .1 in
-      then-accepts (closingAnswer (last .file)) make .0 asks .1
+      let own =
+      then-accepts (callAnswer last Trailer (givenLength Trailer) recordLength)
+      (closingAnswer (last .file) then make) .0 (c .closes) .1 in
+      then-accepts (closingAnswer (last .file)) make .0 own .1
 
   header-made : makeAnswer Header header (0 ∷ 0 ∷ []) recordLength ≡ Accepted
-  header-made = then-accepts (callAnswer freshWriter Header (length header) recordLength) (makeAnswer Header header (0 ∷ 0 ∷ []) recordLength) .0 (c .opens) .1
+  header-made =
+      then-accepts (callAnswer freshWriter Header (length header) recordLength)
+      (makeAnswer Header header (0 ∷ 0 ∷ []) recordLength) .0 (c .opens) .1
 
   whole : Whole (headerBytes header) (writtenRecords gs) (trailerAfter header gs)
   whole =
       record {
         header = right Header header (0 ∷ 0 ∷ []) header-made;
-        payments = walked .each;
+        payments = all-written .each;
         trailer = right Trailer (countBytes last) (figuresOf (last .file) .total ∷ 0 ∷ []) trailer-made;
       }
 
@@ -112,7 +125,7 @@ module _ (header : List ℕ) (gs : List Given) (c : Closed header gs) where
 
   limits : (length (writtenRecords gs) ≤ mostPayments) × (receivedIn (writtenRecords gs) ≤ mostCentavos)
   limits =
-      let both = fresh-file-takes (receivedEach (writtenRecords gs)) .0 (walked .fits) in
+      let both = fresh-file-takes (receivedEach (writtenRecords gs)) .0 (all-written .fits) in
       (subst (λ (n : ℕ). n ≤ mostPayments) (counted (writtenRecords gs)) (both .0), subst (λ (n : ℕ). n ≤ mostCentavos) (received-each (writtenRecords gs)) (both .1))
 
 pub closed-file-is-whole : ClosedFileIsWhole
@@ -121,15 +134,18 @@ closed-file-is-whole header gs c = (whole header gs c, figures header gs c)
 pub closed-file-is-accepted : ClosedFileIsAccepted
 closed-file-is-accepted header gs c few =
     let recs = writtenRecords gs in
-    let all = fresh-session-accepts (headerBytes header) recs (trailerAfter header gs) (whole header gs c) .1 (limits header gs c .0, limits header gs c .1, few, figures header gs c) in
+    let all =
+    fresh-session-accepts (headerBytes header) recs (trailerAfter header gs) (whole header gs c) .1
+    (limits header gs c .0, limits header gs c .1, few, figures header gs c) in
     (all, fresh-session-shows (headerBytes header) recs (trailerAfter header gs) (whole header gs c) all .0)
 
--- The other way: the fields of right payments that an open file has room for write them again.
+-- The converse: the fields of right payments that an open file has room for write them again.
 record Rewritten (f : File) (recs : List (List ℕ)) : Type 0 where
   pays : PaymentsWritten (opened f) (map givenBy recs)
   same : writtenRecords (map givenBy recs) ≡ recs
 
-rewrite-all : (f : File) (recs : List (List ℕ)) → Each (IsRight Payment) recs → fileAnswers f (receivedEach recs) ≡ Accepted → Rewritten f recs
+rewrite-all : (f : File) (recs : List (List ℕ)) → Each (IsRight Payment) recs
+    → fileAnswers f (receivedEach recs) ≡ Accepted → Rewritten f recs
 rewrite-all f [] each room = record { pays = tt; same = refl }
 rewrite-all f (rec ∷ recs) each room =
     let x = values.paymentShown rec .received in
@@ -137,21 +153,26 @@ rewrite-all f (rec ∷ recs) each room =
     let write = fields-write-the-payment (opened f) rec (each .0 .0) (each .0 .1) refl (rooms .0) in
     let g = givenBy rec in
     let next : paymentWritten (opened f) (g .fields) (g .received) (g .tariff) recordLength .writer ≡ opened (fileWith f x) =
-    accepted-takes (paymentAnswer (opened f) (g .fields) (g .received) (g .tariff) recordLength) (opened (fileWith f x)) (opened f) (write .0) in
+    accepted-takes (paymentAnswer (opened f) (g .fields) (g .received) (g .tariff) recordLength)
+    (opened (fileWith f x)) (opened f) (write .0) in
     let rest = rewrite-all (fileWith f x) recs (each .1) (rooms .1) in
     record {
       pays = (write .0, subst (λ (w : Writer). PaymentsWritten w (map givenBy recs)) (sym next) (rest .pays));
-      same = ap (λ (r : List ℕ). r ∷ writtenRecords (map givenBy recs)) (write .1) ∙ ap (λ (l : List (List ℕ)). rec ∷ l) (rest .same);
+      same =
+          ap (λ (r : List ℕ). r ∷ writtenRecords (map givenBy recs)) (write .1)
+          ∙ ap (λ (l : List (List ℕ)). rec ∷ l) (rest .same);
     }
 
-module _ (b : Board) (a : List ℕ) (recs : List (List ℕ)) (z : List ℕ) (w : Whole a recs z) (e : AllAccepted (answersOf (closedAt b) (fileOf a recs z))) where
+module _ (b : Board) (a : List ℕ) (recs : List (List ℕ)) (z : List ℕ) (w : Whole a recs z)
+    (e : AllAccepted (answersOf (closedAt b) (fileOf a recs z))) where
   abbrev header : List ℕ
   header = joinedOf Header a
 
   abbrev gs : List Given
   gs = map givenBy recs
 
-  accepted : (fileAnswers freshFile (receivedEach recs) ≡ Accepted) × (postAnswers b (lanesOfRecords recs) ≡ Accepted) × TrueFigures recs z
+  accepted : (fileAnswers freshFile (receivedEach recs) ≡ Accepted) × (postAnswers b (lanesOfRecords recs) ≡ Accepted)
+      × TrueFigures recs z
   accepted = file-accepted b a recs z w .0 e
 
   again : Rewritten freshFile recs
@@ -168,13 +189,16 @@ module _ (b : Board) (a : List ℕ) (recs : List (List ℕ)) (z : List ℕ) (w :
 
   end : writerAfterPayments (openedBy header) gs ≡ opened (record { taken = length recs; total = receivedIn recs })
   end =
-      ap (λ (x : Writer). writerAfterPayments x gs) starts ∙ walk freshFile gs (again .pays) .leaves
-      ∙ ap (λ (l : List (List ℕ)). opened (fileWithAll freshFile (receivedEach l))) (again .same) ∙ ap opened (holds-all recs)
+      ap (λ (x : Writer). writerAfterPayments x gs) starts ∙ write-all freshFile gs (again .pays) .leaves
+      ∙ ap (λ (l : List (List ℕ)). opened (fileWithAll freshFile (receivedEach l))) (again .same)
+      ∙ ap opened (holds-all recs)
 
-  tail : (trailerAnswer (writerAfterPayments (openedBy header) gs) recordLength ≡ Accepted) × (trailerAfter header gs ≡ z)
+  tail : (trailerAnswer (writerAfterPayments (openedBy header) gs) recordLength ≡ Accepted)
+      × (trailerAfter header gs ≡ z)
   tail =
       let last = opened (record { taken = length recs; total = receivedIn recs }) in
-      let write = fields-write-the-trailer last z (w .trailer .0) (w .trailer .1) refl (accepted .2 .0) (accepted .2 .1) in
+      let write =
+      fields-write-the-trailer last z (w .trailer .0) (w .trailer .1) refl (accepted .2 .0) (accepted .2 .1) in
       rw end write
 
 pub fields-write-the-file : FieldsWriteTheFile

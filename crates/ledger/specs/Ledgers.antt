@@ -1,4 +1,5 @@
--- The book: what becomes of the records' bytes, with no session and no board (document 01, "Sessions and the board"). Assumes nothing.
+-- The ledger: a second meaning of the records, from their bytes, with no session and no board (SPEC.md, "Sessions").
+-- Assumes nothing.
 use Prim.Native.Nat.{ℕ, _+_}
 use mathlib.Core.Bool.{Bool, true, false, cond}
 use mathlib.Core.List.{List, [], _∷_, _++_, map}
@@ -23,7 +24,7 @@ use Rattle.board.specs.Lanes.{sameIssuer}
 use Rattle.board.specs.Boards.{answerAfter}
 use Rattle.session.specs.Sessions.{laneOfPayment}
 
--- a file as it came: its header's bytes and its payment records' bytes, the latest last
+-- a file as received: the bytes of its header and of its payment records, the latest last
 pub record Filed : Type 0 where
   pub header : List ℕ
   pub payments : List (List ℕ)
@@ -38,7 +39,7 @@ freshLedger = record { accepted = []; opened = none }
 
 -- Read off payment records.
 
--- the payment records of files, in the order in which they came
+-- the payment records of files, in order of arrival
 abbrev pub paymentRecords : List Filed → List (List ℕ)
 paymentRecords [] = []
 paymentRecords (f ∷ fs) = f .payments ++ paymentRecords fs
@@ -47,7 +48,7 @@ abbrev pub openRecords : Option Filed → List (List ℕ)
 openRecords none = []
 openRecords (some f) = f .payments
 
--- what is paid: each record is a lane of one
+-- each payment record as a lane of one
 abbrev pub laneOfRecord : List ℕ → Lane
 laneOfRecord rec = laneOfPayment (paymentShown rec)
 
@@ -62,27 +63,28 @@ receivedIn (rec ∷ recs) = paymentShown rec .received + receivedIn recs
 -- those that name this issuer
 abbrev pub ofIssuer : Issuer → List (List ℕ) → List (List ℕ)
 ofIssuer i [] = []
-ofIssuer i (rec ∷ recs) = cond (sameIssuer (paymentShown rec .barcode .issuer) i) (rec ∷ ofIssuer i recs) (ofIssuer i recs)
+ofIssuer i (rec ∷ recs) =
+    cond (sameIssuer (paymentShown rec .barcode .issuer) i) (rec ∷ ofIssuer i recs) (ofIssuer i recs)
 
 -- The answer to a record.
 
 -- with no file open A is expected; in an open file G or Z
-abbrev pub awaits : Option Filed → MaybeRecord → Bool
-awaits none (Is Header) = true
-awaits none (Is Payment) = false
-awaits none (Is Trailer) = false
-awaits none Other = false
-awaits (some f) (Is Header) = false
-awaits (some f) (Is Payment) = true
-awaits (some f) (Is Trailer) = true
-awaits (some f) Other = false
+abbrev pub ledgerExpects : Option Filed → MaybeRecord → Bool
+ledgerExpects none (Is Header) = true
+ledgerExpects none (Is Payment) = false
+ledgerExpects none (Is Trailer) = false
+ledgerExpects none Other = false
+ledgerExpects (some f) (Is Header) = false
+ledgerExpects (some f) (Is Payment) = true
+ledgerExpects (some f) (Is Trailer) = true
+ledgerExpects (some f) Other = false
 
--- a G: 15, 16 from the open file's payments; 17, 18 from those of all accepted files and of the open one
+-- a G: 15, 16 from the open file's payments; 17, 18 from those of all accepted files and the open one
 abbrev pub paymentStateAnswer : List Filed → Filed → List ℕ → Answer
-paymentStateAnswer files f rec =
+paymentStateAnswer files f r =
     require (ltb (length (f .payments)) mostPayments) FileFull 1
-    then require (leb (receivedIn (f .payments) + paymentShown rec .received) mostCentavos) FileTotalPassed receivedPlace
-    then answerAfter (lanesOfRecords (paymentRecords files ++ f .payments)) (laneOfRecord rec)
+    then require (leb (receivedIn (f .payments) + paymentShown r .received) mostCentavos) FileTotalPassed receivedPlace
+    then answerAfter (lanesOfRecords (paymentRecords files ++ f .payments)) (laneOfRecord r)
 
 -- a Z: 13, the number of the file's records, A and Z included; 14, what its payments received
 abbrev pub trailerStateAnswer : Filed → List ℕ → Answer
@@ -90,7 +92,7 @@ trailerStateAnswer f rec =
     require (eqb (trailerShown rec .count) (length (f .payments) + 2)) CountDiffers countPlace
     then require (eqb (trailerShown rec .total) (receivedIn (f .payments))) TotalDiffers totalPlace
 
--- with no file open only A comes so far, and it is asked no more
+-- with no file open only an A gets this far, and nothing more is checked
 abbrev pub stateAnswer : List Filed → Option Filed → MaybeRecord → List ℕ → Answer
 stateAnswer files none named rec = Accepted
 stateAnswer files (some f) (Is Header) rec = Accepted
@@ -98,17 +100,17 @@ stateAnswer files (some f) (Is Payment) rec = paymentStateAnswer files f rec
 stateAnswer files (some f) (Is Trailer) rec = trailerStateAnswer f rec
 stateAnswer files (some f) Other rec = Accepted
 
--- record: 1, 9, its own, then the book's
+-- taking a record: 1, 9, its own refusals, then the ledger's
 abbrev pub ledgerAnswer : Ledger → List ℕ → Answer
 ledgerAnswer k rec =
     require (eqb (length rec) recordLength) WrongLength 0
-    then require (awaits (k .opened) (namedBy (getD rec 0 0))) NotExpected 1
+    then require (ledgerExpects (k .opened) (namedBy (getD rec 0 0))) NotExpected 1
     then recordAnswer rec
     then stateAnswer (k .accepted) (k .opened) (namedBy (getD rec 0 0)) rec
 
--- The book that follows.
+-- The ledger that follows.
 
--- an accepted A opens a file, a G joins it, a Z has it accepted
+-- an accepted A opens a file, a G is added to it, a Z closes it: it is then an accepted file
 abbrev pub withRecord : List Filed → Option Filed → MaybeRecord → List ℕ → Ledger
 withRecord files none named rec = record { accepted = files; opened = some (record { header = rec; payments = [] }) }
 withRecord files (some f) (Is Header) rec = record { accepted = files; opened = some f }
@@ -117,22 +119,23 @@ withRecord files (some f) (Is Payment) rec =
 withRecord files (some f) (Is Trailer) rec = record { accepted = files ++ (f ∷ []); opened = none }
 withRecord files (some f) Other rec = record { accepted = files; opened = some f }
 
--- a record is taken, of any bytes, or the open file is abandoned
+-- taking a record of any bytes, or abandoning the open file
 pub data Step : Type 0 where
   taking : List ℕ → Step
   abandoning : Step
 
 -- a refused record changes nothing; abandoning drops the open file
-abbrev pub noted : Ledger → Step → Ledger
-noted k (taking rec) = ifAccepted (ledgerAnswer k rec) (withRecord (k .accepted) (k .opened) (namedBy (getD rec 0 0)) rec) k
-noted k abandoning = record { accepted = k .accepted; opened = none }
+abbrev pub ledgerStep : Ledger → Step → Ledger
+ledgerStep k (taking rec) =
+    ifAccepted (ledgerAnswer k rec) (withRecord (k .accepted) (k .opened) (namedBy (getD rec 0 0)) rec) k
+ledgerStep k abandoning = record { accepted = k .accepted; opened = none }
 
 abbrev pub ledgerAfter : Ledger → List Step → Ledger
 ledgerAfter k [] = k
-ledgerAfter k (step ∷ steps) = ledgerAfter (noted k step) steps
+ledgerAfter k (step ∷ steps) = ledgerAfter (ledgerStep k step) steps
 
 -- the answers to the records taken, one after the other
 abbrev pub ledgerAnswers : Ledger → List Step → List Answer
 ledgerAnswers k [] = []
-ledgerAnswers k (taking rec ∷ steps) = ledgerAnswer k rec ∷ ledgerAnswers (noted k (taking rec)) steps
-ledgerAnswers k (abandoning ∷ steps) = ledgerAnswers (noted k abandoning) steps
+ledgerAnswers k (taking rec ∷ steps) = ledgerAnswer k rec ∷ ledgerAnswers (ledgerStep k (taking rec)) steps
+ledgerAnswers k (abandoning ∷ steps) = ledgerAnswers (ledgerStep k abandoning) steps

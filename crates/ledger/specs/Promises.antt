@@ -1,4 +1,4 @@
--- The session beside the book (document 01, "Sessions and the board"; demand 2). Assumes nothing.
+-- The session against the ledger (SPEC.md, "Sessions" and "Board"; demand 2). Assumes nothing.
 use Prim.Native.Nat.{ℕ, _+_, _≤_}
 use mathlib.Core.Bool.{Bool, true, false}
 use mathlib.Core.List.{List, [], _∷_, _++_}
@@ -24,20 +24,20 @@ use Rattle.ledger.specs.Ledgers.{Filed, Ledger, freshLedger, paymentReco
 
 -- The same steps through a session.
 
-abbrev pub stepped : Session → Step → Session
-stepped s (taking rec) = takeOf s rec .session
-stepped s abandoning = abandonOf s
+abbrev pub sessionStep : Session → Step → Session
+sessionStep s (taking rec) = takeOf s rec .session
+sessionStep s abandoning = abandonOf s
 
 abbrev pub sessionAfter : Session → List Step → Session
 sessionAfter s [] = s
-sessionAfter s (step ∷ steps) = sessionAfter (stepped s step) steps
+sessionAfter s (step ∷ steps) = sessionAfter (sessionStep s step) steps
 
 abbrev pub answersOf : Session → List Step → List Answer
 answersOf s [] = []
 answersOf s (taking rec ∷ steps) = takeOf s rec .answer ∷ answersOf (takeOf s rec .session) steps
 answersOf s (abandoning ∷ steps) = answersOf (abandonOf s) steps
 
--- From a fresh session and a fresh book: the board shown, and the payment records of the accepted files.
+-- From a fresh session and a fresh ledger: the board shown, and the payment records of the accepted files.
 
 abbrev pub reached : List Step → Session
 reached steps = sessionAfter freshSession steps
@@ -69,24 +69,26 @@ pub record Agrees (s : Session) (k : Ledger) : Type 0 where
   pub soundShown : SoundBoard (s .shown)
   pub soundWork : SoundBoard (s .work)
 
--- Promises: of any list of steps from a fresh session.
+-- Promises, of any list of steps from a fresh session.
 
 abbrev pub SessionAgrees : Type 0
 SessionAgrees = (steps : List Step) → Agrees (reached steps) (ledgerOf steps)
 
--- the answers are the book's, step by step, and so is the answer to whatever record comes next
+-- the answers are the ledger's, step by step, and so is the answer to whatever record comes next
 abbrev pub AnswersAreTheLedgers : Type 0
 AnswersAreTheLedgers = (steps : List Step) → answersOf freshSession steps ≡ ledgerAnswers freshLedger steps
 
 abbrev pub NextAnswerIsTheLedgers : Type 0
-NextAnswerIsTheLedgers = (steps : List Step) (rec : List ℕ) → takeAnswer (reached steps) rec ≡ ledgerAnswer (ledgerOf steps) rec
+NextAnswerIsTheLedgers =
+    (steps : List Step) (rec : List ℕ) → takeAnswer (reached steps) rec ≡ ledgerAnswer (ledgerOf steps) rec
 
--- the lanes shown are the payments of the accepted files gathered by issuer, in the order of first appearance
+-- the lanes shown are the payments of the accepted files grouped by issuer, in order of first appearance
 abbrev pub LanesAreThePayments : Type 0
 LanesAreThePayments = (steps : List Step) → shownLanes steps ≡ lanesFrom (lanesOfRecords (acceptedRecords steps))
 
 abbrev pub LanesInOrder : Type 0
-LanesInOrder = (steps : List Step) → issuersOf (shownLanes steps) ≡ appearing [] (lanesOfRecords (acceptedRecords steps))
+LanesInOrder =
+    (steps : List Step) → issuersOf (shownLanes steps) ≡ appearing [] (lanesOfRecords (acceptedRecords steps))
 
 -- each lane shows exactly the payments of its issuer: their number and the centavos received, at full size
 abbrev pub EachLaneIsExact : Type 0
@@ -108,7 +110,8 @@ SumsAreTheRecords =
 abbrev pub TotalsAreTheRecords : Type 0
 TotalsAreTheRecords =
     (steps : List Step)
-    → reached steps .shown .total ≡ record { payments = length (acceptedRecords steps); centavos = receivedIn (acceptedRecords steps) }
+    → reached steps .shown .total
+    ≡ record { payments = length (acceptedRecords steps); centavos = receivedIn (acceptedRecords steps) }
 
 abbrev pub NoIssuerHasTwoLanes : Type 0
 NoIssuerHasTwoLanes = (steps : List Step) → Distinct (issuersOf (shownLanes steps))
@@ -116,9 +119,10 @@ NoIssuerHasTwoLanes = (steps : List Step) → Distinct (issuersOf (shownLanes st
 abbrev pub WithinLimits : Type 0
 WithinLimits =
     (steps : List Step)
-    → (length (shownLanes steps) ≤ mostLanes) × (reached steps .shown .total .payments ≤ limit) × (reached steps .shown .total .centavos ≤ limit)
+    → (length (shownLanes steps) ≤ mostLanes) × (reached steps .shown .total .payments ≤ limit)
+    × (reached steps .shown .total .centavos ≤ limit)
 
--- a Z whose fields are right, in an open file, is accepted exactly when its count and total are the true ones
+-- in an open file, a Z with right fields is accepted exactly if its count and total are the true ones
 abbrev pub TrueTrailersOnly : Type 0
 TrueTrailersOnly =
     (steps : List Step) (f : Filed) (rec : List ℕ)
@@ -126,19 +130,21 @@ TrueTrailersOnly =
     → (takeAnswer (reached steps) rec ≡ Accepted)
     ↔ ((trailerShown rec .count ≡ length (f .payments) + 2) × (trailerShown rec .total ≡ receivedIn (f .payments)))
 
--- Promises: of any session, one put together by hand included.
+-- Promises, of any session, one in an arbitrary state included.
 
 -- a refused record changes nothing
 abbrev pub RefusalKeepsSession : Type 0
 RefusalKeepsSession = (s : Session) (rec : List ℕ) → (takeOf s rec .answer ≡ Accepted → ⊥) → takeOf s rec .session ≡ s
 
--- the board shown stays as it was until a Z is accepted; then the payments of the open file appear together
+-- the board shown stays as it was until a Z is accepted; then the payments of the open file are shown together
 abbrev pub OnlyTrailersShow : Type 0
-OnlyTrailersShow = (s : Session) (rec : List ℕ) → (namedBy (getD rec 0 0) ≡ Is Trailer → ⊥) → takeOf s rec .session .shown ≡ s .shown
+OnlyTrailersShow =
+    (s : Session) (rec : List ℕ) → (namedBy (getD rec 0 0) ≡ Is Trailer → ⊥) → takeOf s rec .session .shown ≡ s .shown
 
 abbrev pub TrailersShowAll : Type 0
 TrailersShowAll =
-    (s : Session) (rec : List ℕ) → namedBy (getD rec 0 0) ≡ Is Trailer → takeOf s rec .answer ≡ Accepted → takeOf s rec .session .shown ≡ s .work
+    (s : Session) (rec : List ℕ) → namedBy (getD rec 0 0) ≡ Is Trailer → takeOf s rec .answer ≡ Accepted
+    → takeOf s rec .session .shown ≡ s .work
 
 abbrev pub NoTrailer : Step → Type 0
 NoTrailer (taking rec) = namedBy (getD rec 0 0) ≡ Is Trailer → ⊥

@@ -1,4 +1,5 @@
--- The worked file of document 01, a day past 32 bits, and the turns of a session, each from a fresh one. Assumes nothing.
+-- The worked file (SPEC.md, "The program quadro"), a day past 32 bits, and other histories, each from a fresh session.
+-- Assumes nothing.
 use Prim.Native.Nat.{ℕ, zero, suc, _+_}
 use mathlib.Core.List.{List, [], _∷_, _++_, map}
 use mathlib.Core.Path.{_≡_}
@@ -11,7 +12,7 @@ use Rattle.barcode.specs.Building.{builtOf}
 use Rattle.kinds.specs.Kinds.{version, serviceOf}
 use Rattle.board.specs.declared.Tally.{Tally}
 use Rattle.board.specs.declared.Lane.{Lane}
-use Rattle.board.specs.Lanes.{none}
+use Rattle.board.specs.Lanes.{emptyTally}
 use Rattle.session.specs.Sessions.{freshSession, finishOf}
 use Rattle.ledger.specs.Ledgers.{Step, taking, abandoning}
 use Rattle.ledger.specs.Promises.{answersOf, reached, shownLanes}
@@ -23,9 +24,11 @@ blanks n = replicate n 32
 
 abbrev pub header : List ℕ
 header =
-    65 ∷ 50 ∷ blanks 40 ++ (digitsOf 3 1 ++ (blanks 20 ++ (digitsOf 8 20230102 ++ (digitsOf 6 1 ++ (version ++ (serviceOf 79 ++ blanks 52))))))
+    65 ∷ 50 ∷ blanks 40
+    ++ (digitsOf 3 1 ++ (blanks 20 ++ (digitsOf 8 20230102 ++ (digitsOf 6 1
+    ++ (version ++ (serviceOf 79 ++ blanks 52))))))
 
--- the barcode of P4, its line without the four box checks, and its issuer
+-- the barcode of P4 (SPEC.md, "Samples"), its line without the four box checks, and its issuer
 abbrev pub code : List ℕ
 code = digitsOf 44 81770000000_01093659970_41131079703_00143370831
 
@@ -35,8 +38,8 @@ sampleIssuer = record { segment = 1; number = 3659 }
 abbrev pub paymentBy : List ℕ → ℕ → List ℕ
 paymentBy barcode received =
     71 ∷ blanks 20
-    ++ (digitsOf 8 20230102 ++ (digitsOf 8 20230103 ++ (barcode ++ (digitsOf 12 received ++ (digitsOf 7 0 ++ (digitsOf 8 1
-    ++ (blanks 8 ++ (49 ∷ blanks 23 ++ (49 ∷ blanks 9)))))))))
+    ++ (digitsOf 8 20230102 ++ (digitsOf 8 20230103 ++ (barcode ++ (digitsOf 12 received ++ (digitsOf 7 0
+    ++ (digitsOf 8 1 ++ (blanks 8 ++ (49 ∷ blanks 23 ++ (49 ∷ blanks 9)))))))))
 
 abbrev pub payment : ℕ → List ℕ
 payment received = paymentBy code received
@@ -48,7 +51,7 @@ paymentTo i received = paymentBy (builtOf i 7 0 (digitsOf 25 0)) received
 abbrev pub trailer : ℕ → ℕ → List ℕ
 trailer count total = 90 ∷ digitsOf 6 count ++ (digitsOf 17 total ++ blanks 126)
 
--- What comes of steps, with the paper's numbers.
+-- The outcome of steps, with the numbers of SPEC.md, "Refusals".
 
 pub record Answered : Type 0 where
   pub number : ℕ
@@ -59,6 +62,9 @@ answeredOf a = record { number = answerNumber a; place = answerPlace a }
 
 abbrev pub accepted : Answered
 accepted = record { number = 0; place = 0 }
+
+abbrev pub refused : ℕ → ℕ → Answered
+refused number place = record { number = number; place = place }
 
 -- the answers to the records, the answer to finishing after them, the lanes shown and their sum
 pub record Outcome : Type 0 where
@@ -78,10 +84,11 @@ outcomeOf steps =
 
 -- nothing is shown, or one lane of P4's issuer
 abbrev pub nothing : List Answered → Answered → Outcome
-nothing answers finish = record { answers = answers; finish = finish; lanes = []; total = none }
+nothing answers finish = record { answers = answers; finish = finish; lanes = []; total = emptyTally }
 
 abbrev pub oneLane : List Answered → Tally → Outcome
-oneLane answers t = record { answers = answers; finish = accepted; lanes = record { issuer = sampleIssuer; tally = t } ∷ []; total = t }
+oneLane answers t =
+    record { answers = answers; finish = accepted; lanes = record { issuer = sampleIssuer; tally = t } ∷ []; total = t }
 
 abbrev pub tally : ℕ → ℕ → Tally
 tally payments centavos = record { payments = payments; centavos = centavos }
@@ -90,7 +97,7 @@ pub record Sample : Type 0 where
   pub steps : List Step
   pub outcome : Outcome
 
--- "The board on paper": one G with the barcode of P4 and 109 centavos received
+-- SPEC.md, "The program quadro": one G with the barcode of P4 and 109 centavos received
 abbrev pub worked : Sample
 worked =
     record {
@@ -104,28 +111,28 @@ past =
     record {
       steps =
           taking header ∷ taking (payment 4_294_967_295) ∷ taking (trailer 3 4_294_967_295)
-          ∷ taking header ∷ taking (payment 2) ∷ taking (payment 999_999_999_999) ∷ taking (trailer 4 1_000_000_000_001) ∷ [];
-      outcome =
-          oneLane (accepted ∷ accepted ∷ accepted ∷ accepted ∷ accepted ∷ accepted ∷ accepted ∷ []) (tally 3 1_004_294_967_296);
+          ∷ taking header ∷ taking (payment 2) ∷ taking (payment 999_999_999_999)
+          ∷ taking (trailer 4 1_000_000_000_001) ∷ [];
+      outcome = oneLane (replicate 7 accepted) (tally 3 1_004_294_967_296);
     }
 
 -- the file stays open when its Z is refused: 13, 14, then the right one
 abbrev pub again : Sample
 again =
     record {
-      steps = taking header ∷ taking (payment 109) ∷ taking (trailer 2 109) ∷ taking (trailer 3 1) ∷ taking (trailer 3 109) ∷ [];
-      outcome =
-          oneLane (accepted ∷ accepted ∷ record { number = 13; place = 2 } ∷ record { number = 14; place = 8 } ∷ accepted ∷ [])
-          (tally 1 109);
+      steps =
+          taking header ∷ taking (payment 109)
+          ∷ taking (trailer 2 109) ∷ taking (trailer 3 1) ∷ taking (trailer 3 109) ∷ [];
+      outcome = oneLane (accepted ∷ accepted ∷ refused 13 2 ∷ refused 14 8 ∷ accepted ∷ []) (tally 1 109);
     }
 
 -- an abandoned file leaves no payment behind, and A is expected again
 abbrev pub left : Sample
 left =
     record {
-      steps = taking header ∷ taking (payment 109) ∷ abandoning ∷ taking (payment 109) ∷ abandoning ∷ taking header ∷ [];
-      outcome =
-          nothing (accepted ∷ accepted ∷ record { number = 9; place = 1 } ∷ accepted ∷ []) (record { number = 19; place = 0 });
+      steps =
+          taking header ∷ taking (payment 109) ∷ abandoning ∷ taking (payment 109) ∷ abandoning ∷ taking header ∷ [];
+      outcome = nothing (accepted ∷ accepted ∷ refused 9 1 ∷ accepted ∷ []) (refused 19 0);
     }
 
 -- G and Z without a file, A in a file, no bytes at all, and no records
@@ -133,31 +140,30 @@ abbrev pub astray : Sample
 astray =
     record {
       steps = taking (payment 109) ∷ taking (trailer 2 0) ∷ taking [] ∷ taking header ∷ taking header ∷ abandoning ∷ [];
-      outcome =
-          nothing
-          (record { number = 9; place = 1 } ∷ record { number = 9; place = 1 } ∷ record { number = 1; place = 0 } ∷ accepted
-          ∷ record { number = 9; place = 1 } ∷ [])
-          accepted;
+      outcome = nothing (refused 9 1 ∷ refused 9 1 ∷ refused 1 0 ∷ accepted ∷ refused 9 1 ∷ []) accepted;
     }
 
 abbrev pub empty : Sample
 empty = record { steps = []; outcome = nothing [] accepted }
 
--- code 3659 in segments 1 and 2 is two issuers; lanes stand in the order of first appearance, an abandoned file's have none
-abbrev pub two : Issuer
-two = record { segment = 2; number = 3659 }
+-- code 3659 in segments 1 and 2 is two issuers; lanes are in order of first appearance, and an abandoned file has none
+abbrev pub otherIssuer : Issuer
+otherIssuer = record { segment = 2; number = 3659 }
 
 abbrev pub ordered : Sample
 ordered =
     record {
       steps =
           taking header ∷ taking (payment 5) ∷ abandoning
-          ∷ taking header ∷ taking (paymentTo two 10) ∷ taking (payment 20) ∷ taking (paymentTo two 30) ∷ taking (trailer 5 60) ∷ [];
+          ∷ taking header ∷ taking (paymentTo otherIssuer 10) ∷ taking (payment 20) ∷ taking (paymentTo otherIssuer 30)
+          ∷ taking (trailer 5 60) ∷ [];
       outcome =
           record {
-            answers = accepted ∷ accepted ∷ accepted ∷ accepted ∷ accepted ∷ accepted ∷ accepted ∷ [];
+            answers = replicate 7 accepted;
             finish = accepted;
-            lanes = record { issuer = two; tally = tally 2 40 } ∷ record { issuer = sampleIssuer; tally = tally 1 20 } ∷ [];
+            lanes =
+                record { issuer = otherIssuer; tally = tally 2 40 }
+                ∷ record { issuer = sampleIssuer; tally = tally 1 20 } ∷ [];
             total = tally 3 60;
           };
     }
@@ -171,12 +177,12 @@ abbrev pub crowded : Sample
 crowded =
     record {
       steps = taking header ∷ (manyIssuers 65 1 ++ manyIssuers 1 1);
-      outcome = nothing (replicate 65 accepted ++ (record { number = 17; place = 53 } ∷ accepted ∷ [])) (record { number = 19; place = 0 });
+      outcome = nothing (replicate 65 accepted ++ (refused 17 53 ∷ accepted ∷ [])) (refused 19 0);
     }
 
 abbrev pub samples : List Sample
 samples = worked ∷ past ∷ again ∷ left ∷ astray ∷ empty ∷ ordered ∷ crowded ∷ []
 
--- Promise: each sample comes out as it is said to.
+-- Promise: each sample has its stated outcome.
 abbrev pub Hold : List Sample → Type 0
 Hold ss = map (λ (s : Sample). outcomeOf (s .steps)) ss ≡ map (λ (s : Sample). s .outcome) ss

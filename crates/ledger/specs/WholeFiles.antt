@@ -1,4 +1,4 @@
--- A whole file, characterised once: when a session takes all its records, and what it then shows. Assumes nothing.
+-- A whole file: when a session takes all its records, and what it then shows. Assumes nothing.
 use Prim.Native.Nat.{ℕ, _+_, _≤_}
 use mathlib.Core.Bool.{false}
 use mathlib.Core.List.{List, [], _∷_, _++_, map}
@@ -22,7 +22,7 @@ use Rattle.session.specs.Sessions.{freshSession, closedAt}
 use Rattle.ledger.specs.Ledgers.{lanesOfRecords, receivedIn, Step, taking}
 use Rattle.ledger.specs.Promises.{sessionAfter, answersOf, reached, shownLanes}
 
--- a record that is right in itself, of this name
+-- a record of this kind that is accepted by itself
 abbrev pub IsRight : Record → List ℕ → Type 0
 IsRight r rec = (recordAnswer rec ≡ Accepted) × (namedBy (getD rec 0 0) ≡ Is r)
 
@@ -47,12 +47,14 @@ AllAccepted answers = Each (λ (a : Answer). a ≡ Accepted) answers
 
 -- Promises.
 
--- with no file open: a file is accepted exactly when 15 to 18 let its payments pass and its trailer is true; the board then has them all
+-- with no file open: a file is accepted exactly if none of its payments is refused 15 to 18 and its trailer is true;
+-- the board then has them all
 abbrev pub FileAccepted : Type 0
 FileAccepted =
     (b : Board) (a : List ℕ) (recs : List (List ℕ)) (z : List ℕ) → Whole a recs z
     → AllAccepted (answersOf (closedAt b) (fileOf a recs z))
-    ↔ ((fileAnswers freshFile (receivedEach recs) ≡ Accepted) × (postAnswers b (lanesOfRecords recs) ≡ Accepted) × TrueFigures recs z)
+    ↔ ((fileAnswers freshFile (receivedEach recs) ≡ Accepted) × (postAnswers b (lanesOfRecords recs) ≡ Accepted)
+    × TrueFigures recs z)
 
 abbrev pub FilePosted : Type 0
 FilePosted =
@@ -60,12 +62,13 @@ FilePosted =
     → AllAccepted (answersOf (closedAt b) (fileOf a recs z))
     → sessionAfter (closedAt b) (fileOf a recs z) ≡ closedAt (boardWithAll b (lanesOfRecords recs))
 
--- a fresh session accepts a file exactly when it is within its limits, names at most 64 issuers and its trailer is true
+-- a fresh session accepts a file exactly if it is within its limits, names at most 64 issuers and its trailer is true
 abbrev pub FreshSessionAccepts : Type 0
 FreshSessionAccepts =
     (a : List ℕ) (recs : List (List ℕ)) (z : List ℕ) → Whole a recs z
     → AllAccepted (answersOf freshSession (fileOf a recs z))
-    ↔ ((length recs ≤ mostPayments) × (receivedIn recs ≤ mostCentavos) × (length (lanesFrom (lanesOfRecords recs)) ≤ mostLanes) × TrueFigures recs z)
+    ↔ ((length recs ≤ mostPayments) × (receivedIn recs ≤ mostCentavos)
+    × (length (lanesFrom (lanesOfRecords recs)) ≤ mostLanes) × TrueFigures recs z)
 
 -- and then shows its payments
 abbrev pub FreshSessionShows : Type 0

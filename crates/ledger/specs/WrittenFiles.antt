@@ -31,7 +31,8 @@ writtenRecords gs = map recordOf gs
 -- payments written one after the other: the writer that follows, and that each is accepted
 abbrev pub writerAfterPayments : Writer → List Given → Writer
 writerAfterPayments w [] = w
-writerAfterPayments w (g ∷ gs) = writerAfterPayments (paymentWritten w (g .fields) (g .received) (g .tariff) recordLength .writer) gs
+writerAfterPayments w (g ∷ gs) =
+    writerAfterPayments (paymentWritten w (g .fields) (g .received) (g .tariff) recordLength .writer) gs
 
 abbrev pub PaymentsWritten : Writer → List Given → Type 0
 PaymentsWritten w [] = Unit {0}
@@ -54,27 +55,36 @@ trailerAfter header gs = trailerBytes (writerAfterPayments (openedBy header) gs)
 abbrev pub writtenFile : List ℕ → List Given → List Step
 writtenFile header gs = fileOf (headerBytes header) (writtenRecords gs) (trailerAfter header gs)
 
--- what the writer is given of a payment's record: its fields, joined, and its two amounts
+-- what the writer is given for a payment record: its fields, joined, and its two amounts
 abbrev pub givenBy : List ℕ → Given
 givenBy rec =
-    record { fields = joinedOf Payment rec; received = values.paymentShown rec .received; tariff = values.paymentShown rec .tariff }
+    record {
+      fields = joinedOf Payment rec;
+      received = values.paymentShown rec .received;
+      tariff = values.paymentShown rec .tariff;
+    }
 
 -- Promises.
 
--- it is one A, its Gs and one Z, each right in itself, with the true count and total
+-- it is one A, its Gs and one Z, each accepted by itself, with the true count and total
 abbrev pub ClosedFileIsWhole : Type 0
 ClosedFileIsWhole =
     (header : List ℕ) (gs : List Given) → Closed header gs
-    → Whole (headerBytes header) (writtenRecords gs) (trailerAfter header gs) × TrueFigures (writtenRecords gs) (trailerAfter header gs)
+    → Whole (headerBytes header) (writtenRecords gs) (trailerAfter header gs)
+    × TrueFigures (writtenRecords gs) (trailerAfter header gs)
 
 -- a fresh session accepts it, unless it names over 64 issuers, and then shows its payments
 abbrev pub ClosedFileIsAccepted : Type 0
 ClosedFileIsAccepted =
-    (header : List ℕ) (gs : List Given) → Closed header gs → length (lanesFrom (lanesOfRecords (writtenRecords gs))) ≤ mostLanes
-    → AllAccepted (answersOf freshSession (writtenFile header gs)) × (shownLanes (writtenFile header gs) ≡ lanesFrom (lanesOfRecords (writtenRecords gs)))
+    (header : List ℕ) (gs : List Given)
+    → Closed header gs → length (lanesFrom (lanesOfRecords (writtenRecords gs))) ≤ mostLanes
+    → AllAccepted (answersOf freshSession (writtenFile header gs))
+    × (shownLanes (writtenFile header gs) ≡ lanesFrom (lanesOfRecords (writtenRecords gs)))
 
 -- the fields of a file that a session accepted, given to a fresh writer, are that file again, its trailer too
 abbrev pub FieldsWriteTheFile : Type 0
 FieldsWriteTheFile =
-    (b : Board) (a : List ℕ) (recs : List (List ℕ)) (z : List ℕ) → Whole a recs z → AllAccepted (answersOf (closedAt b) (fileOf a recs z))
-    → Closed (joinedOf Header a) (map givenBy recs) × (writtenFile (joinedOf Header a) (map givenBy recs) ≡ fileOf a recs z)
+    (b : Board) (a : List ℕ) (recs : List (List ℕ)) (z : List ℕ) → Whole a recs z
+    → AllAccepted (answersOf (closedAt b) (fileOf a recs z))
+    → Closed (joinedOf Header a) (map givenBy recs)
+    × (writtenFile (joinedOf Header a) (map givenBy recs) ≡ fileOf a recs z)

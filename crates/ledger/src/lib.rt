@@ -1,1 +1,1 @@
-// Theorems only: the promises of a session, held to a second meaning of its records.
+// Theorems only: what a session promises, stated against a ledger of the records' bytes.

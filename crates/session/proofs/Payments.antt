@@ -1,4 +1,4 @@
--- Ties the fast path to `take`: a payment posted in place is accepted by it, and leaves the same session. Assumes nothing.
+-- Ties the fast path to `take`: a payment posted in place is accepted, and leaves the same session. Assumes nothing.
 use Prim.Native.Nat.{ℕ, _+_, _-_, _<_, min}
 use mathlib.Core.Bool.{Bool, true}
 use mathlib.Core.List.{List}
@@ -42,7 +42,8 @@ use Rattle.session.proofs.Steps.{posted-board, taken-file}
 use Rattle.session.proofs.Runs.{piece-part, piece-first, run-goes}
 
 -- what is decoded as a payment was accepted, and its first byte names a payment
-shown-payment : (a : Answer) (n : MaybeRecord) (rec : List ℕ) {p : Payment} → shownUnlessRefused a (recordShown n rec) ≡ decoded.Payment p
+shown-payment : (a : Answer) (n : MaybeRecord) (rec : List ℕ) {p : Payment}
+    → shownUnlessRefused a (recordShown n rec) ≡ decoded.Payment p
     → (a ≡ answer.Accepted) × (n ≡ Is layout.Payment)
 shown-payment answer.Accepted (Is layout.Header) rec h = (refl, cc)
 shown-payment answer.Accepted (Is layout.Payment) rec h = (refl, refl)
@@ -71,12 +72,14 @@ module _ (rec : List ℕ) {p : Payment} (is : decodedRecord rec ≡ decoded.Paym
     pub payment-leaves : _≡_ {A = Session}
         (record {
           shown = s .shown;
-          work = record { lanes = set (s .work .lanes) at (e .slot .lane); used = e .slot .used; total = e .slot .total };
+          work =
+              record { lanes = set (s .work .lanes) at (e .slot .lane); used = e .slot .used; total = e .slot .total };
           opened = s .opened;
           file = fileWith (s .file) (p .received);
         })
         (sessionWith s (decodedRecord rec))
-    payment-leaves = rw (is, posted-board (s .work) (laneOfPayment p) (put-back (s .work) (laneOfPayment p) at e found posted) accepted)
+    payment-leaves =
+        rw (is, posted-board (s .work) (laneOfPayment p) (put-back (s .work) (laneOfPayment p) at e found posted) accepted)
 
 -- what `accepted_payment` reads is a payment
 record PaidTo (d : Decoded) (i : Issuer) (x : ℕ) : Type 0 where
@@ -94,8 +97,10 @@ paid-to (decoded.Refused why place) e = let z : _≡_ {A = ℕ} 0 1 = cc in absu
 -- what was read, and the file that took it
 pub next-is : {opened : Bool} {before : Progress} {bytes : List ℕ} {end : ℕ} → opened ≡ true → before .at < length bytes
     → end ≡ before .at + min recordLength (length bytes - before .at)
-    → {d : PaymentDue} {i : Issuer} {x : ℕ} → d ≡ paymentDueOf (decodedRecord (take (end - before .at) (drop (before .at) bytes))) → d ≡ due.To i x
-    → {t : FileResult} → t ≡ fileResultOf (before .file) x → t .answer ≡ answer.Accepted → {l : Lane} → l ≡ laneOfOne i x
+    → {d : PaymentDue} {i : Issuer} {x : ℕ}
+    → d ≡ paymentDueOf (decodedRecord (take (end - before .at) (drop (before .at) bytes))) → d ≡ due.To i x
+    → {t : FileResult} → t ≡ fileResultOf (before .file) x → t .answer ≡ answer.Accepted → {l : Lane}
+    → l ≡ laneOfOne i x
     → Taken opened before bytes l (record { file = t .file; records = before .records + 1; at = end })
 next-is {before = before} {bytes} {end} going inside ends read told {t} took fits paid =
     let payment = paid-to (decodedRecord (take (end - before .at) (drop (before .at) bytes))) (sym read ∙ told) in
@@ -112,14 +117,17 @@ next-is {before = before} {bytes} {end} going inside ends read told {t} took fit
       counts = refl;
     }
 
-pub next-told : {opened : Bool} {before next : Progress} {bytes : List ℕ} {paid : Lane} {r : MaybePayment} → NextPaymentOf opened before bytes r → r ≡ maybe.Is paid next
+pub next-told : {opened : Bool} {before next : Progress} {bytes : List ℕ} {paid : Lane} {r : MaybePayment}
+    → NextPaymentOf opened before bytes r → r ≡ maybe.Is paid next
     → Taken opened before bytes paid next
 next-told h e = rw e at h
 
 -- one more payment posted in place: the run goes on behind it
-pub one-more : (self : Session) (bytes : List ℕ) (b : LeadingPayments) → LeadingPaymentsOf self bytes b → {paid : Lane} {next : Progress}
+pub one-more : (self : Session) (bytes : List ℕ) (b : LeadingPayments) → LeadingPaymentsOf self bytes b
+    → {paid : Lane} {next : Progress}
     → Taken (self .opened) (b .progress) bytes paid next
-    → {at : ℕ} → at ≡ indexOf (paid .issuer) (lanesOf (b .work)) → {e : SlotResult} → e ≡ slotResultOf (slotAt (b .work) at) paid → e .answer ≡ answer.Accepted
+    → {at : ℕ} → at ≡ indexOf (paid .issuer) (lanesOf (b .work)) → {e : SlotResult}
+    → e ≡ slotResultOf (slotAt (b .work) at) paid → e .answer ≡ answer.Accepted
     → LeadingPaymentsOf self bytes
     (record { work = record { lanes = set (b .work .lanes) at (e .slot .lane); used = e .slot .used; total = e .slot .total }; progress = next })
 one-more self bytes b inv {paid} {next} took {at} found {e} posted accepted =
@@ -129,13 +137,19 @@ one-more self bytes b inv {paid} {next} took {at} found {e} posted accepted =
     let piece = take (next .at - from) (drop from bytes) in
     let found′ : at ≡ indexOf (p .barcode .issuer) (lanesOf (b .work)) = rw (took .lane) at found in
     let posted′ : e ≡ slotResultOf (slotAt (b .work) at) (laneOfPayment p) = rw (took .lane) at posted in
-    let accepts : takeAnswer s piece ≡ answer.Accepted = payment-taken piece (took .is) s (took .going) (took .fits) found′ posted′ accepted in
-    let next′ = payment-leaves piece (took .is) s (took .going) (took .fits) found′ posted′ accepted ∙ ap (λ (a : Answer). ifAccepted a (sessionWith s (decodedRecord piece)) s) (sym accepts) in
+    let accepts : takeAnswer s piece ≡ answer.Accepted =
+    payment-taken piece (took .is) s (took .going) (took .fits) found′ posted′ accepted in
+    let next′ =
+    payment-leaves piece (took .is) s (took .going) (took .fits) found′ posted′ accepted
+    ∙ ap (λ (a : Answer). ifAccepted a (sessionWith s (decodedRecord piece)) s) (sym accepts) in
     let first : getD piece 0 0 ≡ getD bytes from 0 =
-    ap (λ (x : List ℕ). getD x 0 0) (piece-part bytes from (took .inside) (took .ends)) ∙ piece-first bytes from (took .inside) (took .ends) in
-    let none : filesClosed (namedBy (getD bytes from 0)) ≡ 0 = ap (λ (x : ℕ). filesClosed (namedBy x)) (sym first) ∙ ap filesClosed (payment-named piece (took .is)) in
+    ap (λ (x : List ℕ). getD x 0 0) (piece-part bytes from (took .inside) (took .ends))
+    ∙ piece-first bytes from (took .inside) (took .ends) in
+    let none : filesClosed (namedBy (getD bytes from 0)) ≡ 0 =
+    ap (λ (x : ℕ). filesClosed (namedBy x)) (sym first) ∙ ap filesClosed (payment-named piece (took .is)) in
     record {
       within = omega (arith, took .ends, took .inside);
       few = omega (arith, inv .few, took .ends, took .inside, took .counts);
-      rest = rw (took .counts, took .file, next′) (run-goes self s bytes from (b .progress .records) 0 (inv .rest) (took .inside) (took .ends) {t = takeOf s piece} refl accepts (sym none));
+      rest =
+          rw (took .counts, took .file, next′) (run-goes self s bytes from (b .progress .records) 0 (inv .rest) (took .inside) (took .ends) {t = takeOf s piece} refl accepts (sym none));
     }

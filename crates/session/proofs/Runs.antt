@@ -32,9 +32,11 @@ fuel (suc n) zero (b ∷ bytes) h k = absurd (omega arith)
 fuel (suc n) (suc m) [] h k = refl
 fuel (suc n) (suc m) (b ∷ bytes) h k =
     let l = length-drop recordLength (b ∷ bytes) in
-    ap (λ (ps : List (List ℕ)). take recordLength (b ∷ bytes) ∷ ps) (fuel n m (drop recordLength (b ∷ bytes)) (omega arith) (omega arith))
+    ap (λ (ps : List (List ℕ)). take recordLength (b ∷ bytes) ∷ ps)
+    (fuel n m (drop recordLength (b ∷ bytes)) (omega arith) (omega arith))
 
-pub pieces-cons : (bytes : List ℕ) → 0 < length bytes → piecesOf bytes ≡ take recordLength bytes ∷ piecesOf (drop recordLength bytes)
+pub pieces-cons : (bytes : List ℕ) → 0 < length bytes
+    → piecesOf bytes ≡ take recordLength bytes ∷ piecesOf (drop recordLength bytes)
 pieces-cons [] h = absurd (omega arith)
 pieces-cons (b ∷ bytes) h =
     let l = length-drop recordLength (b ∷ bytes) in
@@ -43,18 +45,23 @@ pieces-cons (b ∷ bytes) h =
 
 -- the next piece is refused, or the run goes on behind it
 module _ (s : Session) (bytes : List ℕ) (more : 0 < length bytes) where
-  pub run-refused : {a : Answer} {why : Reason} {p : ℕ} → a ≡ takeAnswer s (take recordLength bytes) → a ≡ Refused why p → runOf s bytes ≡ emptyRun a s
-  run-refused {a} {why} {p} e f = let g : takeAnswer s (take recordLength bytes) ≡ Refused why p = sym e ∙ f in rw (pieces-cons bytes more, g, f)
+  pub run-refused : {a : Answer} {why : Reason} {p : ℕ} → a ≡ takeAnswer s (take recordLength bytes)
+      → a ≡ Refused why p → runOf s bytes ≡ emptyRun a s
+  run-refused {a} {why} {p} e f =
+      let g : takeAnswer s (take recordLength bytes) ≡ Refused why p = sym e ∙ f in rw (pieces-cons bytes more, g, f)
 
   pub run-on : takeAnswer s (take recordLength bytes) ≡ Accepted
-      → runOf s bytes ≡ addCounts 1 (filesClosed (namedBy (getD (take recordLength bytes) 0 0))) (runOf (sessionWith s (decodedRecord (take recordLength bytes))) (drop recordLength bytes))
+      → runOf s bytes
+      ≡ addCounts 1 (filesClosed (namedBy (getD (take recordLength bytes) 0 0)))
+      (runOf (sessionWith s (decodedRecord (take recordLength bytes))) (drop recordLength bytes))
   run-on g = rw (pieces-cons bytes more, g)
 
 pub counts-add : (a b c d : ℕ) (r : RunResult) → addCounts a b (addCounts c d r) ≡ addCounts (a + c) (b + d) r
 counts-add a b c d r = rw (add-assoc a c (r .records), add-assoc b d (r .files))
 
 -- the piece that starts at an index, as the code cuts it
-module _ (bytes : List ℕ) (at : ℕ) (inside : at < length bytes) {end : ℕ} (e : end ≡ at + min recordLength (length bytes - at)) where
+module _ (bytes : List ℕ) (at : ℕ) (inside : at < length bytes) {end : ℕ}
+    (e : end ≡ at + min recordLength (length bytes - at)) where
   pub piece-part : take (end - at) (drop at bytes) ≡ take recordLength (drop at bytes)
   piece-part =
       ⊎-elim
@@ -76,31 +83,40 @@ module _ (bytes : List ℕ) (at : ℕ) (inside : at < length bytes) {end : ℕ} 
       (lt-or-le (length bytes - at) recordLength)
 
   pub piece-first : getD (take recordLength (drop at bytes)) 0 0 ≡ getD bytes at 0
-  piece-first = getD-take recordLength (drop at bytes) 0 0 (omega arith) ∙ getD-drop at bytes 0 0 ∙ ap (λ (k : ℕ). getD bytes k 0) (add-zero at)
+  piece-first =
+      getD-take recordLength (drop at bytes) 0 0 (omega arith) ∙ getD-drop at bytes 0 0
+      ∙ ap (λ (k : ℕ). getD bytes k 0) (add-zero at)
 
 pub counts-none : (r : RunResult) → addCounts 0 0 r ≡ r
 counts-none r = rw (zero-add (r .records), zero-add (r .files))
 
-pub counts-empty : (records files : ℕ) (a : Answer) (s : Session) → _≡_ {A = RunResult} (record { answer = a; session = s; records = records; files = files }) (addCounts records files (emptyRun a s))
+pub counts-empty : (records files : ℕ) (a : Answer) (s : Session)
+    → _≡_ {A = RunResult} (record { answer = a; session = s; records = records; files = files }) (addCounts records files (emptyRun a s))
 counts-empty records files a s = rw (add-zero records, add-zero files)
 
 -- The loop at an index, after so many records and files: nothing is left, it goes on behind payments, it stops, or it
 -- goes on behind a piece.
-module _ (self s : Session) (bytes : List ℕ) (at records files : ℕ) (inv : addCounts records files (runOf s (drop at bytes)) ≡ runOf self bytes) where
-  pub run-ends : length bytes ≤ at → _≡_ {A = RunResult} (record { answer = Accepted; session = s; records = records; files = files }) (runOf self bytes)
+module _ (self s : Session) (bytes : List ℕ) (at records files : ℕ)
+    (inv : addCounts records files (runOf s (drop at bytes)) ≡ runOf self bytes) where
+  pub run-ends : length bytes ≤ at
+      → _≡_ {A = RunResult} (record { answer = Accepted; session = s; records = records; files = files }) (runOf self bytes)
   run-ends h = counts-empty records files Accepted s ∙ (rw (drop-of-length-le bytes h) at inv)
 
   pub run-paid : {p : LeadingPayments} → LeadingPaymentsOf s (take (length bytes - at) (drop at bytes)) p
-      → addCounts (records + p .progress .records) files (runOf (withLeading s p) (drop (at + p .progress .at) bytes)) ≡ runOf self bytes
+      → addCounts (records + p .progress .records) files (runOf (withLeading s p) (drop (at + p .progress .at) bytes))
+      ≡ runOf self bytes
   run-paid {p} h =
       let n = p .progress .records in
       let r = runOf (withLeading s p) (drop (p .progress .at) (drop at bytes)) in
-      let whole : take (length bytes - at) (drop at bytes) ≡ drop at bytes = take-all (length bytes - at) (drop at bytes) (omega (arith, length-drop at bytes)) in
+      let whole : take (length bytes - at) (drop at bytes) ≡ drop at bytes =
+      take-all (length bytes - at) (drop at bytes) (omega (arith, length-drop at bytes)) in
       let rest : addCounts n 0 r ≡ runOf s (drop at bytes) = rw whole at (h .rest) in
-      let none : addCounts records files (addCounts n 0 r) ≡ addCounts (records + n) files r = counts-add records files n 0 r ∙ rw (add-zero files) in
+      let none : addCounts records files (addCounts n 0 r) ≡ addCounts (records + n) files r =
+      counts-add records files n 0 r ∙ rw (add-zero files) in
       rw (← drop-drop (p .progress .at) at bytes) (sym none ∙ ap (addCounts records files) rest ∙ inv)
 
-  module _ (inside : at < length bytes) {end : ℕ} (e : end ≡ at + min recordLength (length bytes - at)) {t : TakeResult} (took : t ≡ takeOf s (take (end - at) (drop at bytes))) where
+  module _ (inside : at < length bytes) {end : ℕ} (e : end ≡ at + min recordLength (length bytes - at))
+      {t : TakeResult} (took : t ≡ takeOf s (take (end - at) (drop at bytes))) where
     more : 0 < length (drop at bytes)
     more = omega (arith, length-drop at bytes)
 
@@ -109,7 +125,9 @@ module _ (self s : Session) (bytes : List ℕ) (at records files : ℕ) (inv : a
 
     pub run-stops : {why : Reason} {p : ℕ} → t .answer ≡ Refused why p
         → _≡_ {A = RunResult} (record { answer = t .answer; session = s; records = records; files = files }) (runOf self bytes)
-    run-stops f = counts-empty records files (t .answer) s ∙ ap (addCounts records files) (sym (run-refused s (drop at bytes) more answered f)) ∙ inv
+    run-stops f =
+        counts-empty records files (t .answer) s
+        ∙ ap (addCounts records files) (sym (run-refused s (drop at bytes) more answered f)) ∙ inv
 
     pub run-goes : {k : ℕ} → t .answer ≡ Accepted → k ≡ filesClosed (namedBy (getD bytes at 0))
         → addCounts (records + 1) (files + k) (runOf (t .session) (drop end bytes)) ≡ runOf self bytes
@@ -117,8 +135,10 @@ module _ (self s : Session) (bytes : List ℕ) (at records files : ℕ) (inv : a
         let r = take recordLength (drop at bytes) in
         let a : takeAnswer s r ≡ Accepted = sym answered ∙ f in
         let next : t .session ≡ sessionWith s (decodedRecord r) =
-        ap (λ (x : TakeResult). x .session) took ∙ ap (λ (x : List ℕ). takeOf s x .session) (piece-part bytes at inside e) ∙ rw a in
-        let n : filesClosed (namedBy (getD r 0 0)) ≡ k = ap (λ (b : ℕ). filesClosed (namedBy b)) (piece-first bytes at inside e) ∙ sym g in
+        ap (λ (x : TakeResult). x .session) took
+        ∙ ap (λ (x : List ℕ). takeOf s x .session) (piece-part bytes at inside e) ∙ rw a in
+        let n : filesClosed (namedBy (getD r 0 0)) ≡ k =
+        ap (λ (b : ℕ). filesClosed (namedBy b)) (piece-first bytes at inside e) ∙ sym g in
         rw (next, ← piece-rest bytes at inside e, ← n, ← counts-add records files 1 (filesClosed (namedBy (getD r 0 0))) (runOf (sessionWith s (decodedRecord r)) (drop recordLength (drop at bytes))))
         (ap (addCounts records files) (sym (run-on s (drop at bytes) more a)) ∙ inv)
 
@@ -130,7 +150,8 @@ record TakenBy (s : Session) (recs : List (List ℕ)) (r : RunResult) : Type 0 w
   whole : r .answer ≡ Accepted → r .records ≡ length recs
 
 -- one more record in front
-taken-more : (rec : List ℕ) (recs : List (List ℕ)) (s : Session) (c : ℕ) (r : RunResult) → takeOf s rec .answer ≡ Accepted → TakenBy (takeOf s rec .session) recs r
+taken-more : (rec : List ℕ) (recs : List (List ℕ)) (s : Session) (c : ℕ) (r : RunResult)
+    → takeOf s rec .answer ≡ Accepted → TakenBy (takeOf s rec .session) recs r
     → TakenBy s (rec ∷ recs) (addCounts 1 c r)
 taken-more rec recs s c r e t =
     let one : 1 + r .records ≡ suc (r .records) = omega arith in

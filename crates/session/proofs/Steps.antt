@@ -34,26 +34,31 @@ pub took-stop : {t : Bool} (why : Reason) (p : ℕ) (next : Answer) (new old : S
     → _≡_ {A = TakeResult} (record { answer = Refused why p; session = old }) (takeResult (require t why p then next) new old)
 took-stop why p next new old e = rw e
 
-pub took-go : {t : Bool} {r : TakeResult} (why : Reason) (p : ℕ) (next : Answer) (new old : Session) → t ≡ true → r ≡ takeResult next new old
+pub took-go : {t : Bool} {r : TakeResult} (why : Reason) (p : ℕ) (next : Answer) (new old : Session) → t ≡ true
+    → r ≡ takeResult next new old
     → r ≡ takeResult (require t why p then next) new old
 took-go why p next new old e f = rw e f
 
 -- the file accepted: the board's answer is left
-pub took-then : {a b : Answer} {r : TakeResult} (next : Answer) (new old : Session) → a ≡ b → a ≡ Accepted → r ≡ takeResult next new old → r ≡ takeResult (b then next) new old
+pub took-then : {a b : Answer} {r : TakeResult} (next : Answer) (new old : Session) → a ≡ b → a ≡ Accepted
+    → r ≡ takeResult next new old → r ≡ takeResult (b then next) new old
 took-then {a} {b} next new old e f h = let g : b ≡ Accepted = cc in rw g h
 
 -- the board after an accepted posting, and the file after an accepted payment
-pub posted-board : {r : PostResult} (b : Board) (p : Lane) → r ≡ postResultOf b p → r .answer ≡ Accepted → r .board ≡ boardWith b p
+pub posted-board : {r : PostResult} (b : Board) (p : Lane) → r ≡ postResultOf b p → r .answer ≡ Accepted
+    → r .board ≡ boardWith b p
 posted-board {r} b p e f =
     let g : postAnswer b p ≡ Accepted = sym (ap (λ (x : PostResult). x .answer) e) ∙ f in
     ap (λ (x : PostResult). x .board) e ∙ rw g
 
-pub taken-file : {r : FileResult} (f : File) (x : ℕ) → r ≡ fileResultOf f x → r .answer ≡ Accepted → r .file ≡ fileWith f x
+pub taken-file : {r : FileResult} (f : File) (x : ℕ) → r ≡ fileResultOf f x → r .answer ≡ Accepted
+    → r .file ≡ fileWith f x
 taken-file {r} f x e h =
     let g : fileAnswer f x ≡ Accepted = sym (ap (λ (t : FileResult). t .answer) e) ∙ h in
     ap (λ (t : FileResult). t .file) e ∙ rw g
 
 -- a record by what it was decoded as
-pub decoded-as : (s : Session) (rec : List ℕ) {e d : Decoded} {r : TakeResult} → e ≡ decodedRecord rec → e ≡ d → r ≡ takeResult (sessionAnswer s d) (sessionWith s d) s
+pub decoded-as : (s : Session) (rec : List ℕ) {e d : Decoded} {r : TakeResult} → e ≡ decodedRecord rec → e ≡ d
+    → r ≡ takeResult (sessionAnswer s d) (sessionWith s d) s
     → r ≡ takeResult (sessionAnswer s (decodedRecord rec)) (sessionWith s (decodedRecord rec)) s
 decoded-as s rec {e} {d} q f h = let g : decodedRecord rec ≡ d = sym q ∙ f in rw g h

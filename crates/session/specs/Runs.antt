@@ -54,8 +54,8 @@ runAll s (r ∷ rs) =
 abbrev pub runOf : Session → List ℕ → RunResult
 runOf s bytes = runAll s (piecesOf bytes)
 
--- Promise: a run of any session takes records one by one. Its session is the one after those that it took, each accepted;
--- its answer is the answer to the next one, and if it is accepted none is left.
+-- Promise: a run of any session takes records one by one. Its session is the one after those that it took, each
+-- accepted; its answer is the answer to the next one, and if it is accepted none is left.
 
 abbrev pub AllTaken : Session → List (List ℕ) → Type 0
 AllTaken s [] = Unit {0}

@@ -1,12 +1,13 @@
-// The fast path of a run: the accepted payments at the front of a slice, posted in place on one copy of the working board.
-// It mirrors what `Session::take` (taking.rt) does with an accepted payment: the kind is expected, `record::decode`,
-// `File::take`, `Board::post`. Everything else, refused payments included, is left to `Session::take`: no refusal is made
-// here. What must change together: if `take` checks one more thing of a payment, so does `next_payment`; if a payment
-// changes one more member of the session, so does the loop, and `run` (running.rt) takes it over from
-// `LeadingPayments`. proofs/Payments.antt ties the two: by `payment-taken` and `payment-leaves`, a payment posted here is
+// The fast path of a run: the accepted payments at the front of a slice, posted in place on one copy of the working
+// board. It mirrors what `Session::take` (taking.rt) does with an accepted payment: the kind is expected,
+// `record::decode`, `File::take`, `Board::post`. Everything else, refused payments included, is left to
+// `Session::take`: no refusal is made here.
+// What must change together: if `take` checks one more thing of a payment, so does `next_payment`; if a payment changes
+// one more member of the session, so does the loop, and `run` (running.rt) takes it over from `LeadingPayments`.
+// The proof that ties them is proofs/Payments.antt: by `payment-taken` and `payment-leaves`, a payment posted here is
 // accepted by `takeAnswer` and leaves the session that `take` leaves, `sessionWith`.
-// What is slow and so avoided: a board by value is 2 KB, and each call that takes one copies it. So the loop itself reads
-// and stores lanes, and the board's functions get numbers and one lane (board, src/searching.rt and `Slot::post`).
+// What is slow and so avoided: a board by value is 2 KB, and each call that takes one copies it. So the loop itself
+// reads and stores lanes, and the board's functions get numbers and one lane (board: src/searching.rt, `Slot::post`).
 ghost use mathlib.Core.Path.{_≡_};
 ghost use Prim.Native.Nat.{_≤_};
 ghost use Rattle.board.specs.Lanes.{laneOfOne};
