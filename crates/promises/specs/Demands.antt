@@ -11,7 +11,7 @@ use Rattle.record.specs.Promises.{DecodeAnswers, RightFieldsAreAccepted, Fields
 use Rattle.fields.specs.Promises.{FieldsMakeTheRecord, MadeIsAccepted}
 use Rattle.file.specs.Files.{OneRightTrailer}
 use Rattle.board.specs.Lanes.{PastThirtyTwoBits}
-use Rattle.writer.specs.Writers.{WrittenAmountsAreRead, FieldsWriteTheHeader, FieldsWriteThePayment, FieldsWriteTheTrailer, WrittenIsAccepted, TrailerShowsTheFigures}
+use Rattle.writer.specs.Promises.{WrittenAmountsAreRead, FieldsWriteTheHeader, FieldsWriteThePayment, FieldsWriteTheTrailer, WrittenIsAccepted, TrailerShowsTheFigures}
 use Rattle.page.specs.Pages.{PageFits, PrintedHolds}
 use Rattle.page.specs.Plain.{ShownReadsBack}
 use Rattle.typos.specs.Typos.{PassesByChecks, BoxesAreNumbered, OneChangedDigitIsRefused, ExchangeOfNeighbours, OneChangedDigitUnderEleven}
