@@ -24,11 +24,11 @@ use Rattle.hollytrot.specs.declared.CWriter.{CWriter}
 use Rattle.hollytrot.specs.declared.CWriteResult.{CWriteResult}
 use Rattle.hollytrot.specs.Forms.{cAnswerOf, cPartOf, freePart, fieldPart, writerOf, cWriterOf, cWriteResultOf}
 
--- an answer handed over, and the buffer that it left
-pub handed :
+-- an answer in its form, and the buffer that it left
+pub crossed :
     {s : CAnswer} {a b : Answer} {x : List ℕ} (new old : List ℕ)
     → s ≡ cAnswerOf a → a ≡ b → x ≡ ifAccepted a new old → (s ≡ cAnswerOf b) × (x ≡ ifAccepted b new old)
-handed new old f e k = (f ∙ ap cAnswerOf e, k ∙ ap (λ z. ifAccepted z new old) e)
+crossed new old f e k = (f ∙ ap cAnswerOf e, k ∙ ap (λ z. ifAccepted z new old) e)
 
 -- Parts of the caller's bytes, from the part that was shown.
 

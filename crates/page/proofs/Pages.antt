@@ -45,7 +45,7 @@ lanes-more k (suc i) (l ∷ ls) h =
     (sym (append-assoc (laneLines k l) (lanesLines (suc k) (take i ls)) last))
 
 -- The loop over the lanes: its start, a turn, its end.
-module _ (b : Board) (at : ℕ) (l : List ℕ) (room : at + mostLanes * mostLane ≤ length l) where
+module _ (b : Board) (at : ℕ) (l : List ℕ) (fits : at + mostLanes * mostLane ≤ length l) where
   pub lanes-start : Wrote 0 at (lanesLines 1 (take 0 (lanesOf b))) l at l
   lanes-start =
       let z : at + 0 ≡ at = omega arith in

@@ -49,7 +49,7 @@ joins-few xs ys h k = omega (arith, length-append xs ys)
 pub wrote-then :
     {k j at next last : ℕ} {xs ys l q r : List ℕ} → at + (k + j) ≤ length l
     → Wrote k at xs l next q → Wrote j next ys q last r → Wrote (k + j) at (xs ++ ys) l last r
-wrote-then {k} {j} {at} {next} {last} {xs} {ys} {l} {q} {r} room a b =
+wrote-then {k} {j} {at} {next} {last} {xs} {ys} {l} {q} {r} fits a b =
     let n = length-append xs ys in
     let both = put-then at xs ys l (omega (arith, a .bounded, b .bounded)) in
     record {
@@ -65,7 +65,7 @@ pub wrote-shown :
     → w ≤ mostDigits → n ≤ largestNumber → at + mostDigits ≤ length l
     → k ≡ max w (needed n) → a ≡ widthAnswer k n → q ≡ ifAccepted a (putAt at (digitsOf k n) l) l
     → Wrote mostDigits at (shown w n) l (at + k) q
-wrote-shown w n at l {k} {a} {q} hw hn room e f g =
+wrote-shown w n at l {k} {a} {q} hw hn fits e f g =
     let accepted : a ≡ Accepted = f ∙ rw (e, lt-ltb n (10 ^ max w (needed n)) (shown-holds w n)) in
     let written : q ≡ putAt at (shown w n) l = g ∙ rw (accepted, e) in
     let few = shown-fits w n hw hn in

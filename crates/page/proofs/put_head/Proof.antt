@@ -43,7 +43,7 @@ returns c =
     let records = files .before .before .before .before .before in
     let place = records .before .before .before .before .before in
     let number = place .before .before .before .before .before in
-    let room = number .before .before .before .before .pre in
+    let fits = number .before .before .before .before .pre in
     let sums = wrote-then (omega arith) (files .put-line4 .ensures) (c .before .before .put-sums .ensures) in
     wrote-then (omega arith) (number .put-line .ensures)
     (wrote-then (omega arith) (place .put-line2 .ensures) (wrote-then (omega arith) (records .put-line3 .ensures) sums))

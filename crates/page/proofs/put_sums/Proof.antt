@@ -24,7 +24,7 @@ returns : tie.Need-returns
 returns c =
     let line = c .before .before .before .before .before .before .before in
     let used = line .before .before in
-    let room = used .before .before .before .pre in
+    let fits = used .before .before .before .pre in
     let lanes = rw (used .lanes-in-use .ensures .0) at (line .put-line .ensures) in
     wrote-then (omega arith) lanes (c .before .before .put-tally .ensures)
 

@@ -2,7 +2,7 @@
 use borrow.Author.Needs.{needs}
 use lib.ListN.{length}
 use Rattle.barcode.specs.Building.{buildAnswer, builtOf}
-use Rattle.hollytrot.proofs.Steps.{handed}
+use Rattle.hollytrot.proofs.Steps.{crossed}
 use Rattle.hollytrot.proofs.barcodes.hollytrot_barcode_build.Statement.{statement}
 use Rattle.hollytrot.proofs.barcodes.hollytrot_barcode_build.Tie as tie
 
@@ -23,7 +23,7 @@ returns c =
     let answer = buildAnswer (length (a .out .now)) (a .issuer) (a .kind) (a .value) free in
     let built = builtOf (a .issuer) (a .kind) (a .value) free in
     let e = build .build .ensures in
-    handed {b = answer} built (a .out .now) (c .c-answer .ensures) (e .0) (e .1)
+    crossed {b = answer} built (a .out .now) (c .c-answer .ensures) (e .0) (e .1)
 
 pub hollytrot-barcode-build-spec : {M : Type 1} → statement M
 hollytrot-barcode-build-spec =
