@@ -23,6 +23,7 @@ use record::Trailer;
 use writer::Stage;
 use writer::Writer;
 
+// An answer as its number and place; 0 and 0 if it is accepted.
 pub(crate) fn c_answer(a: Answer) -> CAnswer
     ensures { λ r. ⌜ r ≡ cAnswerOf a ⌝ }
 {
@@ -52,6 +53,7 @@ fn no_date() -> Date
     }
 }
 
+// The date, or three zeros.
 pub(crate) fn date_or_zeros(d: MaybeDate) -> Date
     ensures { λ r. ⌜ r ≡ dayOf d ⌝ }
 {
@@ -61,6 +63,7 @@ pub(crate) fn date_or_zeros(d: MaybeDate) -> Date
     }
 }
 
+// Without a due date its three numbers are 0.
 fn c_fields(f: Fields) -> CFields
     ensures { λ r. ⌜ r ≡ cFieldsOf f ⌝ }
 {
@@ -208,6 +211,7 @@ fn stage_number(s: Stage) -> u64
     }
 }
 
+// A writer from its form, whatever the number of its stage.
 pub(crate) fn writer_from_c(p: CWriter) -> Writer
     ensures { λ r. ⌜ r ≡ writerOf p ⌝ }
 {
@@ -218,6 +222,7 @@ pub(crate) fn writer_from_c(p: CWriter) -> Writer
     }
 }
 
+// A writer in its form.
 pub(crate) fn c_writer(w: Writer) -> CWriter
     ensures { λ r. ⌜ r ≡ cWriterOf w ⌝ }
 {
