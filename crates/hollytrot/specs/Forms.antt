@@ -1,11 +1,9 @@
--- The forms in which answers, fields, parts, writers and sessions cross to other languages: numbers and structs of them. Assumes nothing.
+-- The forms in which values cross to other languages: numbers and structs of them. Assumes nothing.
 use Prim.Native.Nat.{ℕ, _-_}
 use mathlib.Core.Bool.{cond}
-use mathlib.Core.List.{List, [], _∷_}
+use mathlib.Core.List.{List}
 use lib.Dec.{eqb}
-use lib.ListN.{length, getD, take, drop}
-use Rattle.answer.specs.declared.Reason.{Reason}
-use Rattle.answer.specs.declared.Reason.the-variants.{WrongLength, NoDigit, WrongProduct, UnknownSegment, UnknownKind, WrongBoxCheck, WrongGeneralCheck, NoText, NotExpected, FixedDiffers, NoDate, UnknownCode, CountDiffers, TotalDiffers, FileFull, FileTotalPassed, BoardFull, BoardTotalPassed, FileOpen, CheckTwoPlaces, TooWide}
+use lib.ListN.{length, take, drop}
 use Rattle.answer.specs.declared.Answer.{Answer}
 use Rattle.answer.specs.declared.Answer.the-variants as answer
 use Rattle.answer.specs.Refusals.{answerNumber, answerPlace}
@@ -25,9 +23,10 @@ use Rattle.record.specs.Values.{dayOf, shownField}
 use Rattle.writer.specs.declared.Stage.{Stage}
 use Rattle.writer.specs.declared.Stage.the-variants as stage
 use Rattle.writer.specs.declared.Writer.{Writer}
-use Rattle.writer.specs.declared.WriteResult as writer
-use Rattle.session.specs.declared.TakeResult as session-took
-use Rattle.session.specs.declared.RunResult as session-ran
+use Rattle.writer.specs.declared.WriteResult.{WriteResult}
+use Rattle.session.specs.declared.TakeResult.{TakeResult}
+use Rattle.session.specs.declared.RunResult.{RunResult}
+use Rattle.page.specs.declared.PrintResult.{PrintResult}
 use Rattle.hollytrot.specs.declared.CAnswer.{CAnswer}
 use Rattle.hollytrot.specs.declared.CPart.{CPart}
 use Rattle.hollytrot.specs.declared.CFields.{CFields}
@@ -38,37 +37,29 @@ use Rattle.hollytrot.specs.declared.CWriter.{CWriter}
 use Rattle.hollytrot.specs.declared.CWriteResult.{CWriteResult}
 use Rattle.hollytrot.specs.declared.CTakeResult.{CTakeResult}
 use Rattle.hollytrot.specs.declared.CRunResult.{CRunResult}
+use Rattle.hollytrot.specs.declared.CPageResult.{CPageResult}
 
--- an answer: its number and its place, 0 and 0 where it is accepted
+-- an answer: its number and its place, 0 and 0 if it is accepted
 abbrev pub cAnswerOf : Answer → CAnswer
 cAnswerOf a = record { number = answerNumber a; place = answerPlace a }
 
--- the reasons in the order of their numbers, from 1 on
-abbrev pub reasons : List Reason
-reasons =
-    WrongLength ∷ NoDigit ∷ WrongProduct ∷ UnknownSegment ∷ UnknownKind ∷ WrongBoxCheck ∷ WrongGeneralCheck ∷ NoText ∷ NotExpected
-    ∷ FixedDiffers ∷ NoDate ∷ UnknownCode ∷ CountDiffers ∷ TotalDiffers ∷ FileFull ∷ FileTotalPassed ∷ BoardFull ∷ BoardTotalPassed
-    ∷ FileOpen ∷ CheckTwoPlaces ∷ TooWide ∷ []
-
--- the answer that a number up to 21 and a place stand for; 0 is accepted, whatever the place
-unfoldable pub answerFrom : CAnswer → Answer
-answerFrom s = cond (eqb (s .number) 0) answer.Accepted (answer.Refused (getD reasons (s .number - 1) WrongLength) (s .place))
-
--- a part of lent bytes: where it starts, counted from 0, and how long it is; the empty part starts at 0
+-- a part of the caller's bytes: its offset, counted from 0, and its length; the empty part has offset 0
 abbrev pub cPartOf : ℕ → ℕ → CPart
 cPartOf from n = record { from = cond (eqb n 0) 0 from; length = n }
 
+-- the bytes that a part is
 abbrev pub bytesIn : CPart → List ℕ → List ℕ
 bytesIn p bytes = take (p .length) (drop (p .from) bytes)
 
--- the free field ends with the barcode; a field starts where its row says
+-- the free field ends with the barcode
 unfoldable pub freePart : List ℕ → CPart
 freePart code = cPartOf (codeLength - length (shownFree code)) (length (shownFree code))
 
+-- a field starts at the first place of its row
 unfoldable pub fieldPart : ℕ → List ℕ → CPart
 fieldPart row rec = cPartOf (rowAt row .first - 1) (length (shownField row rec))
 
--- the fields of a barcode; where there is no due date, its year, month and day are 0
+-- the fields of a barcode; without a due date its year, month and day are 0
 abbrev pub cFieldsOf : Fields → CFields
 cFieldsOf f = record { kind = f .kind; value = f .value; issuer = f .issuer; due = dayOf (f .due) }
 
@@ -90,7 +81,8 @@ cPaymentOf p =
       number = p .number;
     }
 
--- a record: its first byte, and the values of the one that it names; what another record would show is 0, and so is all of a refused one
+-- a record: its first byte and its values; the values of the other two records, and all of a refused one, are 0
+
 abbrev pub noHeader : Header
 noHeader = record { bank = 0; date = record { year = 0; month = 0; day = 0 }; sequence = 0 }
 
@@ -110,15 +102,39 @@ noTrailer = record { count = 0; total = 0 }
 
 abbrev pub cRecordOf : record-decoded.Decoded → CRecord
 cRecordOf (decoded.Header h) =
-    record { answer = cAnswerOf answer.Accepted; letter = markOf layout.Header; header = h; payment = noCPayment; trailer = noTrailer }
+    record {
+      answer = cAnswerOf answer.Accepted;
+      letter = markOf layout.Header;
+      header = h;
+      payment = noCPayment;
+      trailer = noTrailer;
+    }
 cRecordOf (decoded.Payment p) =
-    record { answer = cAnswerOf answer.Accepted; letter = markOf layout.Payment; header = noHeader; payment = cPaymentOf p; trailer = noTrailer }
+    record {
+      answer = cAnswerOf answer.Accepted;
+      letter = markOf layout.Payment;
+      header = noHeader;
+      payment = cPaymentOf p;
+      trailer = noTrailer;
+    }
 cRecordOf (decoded.Trailer t) =
-    record { answer = cAnswerOf answer.Accepted; letter = markOf layout.Trailer; header = noHeader; payment = noCPayment; trailer = t }
+    record {
+      answer = cAnswerOf answer.Accepted;
+      letter = markOf layout.Trailer;
+      header = noHeader;
+      payment = noCPayment;
+      trailer = t;
+    }
 cRecordOf (decoded.Refused why place) =
-    record { answer = cAnswerOf (answer.Refused why place); letter = 0; header = noHeader; payment = noCPayment; trailer = noTrailer }
+    record {
+      answer = cAnswerOf (answer.Refused why place);
+      letter = 0;
+      header = noHeader;
+      payment = noCPayment;
+      trailer = noTrailer;
+    }
 
--- a writer: its stage is 0 before the header and 1 in an open file; every other number is closed
+-- a writer: its stage is 0 before the header and 1 in an open file; every other number is a closed file
 unfoldable pub stageOf : ℕ → Stage
 stageOf n = cond (eqb n 0) stage.Fresh (cond (eqb n 1) stage.Open stage.Closed)
 
@@ -133,13 +149,18 @@ writerOf p = record { stage = stageOf (p .stage); file = p .file }
 abbrev pub cWriterOf : Writer → CWriter
 cWriterOf w = record { stage = stageNumber (w .stage); file = w .file }
 
--- a refusal hands back the very writer that was given
-abbrev pub cWriteResultOf : CWriter → writer.WriteResult → CWriteResult
-cWriteResultOf p w = record { answer = cAnswerOf (w .answer); writer = ifAccepted (w .answer) (cWriterOf (w .writer)) p }
+-- the result of a call: after a refusal the given writer itself
+abbrev pub cWriteResultOf : CWriter → WriteResult → CWriteResult
+cWriteResultOf p w =
+    record { answer = cAnswerOf (w .answer); writer = ifAccepted (w .answer) (cWriterOf (w .writer)) p }
 
--- a session crosses as it is
-abbrev pub cTakeResultOf : session-took.TakeResult → CTakeResult
+-- a session crosses unchanged
+abbrev pub cTakeResultOf : TakeResult → CTakeResult
 cTakeResultOf t = record { answer = cAnswerOf (t .answer); session = t .session }
 
-abbrev pub cRunResultOf : session-ran.RunResult → CRunResult
-cRunResultOf r = record { answer = cAnswerOf (r .answer); session = r .session; records = r .records; files = r .files }
+abbrev pub cRunResultOf : RunResult → CRunResult
+cRunResultOf r =
+    record { answer = cAnswerOf (r .answer); session = r .session; records = r .records; files = r .files }
+
+abbrev pub cPageResultOf : PrintResult → CPageResult
+cPageResultOf p = record { answer = cAnswerOf (p .answer); length = p .length }

@@ -1,4 +1,4 @@
-// Barcodes, typed lines, dates and check digits.
+// Exports for barcodes, typed lines, dates and check digits.
 ghost use mathlib.Core.Path.{_≡_};
 ghost use lib.ListN.{length};
 ghost use Rattle.answer.specs.Orders.{ifAccepted};
@@ -18,6 +18,7 @@ use barcode::Issuer;
 use calendar::Date;
 use modulus::Modulus;
 
+// Accepted, or the barcode's first refusal. Any length; all but 44 bytes are refused.
 #[no_mangle]
 pub extern "C" fn hollytrot_barcode_check(code: &[u8]) -> CAnswer
     ensures { λ r. ⌜ r ≡ cAnswerOf (codes.barcodeAnswer (now (code .entry))) ⌝ }
@@ -25,6 +26,7 @@ pub extern "C" fn hollytrot_barcode_check(code: &[u8]) -> CAnswer
     forms::c_answer(barcode::check(code))
 }
 
+// The same answer, with the fields of an accepted barcode.
 #[no_mangle]
 pub extern "C" fn hollytrot_barcode_decode(code: &[u8]) -> CDecoded
     ensures { λ r. ⌜ r ≡ cDecodedOf (codes.decodedBarcode (now (code .entry))) ⌝ }
@@ -32,16 +34,19 @@ pub extern "C" fn hollytrot_barcode_decode(code: &[u8]) -> CDecoded
     forms::c_decoded(barcode::decode(code))
 }
 
-// The free field, to the barcode's end; the empty part of a refused barcode.
+// Where the free field is in the barcode: its last 25 bytes, in segment 6 its last 21. The empty part if the barcode is
+// refused.
 #[no_mangle]
 pub extern "C" fn hollytrot_barcode_free_field(code: &[u8]) -> CPart
     ensures { λ r. ⌜ r ≡ freePart (now (code .entry)) ⌝ }
 {
     let free = barcode::free_field(code);
     let length = free.len();
-    forms::part(forms::less(barcode::LENGTH, length), length)
+    forms::c_part(barcode::LENGTH - length, length)
 }
 
+// Builds a barcode into `out`, 44 bytes, from its fields and the free field's digits: 25, in segment 6 21. A refusal
+// leaves `out` as it was.
 #[no_mangle]
 pub extern "C" fn hollytrot_barcode_build(
     issuer: Issuer,
@@ -50,12 +55,17 @@ pub extern "C" fn hollytrot_barcode_build(
     free: &[u8],
     out: &mut [u8],
 ) -> CAnswer
-    ensures answer { λ r. ⌜ r ≡ cAnswerOf (buildAnswer (length (now (out .entry))) issuer kind value (now (free .entry))) ⌝ }
-    ensures bytes { λ _. ⌜ now (out .exit) ≡ ifAccepted (buildAnswer (length (now (out .entry))) issuer kind value (now (free .entry))) (builtOf issuer kind value (now (free .entry))) (now (out .entry)) ⌝ }
+    ensures answer { λ r.
+        ⌜ r ≡ cAnswerOf (buildAnswer (length (now (out .entry))) issuer kind value (now (free .entry))) ⌝ }
+    ensures bytes { λ _.
+        ⌜ now (out .exit)
+        ≡ ifAccepted (buildAnswer (length (now (out .entry))) issuer kind value (now (free .entry)))
+        (builtOf issuer kind value (now (free .entry))) (now (out .entry)) ⌝ }
 {
     forms::c_answer(barcode::builder::build(issuer, kind, value, free, out))
 }
 
+// Accepted, or the typed line's first refusal. Any length; all but 48 bytes are refused.
 #[no_mangle]
 pub extern "C" fn hollytrot_line_check(line: &[u8]) -> CAnswer
     ensures { λ r. ⌜ r ≡ cAnswerOf (lines.lineAnswer (now (line .entry))) ⌝ }
@@ -63,6 +73,7 @@ pub extern "C" fn hollytrot_line_check(line: &[u8]) -> CAnswer
     forms::c_answer(line::check(line))
 }
 
+// The same answer, with the fields of an accepted line.
 #[no_mangle]
 pub extern "C" fn hollytrot_line_decode(line: &[u8]) -> CDecoded
     ensures { λ r. ⌜ r ≡ cDecodedOf (lines.decodedLine (now (line .entry))) ⌝ }
@@ -70,30 +81,41 @@ pub extern "C" fn hollytrot_line_decode(line: &[u8]) -> CDecoded
     forms::c_decoded(line::decode(line))
 }
 
+// Writes the barcode of a line into `out`, 44 bytes. A refusal leaves `out` as it was.
 #[no_mangle]
 pub extern "C" fn hollytrot_line_to_barcode(line: &[u8], out: &mut [u8]) -> CAnswer
-    ensures answer { λ r. ⌜ r ≡ cAnswerOf (lines.toCodeAnswer (length (now (out .entry))) (now (line .entry))) ⌝ }
-    ensures bytes { λ _. ⌜ now (out .exit) ≡ ifAccepted (lines.toCodeAnswer (length (now (out .entry))) (now (line .entry))) (lines.codeOf (now (line .entry))) (now (out .entry)) ⌝ }
+    ensures answer { λ r.
+        ⌜ r ≡ cAnswerOf (lines.toCodeAnswer (length (now (out .entry))) (now (line .entry))) ⌝ }
+    ensures bytes { λ _.
+        ⌜ now (out .exit)
+        ≡ ifAccepted (lines.toCodeAnswer (length (now (out .entry))) (now (line .entry)))
+        (lines.codeOf (now (line .entry))) (now (out .entry)) ⌝ }
 {
     forms::c_answer(line::to_barcode(line, out))
 }
 
+// Writes the typed line of a barcode into `out`, 48 bytes. A refusal leaves `out` as it was.
 #[no_mangle]
 pub extern "C" fn hollytrot_line_from_barcode(code: &[u8], out: &mut [u8]) -> CAnswer
-    ensures answer { λ r. ⌜ r ≡ cAnswerOf (lines.toLineAnswer (length (now (out .entry))) (now (code .entry))) ⌝ }
-    ensures bytes { λ _. ⌜ now (out .exit) ≡ ifAccepted (lines.toLineAnswer (length (now (out .entry))) (now (code .entry))) (lines.lineOf (now (code .entry))) (now (out .entry)) ⌝ }
+    ensures answer { λ r.
+        ⌜ r ≡ cAnswerOf (lines.toLineAnswer (length (now (out .entry))) (now (code .entry))) ⌝ }
+    ensures bytes { λ _.
+        ⌜ now (out .exit)
+        ≡ ifAccepted (lines.toLineAnswer (length (now (out .entry))) (now (code .entry)))
+        (lines.lineOf (now (code .entry))) (now (out .entry)) ⌝ }
 {
     forms::c_answer(line::from_barcode(code, out))
 }
 
-// The date of eight digits; zeros where they are none.
+// The date that eight digits, YYYYMMDD, are; all zeros if they are no date or are not eight digits.
 #[no_mangle]
 pub extern "C" fn hollytrot_date_read(bytes: &[u8]) -> Date
     ensures { λ r. ⌜ r ≡ dayOf (dateOf (now (bytes .entry))) ⌝ }
 {
-    forms::day(calendar::read_date(bytes))
+    forms::date_or_zeros(calendar::read_date(bytes))
 }
 
+// Whether there is such a date in the years 1900 to 2199.
 #[no_mangle]
 pub extern "C" fn hollytrot_date_check(date: Date) -> bool
     ensures { λ r. ⌜ r ≡ isDate date ⌝ }
@@ -101,6 +123,7 @@ pub extern "C" fn hollytrot_date_check(date: Date) -> bool
     calendar::is_date(date)
 }
 
+// The check digit, 0 to 9, of any number of digits under modulo 10. A byte that is no digit counts as 0.
 #[no_mangle]
 pub extern "C" fn hollytrot_check_ten(digits: &[u8]) -> u64
     ensures { λ r. ⌜ r ≡ checkOf Ten (now (digits .entry)) ⌝ }
@@ -108,6 +131,7 @@ pub extern "C" fn hollytrot_check_ten(digits: &[u8]) -> u64
     modulus::check(Modulus::Ten, digits)
 }
 
+// The same under modulo 11.
 #[no_mangle]
 pub extern "C" fn hollytrot_check_eleven(digits: &[u8]) -> u64
     ensures { λ r. ⌜ r ≡ checkOf Eleven (now (digits .entry)) ⌝ }

@@ -1,10 +1,10 @@
-// The rooms' values in the forms that cross, and back.
+// The engine's values in the forms that cross to C, and a writer back from its form. `no_..` is the form of a value
+// that is not there: all zeros.
 ghost use mathlib.Core.Path.{_≡_};
-ghost use Prim.Native.Nat.{_-_};
-ghost use lib.ListN.{getD};
-ghost use Rattle.answer.specs.declared.Reason.the-variants.{WrongLength};
 ghost use Rattle.record.specs.Values.{dayOf};
-ghost use Rattle.hollytrot.specs.Forms.{cAnswerOf, reasons, answerFrom, cPartOf, cFieldsOf, noCFields, cDecodedOf, cPaymentOf, noCPayment, noHeader, noTrailer, cRecordOf, stageOf, stageNumber, writerOf, cWriterOf};
+ghost use Rattle.hollytrot.specs.Forms.{cAnswerOf, cPartOf, cFieldsOf, noCFields, cDecodedOf, cPaymentOf};
+ghost use Rattle.hollytrot.specs.Forms.{noCPayment, noHeader, noTrailer, cRecordOf, stageOf, stageNumber};
+ghost use Rattle.hollytrot.specs.Forms.{writerOf, cWriterOf};
 use crate::CAnswer;
 use crate::CDecoded;
 use crate::CFields;
@@ -13,7 +13,6 @@ use crate::CPayment;
 use crate::CRecord;
 use crate::CWriter;
 use answer::Answer;
-use answer::Reason;
 use barcode::Fields;
 use barcode::Issuer;
 use calendar::Date;
@@ -24,30 +23,7 @@ use record::Trailer;
 use writer::Stage;
 use writer::Writer;
 
-const REASONS: [Reason; 21] = [
-    Reason::WrongLength,
-    Reason::NoDigit,
-    Reason::WrongProduct,
-    Reason::UnknownSegment,
-    Reason::UnknownKind,
-    Reason::WrongBoxCheck,
-    Reason::WrongGeneralCheck,
-    Reason::NoText,
-    Reason::NotExpected,
-    Reason::FixedDiffers,
-    Reason::NoDate,
-    Reason::UnknownCode,
-    Reason::CountDiffers,
-    Reason::TotalDiffers,
-    Reason::FileFull,
-    Reason::FileTotalPassed,
-    Reason::BoardFull,
-    Reason::BoardTotalPassed,
-    Reason::FileOpen,
-    Reason::CheckTwoPlaces,
-    Reason::TooWide,
-];
-
+// An answer as its number and place; 0 and 0 if it is accepted.
 pub(crate) fn c_answer(a: Answer) -> CAnswer
     ensures { λ r. ⌜ r ≡ cAnswerOf a ⌝ }
 {
@@ -57,40 +33,14 @@ pub(crate) fn c_answer(a: Answer) -> CAnswer
     }
 }
 
-// Past the last number the first reason, which nobody asks for.
-fn reason(i: usize) -> Reason
-    ensures { λ r. ⌜ r ≡ getD reasons i WrongLength ⌝ }
-{
-    if i < 21 {
-        REASONS[i]
-    } else {
-        Reason::WrongLength
-    }
-}
-
-pub(crate) fn answer_from(s: CAnswer) -> Answer
-    ensures { λ r. ⌜ r ≡ answerFrom s ⌝ }
-{
-    if s.number == 0 {
-        return Answer::Accepted;
-    }
-    Answer::Refused(reason((s.number - 1) as usize), s.place)
-}
-
-pub(crate) fn part(from: usize, length: usize) -> CPart
+// The empty part is 0 and 0, whatever its offset would be.
+pub(crate) fn c_part(from: usize, length: usize) -> CPart
     ensures { λ r. ⌜ r ≡ cPartOf from length ⌝ }
 {
     if length == 0 {
         return CPart { from: 0, length: 0 };
     }
     CPart { from, length }
-}
-
-// Down to 0.
-pub(crate) fn less(a: usize, b: usize) -> usize
-    ensures { λ r. ⌜ r ≡ a - b ⌝ }
-{
-    if b < a { a - b } else { 0 }
 }
 
 fn no_date() -> Date
@@ -103,7 +53,8 @@ fn no_date() -> Date
     }
 }
 
-pub(crate) fn day(d: MaybeDate) -> Date
+// The date, or three zeros.
+pub(crate) fn date_or_zeros(d: MaybeDate) -> Date
     ensures { λ r. ⌜ r ≡ dayOf d ⌝ }
 {
     match d {
@@ -112,6 +63,7 @@ pub(crate) fn day(d: MaybeDate) -> Date
     }
 }
 
+// Without a due date its three numbers are 0.
 fn c_fields(f: Fields) -> CFields
     ensures { λ r. ⌜ r ≡ cFieldsOf f ⌝ }
 {
@@ -121,7 +73,7 @@ fn c_fields(f: Fields) -> CFields
         kind: f.kind,
         value: f.value,
         issuer,
-        due: day(due),
+        due: date_or_zeros(due),
     }
 }
 
@@ -139,7 +91,7 @@ fn no_c_fields() -> CFields
     }
 }
 
-// A barcode's and a line's fields, or zeros with the refusal.
+// The fields of a barcode or a typed line; of a refused one zeros.
 pub(crate) fn c_decoded(d: barcode::Decoded) -> CDecoded
     ensures { λ r. ⌜ r ≡ cDecodedOf d ⌝ }
 {
@@ -200,6 +152,7 @@ fn no_trailer() -> Trailer
     Trailer { count: 0, total: 0 }
 }
 
+// The values of the record that it is; those of the other two, and all of a refused one, are zeros.
 pub(crate) fn c_record(d: record::Decoded) -> CRecord
     ensures { λ r. ⌜ r ≡ cRecordOf d ⌝ }
 {
@@ -235,7 +188,8 @@ pub(crate) fn c_record(d: record::Decoded) -> CRecord
     }
 }
 
-fn stage(n: u64) -> Stage
+// Every number but 0 and 1 is a closed file.
+fn stage_from_number(n: u64) -> Stage
     ensures { λ r. ⌜ r ≡ stageOf n ⌝ }
 {
     if n == 0 {
@@ -257,16 +211,18 @@ fn stage_number(s: Stage) -> u64
     }
 }
 
-pub(crate) fn writer_of(p: CWriter) -> Writer
+// A writer from its form, whatever the number of its stage.
+pub(crate) fn writer_from_c(p: CWriter) -> Writer
     ensures { λ r. ⌜ r ≡ writerOf p ⌝ }
 {
     let file = p.file;
     Writer {
-        stage: stage(p.stage),
+        stage: stage_from_number(p.stage),
         file,
     }
 }
 
+// A writer in its form.
 pub(crate) fn c_writer(w: Writer) -> CWriter
     ensures { λ r. ⌜ r ≡ cWriterOf w ⌝ }
 {

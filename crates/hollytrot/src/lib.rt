@@ -1,6 +1,13 @@
-// The engine for other languages: each operation of the specification as an exported function over the proved one.
-// Numbers, slices and structs cross the boundary. An enum and a returned slice do not, so answers cross as
-// number and place, and a part of the caller's bytes as where it starts and how long it is.
+// Hollytrot for other languages: each operation as an exported C function over the proved one. include/hollytrot.h
+// declares them for C, and the crate in rust/ wraps them for Rust.
+//
+// Numbers, slices and structs of numbers cross the boundary; an enum and a returned slice do not. So an answer crosses
+// as its number and place, a date or record that may be missing as zeros, a part of the caller's bytes as its offset
+// and length, and a writer's stage as a number. A slice is a pointer and a length in C.
+//
+// Each function takes every value of its arguments, sessions, boards and writers in an arbitrary state included. None
+// allocates, keeps anything between calls or calls back. If a call is refused, the state that it returns is the given
+// one, and the caller's buffer is as it was.
 mod barcodes;
 mod forms;
 mod pages;
@@ -42,21 +49,21 @@ pub use writers::hollytrot_writer_new;
 pub use writers::hollytrot_writer_payment;
 pub use writers::hollytrot_writer_trailer;
 
-// 0 and 0 where it is accepted.
+// An answer: number 0 and place 0 if accepted, else the refusal's number (SPEC.md, "Refusals") and its place.
 #[repr(C)]
 pub struct CAnswer {
     pub number: u64,
     pub place: usize,
 }
 
-// Where a part of lent bytes starts, counted from 0, and its length.
+// A part of the caller's bytes: its offset, counted from 0, and its length. The empty part is 0 and 0.
 #[repr(C)]
 pub struct CPart {
     pub from: usize,
     pub length: usize,
 }
 
-// The fields of a barcode; a due date of zeros is none.
+// The fields of a barcode; the due date is all zeros if there is none.
 #[repr(C)]
 pub struct CFields {
     pub kind: u64,
@@ -65,12 +72,14 @@ pub struct CFields {
     pub due: Date,
 }
 
+// The fields are all zeros if the answer is a refusal.
 #[repr(C)]
 pub struct CDecoded {
     pub answer: CAnswer,
     pub fields: CFields,
 }
 
+// `received` and `tariff` are centavos.
 #[repr(C)]
 pub struct CPayment {
     pub paid: Date,
@@ -81,7 +90,8 @@ pub struct CPayment {
     pub number: u64,
 }
 
-// The record's first byte says which of the three holds its values; the others are zeros.
+// `letter`, the record's first byte, says which of the three has its values; the other two are all zeros. It is 0, and
+// all three are zeros, if the answer is a refusal.
 #[repr(C)]
 pub struct CRecord {
     pub answer: CAnswer,
@@ -91,25 +101,28 @@ pub struct CRecord {
     pub trailer: Trailer,
 }
 
-// A writer: 0 before the header, 1 in an open file, else closed.
+// A writer: `stage` is 0 before the header and 1 in an open file; every other number is a closed file.
 #[repr(C)]
 pub struct CWriter {
     pub stage: u64,
     pub file: File,
 }
 
+// The writer after the call; the given one, as it was, if the answer is a refusal.
 #[repr(C)]
 pub struct CWriteResult {
     pub answer: CAnswer,
     pub writer: CWriter,
 }
 
+// The session after the call; the given one, as it was, if the answer is a refusal.
 #[repr(C)]
 pub struct CTakeResult {
     pub answer: CAnswer,
     pub session: Session,
 }
 
+// The session after the accepted records, how many they are, and how many files they closed.
 #[repr(C)]
 pub struct CRunResult {
     pub answer: CAnswer,
@@ -118,7 +131,7 @@ pub struct CRunResult {
     pub files: u64,
 }
 
-// How many bytes of the buffer are the page.
+// How many bytes of the buffer are the page; 0 if the answer is a refusal.
 #[repr(C)]
 pub struct CPageResult {
     pub answer: CAnswer,

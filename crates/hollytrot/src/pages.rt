@@ -1,13 +1,15 @@
-// The board on paper.
+// Export for the printed page.
 ghost use mathlib.Core.Path.{_≡_};
-ghost use Rattle.hollytrot.specs.Exports.{pageAnswer, paperOf, pageWith, pageBytes};
+ghost use Rattle.page.specs.Pages.{pageOf, printResultOf, bytesWith};
+ghost use Rattle.hollytrot.specs.Forms.{cPageResultOf};
 use crate::CAnswer;
 use crate::CPageResult;
 use crate::forms;
-use answer::Answer;
-use answer::Reason;
 use board::Board;
 
+// Writes the page of an answer, two counts and a board into `out`, 8837 bytes, and returns the page's length; the bytes
+// behind it stay as they were. The answer's number and place are printed as given, even if no answer has them. A buffer
+// of another length is refused (1 at place 0) and stays as it was.
 #[no_mangle]
 pub extern "C" fn hollytrot_page(
     answer: CAnswer,
@@ -16,16 +18,15 @@ pub extern "C" fn hollytrot_page(
     board: Board,
     out: &mut [u8],
 ) -> CPageResult
-    ensures answer { λ r. ⌜ r ≡ pageWith (pageAnswer answer (now (out .entry))) (paperOf answer records files board) ⌝ }
-    ensures bytes { λ _. ⌜ now (out .exit) ≡ pageBytes answer (paperOf answer records files board) (now (out .entry)) ⌝ }
+    ensures answer { λ r.
+        ⌜ r
+        ≡ cPageResultOf
+        (printResultOf (pageOf (answer .number) (answer .place) records files board) (now (out .entry))) ⌝ }
+    ensures bytes { λ _.
+        ⌜ now (out .exit)
+        ≡ bytesWith (pageOf (answer .number) (answer .place) records files board) (now (out .entry)) ⌝ }
 {
-    if 21 < answer.number {
-        return CPageResult {
-            answer: forms::c_answer(Answer::Refused(Reason::TooWide, 0)),
-            length: 0,
-        };
-    }
-    let printed = page::print(forms::answer_from(answer), records, files, board, out);
+    let printed = page::print(answer.number, answer.place, records, files, board, out);
     let a = printed.answer;
     CPageResult {
         answer: forms::c_answer(a),

@@ -1,4 +1,4 @@
-// The three records, each alone.
+// Exports for one record, without the order and the sums of its file.
 ghost use mathlib.Core.Path.{_≡_};
 ghost use lib.ListN.{length, getD};
 ghost use Rattle.answer.specs.Orders.{ifAccepted};
@@ -12,6 +12,7 @@ use crate::CPart;
 use crate::CRecord;
 use crate::forms;
 
+// Accepted, or the record's first refusal. Any length; all but 150 bytes are refused.
 #[no_mangle]
 pub extern "C" fn hollytrot_record_check(rec: &[u8]) -> CAnswer
     ensures { λ r. ⌜ r ≡ cAnswerOf (recordAnswer (now (rec .entry))) ⌝ }
@@ -19,6 +20,7 @@ pub extern "C" fn hollytrot_record_check(rec: &[u8]) -> CAnswer
     forms::c_answer(record::check(rec))
 }
 
+// The same answer, with the values of an accepted record.
 #[no_mangle]
 pub extern "C" fn hollytrot_record_decode(rec: &[u8]) -> CRecord
     ensures { λ r. ⌜ r ≡ cRecordOf (decodedRecord (now (rec .entry))) ⌝ }
@@ -26,7 +28,8 @@ pub extern "C" fn hollytrot_record_decode(rec: &[u8]) -> CRecord
     forms::c_record(record::decode(rec))
 }
 
-// A field by its row of the table; the empty part where there is none to show.
+// Where a field of an accepted record is, by its row in the table of fields. The empty part if the record is refused,
+// if the row is another record's, and past the table.
 #[no_mangle]
 pub extern "C" fn hollytrot_record_field(rec: &[u8], row: usize) -> CPart
     ensures { λ r. ⌜ r ≡ fieldPart row (now (rec .entry)) ⌝ }
@@ -34,13 +37,18 @@ pub extern "C" fn hollytrot_record_field(rec: &[u8], row: usize) -> CPart
     let field = record::field(rec, row);
     let length = field.len();
     let shape = layout::row(row);
-    forms::part(forms::less(shape.first, 1), length)
+    forms::c_part(shape.first - 1, length)
 }
 
+// Joins the fields of an accepted A into 78 bytes, or of an accepted G into 121, as the writer takes them. A refusal
+// leaves `out` as it was.
 #[no_mangle]
 pub extern "C" fn hollytrot_record_join(rec: &[u8], out: &mut [u8]) -> CAnswer
     ensures answer { λ r. ⌜ r ≡ cAnswerOf (joinAnswer (now (rec .entry)) (length (now (out .entry)))) ⌝ }
-    ensures bytes { λ _. ⌜ now (out .exit) ≡ ifAccepted (joinAnswer (now (rec .entry)) (length (now (out .entry)))) (joinedIn (namedBy (getD (now (rec .entry)) 0 0)) (now (rec .entry))) (now (out .entry)) ⌝ }
+    ensures bytes { λ _.
+        ⌜ now (out .exit)
+        ≡ ifAccepted (joinAnswer (now (rec .entry)) (length (now (out .entry))))
+        (joinedIn (namedBy (getD (now (rec .entry)) 0 0)) (now (rec .entry))) (now (out .entry)) ⌝ }
 {
     forms::c_answer(fields::join(rec, out))
 }

@@ -1,4 +1,4 @@
-// A session, which the caller holds.
+// Exports for a session, a value that the caller holds: each call returns the session after it.
 ghost use mathlib.Core.Path.{_≡_};
 ghost use Rattle.session.specs.Sessions.{freshSession, takeOf, abandonOf, finishOf};
 ghost use Rattle.session.specs.Runs.{runOf};
@@ -9,6 +9,7 @@ use crate::forms;
 use board::Board;
 use session::Session;
 
+// A session with no file open and an empty board.
 #[no_mangle]
 pub extern "C" fn hollytrot_session_new() -> Session
     ensures { λ r. ⌜ r ≡ freshSession ⌝ }
@@ -16,6 +17,7 @@ pub extern "C" fn hollytrot_session_new() -> Session
     Session::new()
 }
 
+// Takes one record, of any bytes and any length. A refusal returns the given session.
 #[no_mangle]
 pub extern "C" fn hollytrot_session_take(session: Session, rec: &[u8]) -> CTakeResult
     ensures { λ r. ⌜ r ≡ cTakeResultOf (takeOf session (now (rec .entry))) ⌝ }
@@ -23,6 +25,8 @@ pub extern "C" fn hollytrot_session_take(session: Session, rec: &[u8]) -> CTakeR
     c_take_result(session.take(rec))
 }
 
+// Takes records that follow each other, up to the first refused one; those before it are kept. A rest shorter than 150
+// bytes is a record of wrong length. No bytes are accepted and change nothing.
 #[no_mangle]
 pub extern "C" fn hollytrot_session_run(session: Session, bytes: &[u8]) -> CRunResult
     ensures { λ r. ⌜ r ≡ cRunResultOf (runOf session (now (bytes .entry))) ⌝ }
@@ -38,6 +42,7 @@ pub extern "C" fn hollytrot_session_run(session: Session, bytes: &[u8]) -> CRunR
     }
 }
 
+// The session without its open file; the given session if no file is open.
 #[no_mangle]
 pub extern "C" fn hollytrot_session_abandon(session: Session) -> Session
     ensures { λ r. ⌜ r ≡ abandonOf session ⌝ }
@@ -45,6 +50,7 @@ pub extern "C" fn hollytrot_session_abandon(session: Session) -> Session
     session.abandon()
 }
 
+// The end of the input: refused (19) while a file is open. The session is the given one in either case.
 #[no_mangle]
 pub extern "C" fn hollytrot_session_finish(session: Session) -> CTakeResult
     ensures { λ r. ⌜ r ≡ cTakeResultOf (finishOf session) ⌝ }
@@ -52,7 +58,7 @@ pub extern "C" fn hollytrot_session_finish(session: Session) -> CTakeResult
     c_take_result(session.finish())
 }
 
-// The board shown: accepted files only.
+// The board shown, of accepted files only. It is the session's member `shown`.
 #[no_mangle]
 pub extern "C" fn hollytrot_session_board(session: Session) -> Board
     ensures { λ r. ⌜ r ≡ session .shown ⌝ }

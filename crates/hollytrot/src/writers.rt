@@ -1,4 +1,4 @@
-// A writer of one file, which the caller holds.
+// Exports for the writer of one return file, a value that the caller holds: each call returns the writer after it.
 ghost use mathlib.Core.Path.{_≡_};
 ghost use lib.ListN.{length};
 ghost use Rattle.answer.specs.Orders.{ifAccepted};
@@ -10,6 +10,7 @@ use crate::forms;
 use answer::Answer;
 use writer::Writer;
 
+// A writer that has written nothing.
 #[no_mangle]
 pub extern "C" fn hollytrot_writer_new() -> CWriter
     ensures { λ r. ⌜ r ≡ cWriterOf writers.freshWriter ⌝ }
@@ -17,19 +18,29 @@ pub extern "C" fn hollytrot_writer_new() -> CWriter
     forms::c_writer(Writer::new())
 }
 
+// Writes the A into `out`, 150 bytes, from its 78 field bytes. A refusal returns the given writer and leaves `out` as
+// it was.
 #[no_mangle]
 pub extern "C" fn hollytrot_writer_header(
     writer: CWriter,
     fields: &[u8],
     out: &mut [u8],
 ) -> CWriteResult
-    ensures answer { λ r. ⌜ r ≡ cWriteResultOf writer (writers.headerWritten (writerOf writer) (now (fields .entry)) (length (now (out .entry)))) ⌝ }
-    ensures bytes { λ _. ⌜ now (out .exit) ≡ ifAccepted (writers.headerAnswer (writerOf writer) (now (fields .entry)) (length (now (out .entry)))) (writers.headerBytes (now (fields .entry))) (now (out .entry)) ⌝ }
+    ensures answer { λ r.
+        ⌜ r
+        ≡ cWriteResultOf writer
+        (writers.headerWritten (writerOf writer) (now (fields .entry)) (length (now (out .entry)))) ⌝ }
+    ensures bytes { λ _.
+        ⌜ now (out .exit)
+        ≡ ifAccepted (writers.headerAnswer (writerOf writer) (now (fields .entry)) (length (now (out .entry))))
+        (writers.headerBytes (now (fields .entry))) (now (out .entry)) ⌝ }
 {
-    let w = forms::writer_of(writer);
+    let w = forms::writer_from_c(writer);
     c_write_result(writer, w.header(fields, out))
 }
 
+// Writes a G into `out`, 150 bytes, from its 121 field bytes and two amounts in centavos. A refusal returns the given
+// writer and leaves `out` as it was.
 #[no_mangle]
 pub extern "C" fn hollytrot_writer_payment(
     writer: CWriter,
@@ -38,23 +49,36 @@ pub extern "C" fn hollytrot_writer_payment(
     tariff: u64,
     out: &mut [u8],
 ) -> CWriteResult
-    ensures answer { λ r. ⌜ r ≡ cWriteResultOf writer (writers.paymentWritten (writerOf writer) (now (fields .entry)) received tariff (length (now (out .entry)))) ⌝ }
-    ensures bytes { λ _. ⌜ now (out .exit) ≡ ifAccepted (writers.paymentAnswer (writerOf writer) (now (fields .entry)) received tariff (length (now (out .entry)))) (writers.paymentBytes (now (fields .entry)) received tariff) (now (out .entry)) ⌝ }
+    ensures answer { λ r.
+        ⌜ r
+        ≡ cWriteResultOf writer
+        (writers.paymentWritten (writerOf writer) (now (fields .entry)) received tariff (length (now (out .entry)))) ⌝ }
+    ensures bytes { λ _.
+        ⌜ now (out .exit)
+        ≡ ifAccepted
+        (writers.paymentAnswer (writerOf writer) (now (fields .entry)) received tariff (length (now (out .entry))))
+        (writers.paymentBytes (now (fields .entry)) received tariff) (now (out .entry)) ⌝ }
 {
-    let w = forms::writer_of(writer);
+    let w = forms::writer_from_c(writer);
     c_write_result(writer, w.payment(fields, received, tariff, out))
 }
 
+// Writes the Z into `out`, 150 bytes, with the file's own count and total, and closes the writer. A refusal returns the
+// given writer and leaves `out` as it was.
 #[no_mangle]
 pub extern "C" fn hollytrot_writer_trailer(writer: CWriter, out: &mut [u8]) -> CWriteResult
-    ensures answer { λ r. ⌜ r ≡ cWriteResultOf writer (writers.trailerWritten (writerOf writer) (length (now (out .entry)))) ⌝ }
-    ensures bytes { λ _. ⌜ now (out .exit) ≡ ifAccepted (writers.trailerAnswer (writerOf writer) (length (now (out .entry)))) (writers.trailerBytes (writerOf writer)) (now (out .entry)) ⌝ }
+    ensures answer { λ r.
+        ⌜ r ≡ cWriteResultOf writer (writers.trailerWritten (writerOf writer) (length (now (out .entry)))) ⌝ }
+    ensures bytes { λ _.
+        ⌜ now (out .exit)
+        ≡ ifAccepted (writers.trailerAnswer (writerOf writer) (length (now (out .entry))))
+        (writers.trailerBytes (writerOf writer)) (now (out .entry)) ⌝ }
 {
-    let w = forms::writer_of(writer);
+    let w = forms::writer_from_c(writer);
     c_write_result(writer, w.trailer(out))
 }
 
-// A refusal hands back the very writer that was given.
+// A refusal returns the given writer itself: made anew from `writer_from_c` it could have another `stage` number.
 fn c_write_result(given: CWriter, w: writer::WriteResult) -> CWriteResult
     ensures { λ r. ⌜ r ≡ cWriteResultOf given w ⌝ }
 {

@@ -1,4 +1,4 @@
--- The pages to look at, by computation. Assumes nothing.
+-- The worked examples, by computation. Assumes nothing.
 use mathlib.Core.Path.{refl}
 use Rattle.decimal.specs.Numbers.{digitsOf}
 use Rattle.board.specs.Boards.{ownOf, usedAfter}

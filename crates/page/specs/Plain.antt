@@ -1,21 +1,21 @@
--- Numbers on paper: without leading zeros, or with zeros to a width. Assumes nothing.
-use Prim.Native.Nat.{ℕ, zero, suc, _/_, _^_, _≤_, _<_, max}
+-- Numbers as the page shows them (SPEC.md, "Page"): without leading zeros, or with zeros to a width. Assumes nothing.
+use Prim.Native.Nat.{ℕ, zero, suc, _/_, _^_, _<_, max}
 use mathlib.Core.List.{List, [], _∷_}
 use mathlib.Core.Path.{_≡_}
-use lib.ListN.{length, getD}
-use Rattle.decimal.specs.Numbers.{largestNumber, numberOf, digitsOf}
+use lib.ListN.{getD}
+use Rattle.decimal.specs.Numbers.{numberOf, digitsOf}
 
--- the digits that a number needs, none for 0, counted in so many turns
+-- how many digits a number has, none for 0, counted by dividing by 10 at most so many times
 unfoldable pub neededIn : ℕ → ℕ → ℕ
 neededIn zero n = 0
 neededIn (suc turns) zero = 0
 neededIn (suc turns) (suc n) = suc (neededIn turns (suc n / 10))
 
--- no number needs more digits than it says itself
+-- n divisions are enough for n
 abbrev pub needed : ℕ → ℕ
 needed n = neededIn n n
 
--- a number with zeros to w digits; in full where it needs more
+-- a number with zeros to w digits; in full if it has more
 abbrev pub shown : ℕ → ℕ → List ℕ
 shown w n = digitsOf (max w (needed n)) n
 
@@ -23,23 +23,16 @@ shown w n = digitsOf (max w (needed n)) n
 abbrev pub plain : ℕ → List ℕ
 plain n = shown 1 n
 
--- the most digits of a number of 64 bits
-abbrev pub mostDigits : ℕ
-mostDigits = 20
-
 -- Promises.
 
--- whatever is shown reads back
+-- what is shown, read as a number, is the number
 abbrev pub ShownReadsBack : Type 0
 ShownReadsBack = (w n : ℕ) → numberOf (shown w n) ≡ n
 
--- the first digit is 0 of 0 alone, which is one digit
+-- only 0 starts with the digit 0, and it is one digit
 abbrev pub NoLeadingZero : Type 0
 NoLeadingZero = ((n : ℕ) → getD (plain n) 0 0 ≡ 48 → n ≡ 0) × (plain 0 ≡ 48 ∷ [])
 
--- w digits are shown of a number that has no more
+-- a number of at most w digits is shown with exactly w
 abbrev pub ShownKeepsZeros : Type 0
 ShownKeepsZeros = (w n : ℕ) → n < 10 ^ w → shown w n ≡ digitsOf w n
-
-abbrev pub ShownFits : Type 0
-ShownFits = (w n : ℕ) → w ≤ mostDigits → n ≤ largestNumber → length (shown w n) ≤ mostDigits

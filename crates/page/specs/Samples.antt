@@ -1,15 +1,14 @@
--- Pages to look at: the worked one of document 01, and the empty one. Assumes nothing.
+-- Worked examples (SPEC.md, "Page"): the page of one payment, the empty page, issuers, a number. Assumes nothing.
 use Prim.Native.Nat.{ℕ}
 use mathlib.Core.List.{List, [], _∷_, map}
 use mathlib.Core.Path.{_≡_}
-use Rattle.answer.specs.declared.Answer.the-variants.{Accepted}
 use Rattle.barcode.specs.declared.Issuer.{Issuer}
 use Rattle.board.specs.Lanes.{laneOfOne}
 use Rattle.board.specs.Boards.{freshBoard, boardWith}
 use Rattle.page.specs.Plain.{plain}
 use Rattle.page.specs.Pages.{issuerLine, pageOf}
 
--- line by line, each with its newline:
+-- each line with its newline:
 --     answer=0
 --     place=0
 --     record=3
@@ -38,7 +37,8 @@ workedPage =
 
 -- three records and one file, with one payment of 109 centavos to issuer 3659 of segment 1
 abbrev pub WorkedPage : Type 0
-WorkedPage = pageOf Accepted 3 1 (boardWith freshBoard (laneOfOne (record { segment = 1; number = 3659 }) 109)) ≡ workedPage
+WorkedPage =
+    pageOf 0 0 3 1 (boardWith freshBoard (laneOfOne (record { segment = 1; number = 3659 }) 109)) ≡ workedPage
 
 --     answer=0
 --     place=0
@@ -58,9 +58,9 @@ emptyPage =
     ∷ 99 ∷ 101 ∷ 110 ∷ 116 ∷ 97 ∷ 118 ∷ 111 ∷ 115 ∷ 61 ∷ 48 ∷ 10
     ∷ []
 
--- an input without records
+-- an input with no records
 abbrev pub EmptyPage : Type 0
-EmptyPage = pageOf Accepted 0 0 freshBoard ≡ emptyPage
+EmptyPage = pageOf 0 0 0 0 freshBoard ≡ emptyPage
 
 abbrev pub shownIssuers : List Issuer
 shownIssuers =
@@ -69,7 +69,7 @@ shownIssuers =
     ∷ record { segment = 1; number = 123456 }
     ∷ []
 
--- four digits with their zeros, in segment 6 eight, and in full what no barcode can name:
+-- four digits with their zeros, in segment 6 eight; a number that no barcode can have, in full:
 --     issuer=7-0009
 --     issuer=6-00012345
 --     issuer=1-123456

@@ -1,9 +1,11 @@
--- The three demands, from the rooms' proofs. Assumes nothing.
+-- The three demands, from the crates' proofs. Assumes nothing.
 use Rattle.answer.proofs.Refusals.{numbers-differ, zero-is-accepted}
 use Rattle.answer.proofs.Orders.{then-refuses, first-refuses}
 use Rattle.decimal.proofs.Bytes.{each-refuses}
-use Rattle.barcode.proofs.RoundTrips.{decoded-answers, fields-are-its-places, built-is-read, fields-within-ranges-build, code-is-its-fields}
-use Rattle.line.proofs.RoundTrips.{line-is-boxes-and-code, fields-give-a-line, code-to-line-and-back, line-to-code-and-back, line-is-its-fields}
+use Rattle.barcode.proofs.RoundTrips.{decoded-answers, fields-are-its-places, built-is-read}
+use Rattle.barcode.proofs.RoundTrips.{fields-within-ranges-build, code-is-its-fields}
+use Rattle.line.proofs.RoundTrips.{line-is-boxes-and-code, fields-give-a-line}
+use Rattle.line.proofs.RoundTrips.{code-to-line-and-back, line-to-code-and-back, line-is-its-fields}
 use Rattle.layout.proofs.Layouts.{fields-cover, record-is-its-fields, mark-names, given-lengths}
 use Rattle.record.proofs.Shown.{decode-answers, right-fields-are-accepted, fields-are-their-places}
 use Rattle.fields.proofs.Trips.{fields-make-the-record, made-is-accepted}
@@ -22,8 +24,11 @@ use Rattle.typos.proofs.Exchange.{exchange-of-neighbours}
 use Rattle.typos.proofs.OneEleven.{one-changed-digit-under-eleven}
 use Rattle.typos.proofs.Samples.{directions-may-differ, borders-hold, segment-may-slip, kind-may-slip}
 use Rattle.ledger.proofs.Agreement.{session-agrees, answers-are-the-books, next-answer-is-the-books}
-use Rattle.ledger.proofs.Sessions.{finish-keeps-session, true-trailers-only, only-trailers-show, nothing-shows-before, trailers-show-all, abandon-keeps-board, abandon-drops-file, abandon-nothing, finish-answers}
-use Rattle.ledger.proofs.Shown.{lanes-are-the-payments, lanes-in-order, each-lane-is-exact, no-issuer-has-two-lanes, sums-are-the-records, totals-are-the-records, within-limits}
+use Rattle.ledger.proofs.Sessions.{true-trailers-only, only-trailers-show, nothing-shows-before, trailers-show-all}
+use Rattle.ledger.proofs.Sessions.{abandon-keeps-board, abandon-drops-file, abandon-nothing}
+use Rattle.ledger.proofs.Sessions.{finish-answers, finish-keeps-session}
+use Rattle.ledger.proofs.Shown.{lanes-are-the-payments, lanes-in-order, each-lane-is-exact, no-issuer-has-two-lanes}
+use Rattle.ledger.proofs.Shown.{sums-are-the-records, totals-are-the-records, within-limits}
 use Rattle.session.proofs.Runs.{run-is-its-takes}
 use Rattle.ledger.proofs.Runs.{run-is-the-books}
 use Rattle.ledger.proofs.WholeFiles.{file-accepted, file-posted, fresh-session-accepts, fresh-session-shows}
@@ -57,15 +62,32 @@ demand-2 =
       table = (fields-cover, record-is-its-fields, mark-names, given-lengths);
       codes = (decoded-answers, fields-are-its-places, built-is-read);
       lines = (line-is-boxes-and-code, fields-give-a-line);
-      records = (decode-answers, records-show-their-places, fields-are-their-places, made-is-accepted, written-amounts-are-read);
+      records = (
+        decode-answers,
+        records-show-their-places,
+        fields-are-their-places,
+        made-is-accepted,
+        written-amounts-are-read,
+      );
       allowed = (fields-within-ranges-build, right-fields-are-accepted);
       codesBack = code-is-its-fields;
       linesBack = (code-to-line-and-back, line-to-code-and-back, line-is-its-fields);
-      recordsBack = (fields-make-the-record, fields-write-the-header, fields-write-the-payment, fields-write-the-trailer);
+      recordsBack = (
+        fields-make-the-record,
+        fields-write-the-header,
+        fields-write-the-payment,
+        fields-write-the-trailer,
+      );
       filesBack = fields-write-the-file;
       trailers = (one-right-trailer, true-trailers-only);
       files = (file-accepted, file-posted, fresh-session-accepts, fresh-session-shows);
-      written = (closed-file-is-whole, closed-file-is-accepted, calls-make-one-file, written-is-accepted, trailer-shows-the-figures);
+      written = (
+        closed-file-is-whole,
+        closed-file-is-accepted,
+        calls-make-one-file,
+        written-is-accepted,
+        trailer-shows-the-figures,
+      );
       answers = (session-agrees, answers-are-the-books, next-answer-is-the-books, run-is-the-books);
       lanes = (lanes-are-the-payments, lanes-in-order, each-lane-is-exact, no-issuer-has-two-lanes);
       sums = (sums-are-the-records, totals-are-the-records);

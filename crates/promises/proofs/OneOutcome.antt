@@ -1,142 +1,152 @@
--- One outcome for each input: where a contract gives the result and every byte left by equations, it allows one. Assumes nothing.
+-- One outcome for each input: if a contract gives the result and every byte left by equations, it allows one outcome.
+-- `search` finds each crate's lines from the laws below. `value` is for an operation that writes no buffer. The others
+-- are for one that writes a buffer, and take the number of parameters before it and behind it. A new line needs no
+-- change here if its crate's `search` lists its law; the message of a failed `search` names the line that it cannot
+-- prove. Assumes nothing.
+use Prim.Native.Nat.{ℕ, zero, suc}
+use mathlib.Core.List.{List}
 use mathlib.Core.Path.{_≡_, refl, sym, _∙_, ap}
-use base.Logic.{ent, sep}
-use contract.Monad.{fact}
-use borrow.Fn.World.{World}
+use borrow.Fn.World.{World, Pr}
+use Rattle.answer.specs.declared.Answer.{Answer}
+use Rattle.answer.specs.Orders.{ifAccepted}
+use Rattle.writer.specs.declared.WriteResult.{WriteResult}
+use Rattle.promises.specs.OneOutcome as outcomes
 use Rattle.promises.specs.OneOutcome.{OneOutcome}
-use Rattle.promises.proofs.Clauses.{one, two, bounded}
+use Rattle.promises.proofs.Clauses.{says, both, Gives, clauses, bounded-clauses, one, two, bounded}
 
 -- two that are given by one equation
 same : {A : Type 0} {x r r′ : A} → r ≡ x → r′ ≡ x → r ≡ r′
 same p p′ = p ∙ sym p′
 
--- where nothing is lent, the result is all
 value :
     (w : World) (A L : Type 0) (x r r′ : A) (left : L)
-    → ent (w .𝓤) (sep (w .𝓤) (fact (w .𝓤) (r ≡ x)) (fact (w .𝓤) (r′ ≡ x))) (fact (w .𝓤) ((r ≡ r′) × (left ≡ left)))
+    → Gives w (both w (says w (r ≡ x)) (says w (r′ ≡ x))) ((r ≡ r′) × (left ≡ left))
 value w A L x r r′ left = one w (r ≡ x) (r′ ≡ x) ((r ≡ r′) × (left ≡ left)) (λ p p′. (same p p′, refl))
+
+-- What is left of the parameters if one of them is a buffer: its bytes, and nothing of those before and behind it.
+
+abbrev Units : ℕ → Type 0
+Units zero = Unit {0}
+Units (suc n) = Unit {0} × Units n
+
+abbrev units : (n : ℕ) → Units n
+units zero = tt
+units (suc n) = (tt, units n)
+
+abbrev Around : ℕ → ℕ → Type 0
+Around zero behind = List ℕ × Units behind
+Around (suc before) behind = Unit {0} × Around before behind
+
+abbrev around : (before behind : ℕ) → List ℕ → Around before behind
+around zero behind bytes = (bytes, units behind)
+around (suc before) behind bytes = (tt, around before behind bytes)
+
+module _ (before behind : ℕ) (w : World) where
+  abbrev Equal : {A : Type 0} → A → A → List ℕ → List ℕ → Type 0
+  Equal r r′ b b′ = (r ≡ r′) × (around before behind b ≡ around before behind b′)
+
+  -- there is no result but the bytes
+  bytes : (A : Type 0) (r : A) (y b b′ : List ℕ) → Gives w (both w (says w (b ≡ y)) (says w (b′ ≡ y))) (Equal r r b b′)
+  bytes A r y b b′ = one w _ _ _ (λ p p′. (refl, ap (around before behind) (same p p′)))
+
+  -- the bytes do not depend on the result; the same with a bound behind the two clauses
+  fixed :
+      (A : Type 0) (x r r′ : A) (y b b′ : List ℕ)
+      → Gives w (both w (clauses w (r ≡ x) (b ≡ y)) (clauses w (r′ ≡ x) (b′ ≡ y))) (Equal r r′ b b′)
+  fixed A x r r′ y b b′ =
+      two w _ _ _ _ _ (λ p p′. (same (p .0) (p′ .0), ap (around before behind) (same (p .1) (p′ .1))))
+
+  fixed-bounded :
+      (A : Type 0) (x r r′ : A) (y b b′ : List ℕ) (β β′ : Type 0)
+      → Gives w (both w (bounded-clauses w (r ≡ x) (b ≡ y) β) (bounded-clauses w (r′ ≡ x) (b′ ≡ y) β′))
+      (Equal r r′ b b′)
+  fixed-bounded A x r r′ y b b′ β β′ =
+      bounded w _ _ _ _ _ _ _ (λ p p′. (same (p .0) (p′ .0), ap (around before behind) (same (p .1) (p′ .1))))
+
+  module _ (new old b b′ : List ℕ) where
+    -- the bytes are new if the result, or its answer, is acceptance
+    answered :
+        (x r r′ : Answer)
+        → Gives w
+        (both w (clauses w (r ≡ x) (b ≡ ifAccepted r new old)) (clauses w (r′ ≡ x) (b′ ≡ ifAccepted r′ new old)))
+        (Equal r r′ b b′)
+    answered x r r′ =
+        two w _ _ _ _ _ (λ p p′. let e = same (p .0) (p′ .0) in (e, ap (around before behind) (cc (p .1, p′ .1, e))))
+
+    written :
+        (x r r′ : WriteResult)
+        → Gives w
+        (both w (clauses w (r ≡ x) (b ≡ ifAccepted (r .answer) new old))
+        (clauses w (r′ ≡ x) (b′ ≡ ifAccepted (r′ .answer) new old)))
+        (Equal r r′ b b′)
+    written x r r′ =
+        two w _ _ _ _ _ (λ p p′. let e = same (p .0) (p′ .0) in (e, ap (around before behind) (cc (p .1, p′ .1, e))))
+
+of-answer : outcomes.AnswerOutcomes
+of-answer = search value
+
+of-decimal : outcomes.DecimalOutcomes
+of-decimal = search (value, bytes 1 1, answered 2 1)
+
+of-calendar : outcomes.CalendarOutcomes
+of-calendar = search value
+
+of-modulus : outcomes.ModulusOutcomes
+of-modulus = search value
+
+of-barcode : outcomes.BarcodeOutcomes
+of-barcode = search (value, answered 4 0)
+
+of-line : outcomes.LineOutcomes
+of-line = search (value, answered 1 0)
+
+of-layout : outcomes.LayoutOutcomes
+of-layout = search value
+
+of-kinds : outcomes.KindsOutcomes
+of-kinds = search value
+
+of-record : outcomes.RecordOutcomes
+of-record = search value
+
+of-fields : outcomes.FieldsOutcomes
+of-fields = search (answered 1 0, answered 4 0)
+
+of-file : outcomes.FileOutcomes
+of-file = search value
+
+of-board : outcomes.BoardOutcomes
+of-board = search value
+
+of-session : outcomes.SessionOutcomes
+of-session = search value
+
+of-writer : outcomes.WriterOutcomes
+of-writer = search (value, written 1 0, written 2 0, written 4 0)
+
+of-page : outcomes.PageOutcomes
+of-page = search (fixed-bounded 5 0)
+
+of-hollytrot : outcomes.HollytrotOutcomes
+of-hollytrot = search (value, fixed 1 0, fixed 2 0, fixed 4 0)
 
 pub one-outcome : OneOutcome
 one-outcome =
-    record {
-      answer·Reason·number = λ w κs given g r r′ left left′. value w _ _ _ _ _ left;
-      answer·Answer·number = λ w κs given g r r′ left left′. value w _ _ _ _ _ left;
-      answer·Answer·place = λ w κs given g r r′ left left′. value w _ _ _ _ _ left;
-      answer·Answer·behind = λ w κs given g r r′ left left′. value w _ _ _ _ _ left;
-      decimal·is_of = λ w κs given g r r′ left left′. value w _ _ _ _ _ left;
-      decimal·class_error_bit = λ w κs given g r r′ left left′. value w _ _ _ _ _ left;
-      decimal·all_of = λ w κs given g r r′ left left′. value w _ _ _ _ _ left;
-      decimal·require_class = λ w κs given g r r′ left left′. value w _ _ _ _ _ left;
-      decimal·value = λ w κs given g r r′ left left′. value w _ _ _ _ _ left;
-      decimal·number = λ w κs given g r r′ left left′. value w _ _ _ _ _ left;
-      decimal·low_number = λ w κs given g r r′ left left′. value w _ _ _ _ _ left;
-      decimal·fits_width = λ w κs given g r r′ left left′. value w _ _ _ _ _ left;
-      decimal·put = λ w κs given g r r′ left left′.
-          one w _ _ _ (λ p p′. (refl, ap (λ bytes. (tt, (bytes, (tt, tt)))) (same p p′)));
-      decimal·put_number = λ w κs given g r r′ left left′.
-          two w _ _ _ _ _ (λ p p′. (same (p .0) (p′ .0), ap (λ bytes. (tt, (tt, (bytes, (tt, tt))))) (cc (p .0, p .1, p′ .0, p′ .1))));
-      calendar·is_date = λ w κs given g r r′ left left′. value w _ _ _ _ _ left;
-      calendar·read_date = λ w κs given g r r′ left left′. value w _ _ _ _ _ left;
-      calendar·is_date_text = λ w κs given g r r′ left left′. value w _ _ _ _ _ left;
-      modulus·remainder = λ w κs given g r r′ left left′. value w _ _ _ _ _ left;
-      modulus·digit_of_remainder = λ w κs given g r r′ left left′. value w _ _ _ _ _ left;
-      modulus·weighted_remainder = λ w κs given g r r′ left left′. value w _ _ _ _ _ left;
-      modulus·check = λ w κs given g r r′ left left′. value w _ _ _ _ _ left;
-      modulus·sums_of_forty = λ w κs given g r r′ left left′. value w _ _ _ _ _ left;
-      barcode·is_segment = λ w κs given g r r′ left left′. value w _ _ _ _ _ left;
-      barcode·is_kind = λ w κs given g r r′ left left′. value w _ _ _ _ _ left;
-      barcode·modulus_of_kind = λ w κs given g r r′ left left′. value w _ _ _ _ _ left;
-      «barcode·check_prefix» = λ w κs given g r r′ left left′. value w _ _ _ _ _ left;
-      barcode·check = λ w κs given g r r′ left left′. value w _ _ _ _ _ left;
-      barcode·check_behind = λ w κs given g r r′ left left′. value w _ _ _ _ _ left;
-      barcode·read_fields = λ w κs given g r r′ left left′. value w _ _ _ _ _ left;
-      barcode·accepted_issuer = λ w κs given g r r′ left left′. value w _ _ _ _ _ left;
-      barcode·decode = λ w κs given g r r′ left left′. value w _ _ _ _ _ left;
-      barcode·free_field = λ w κs given g r r′ left left′. value w _ _ _ _ _ left;
-      barcode·builder·build = λ w κs given g r r′ left left′.
-          two w _ _ _ _ _ (λ p p′. (same (p .0) (p′ .0), ap (λ bytes. (tt, (tt, (tt, (tt, (bytes, tt)))))) (cc (p .0, p .1, p′ .0, p′ .1))));
-      line·check = λ w κs given g r r′ left left′. value w _ _ _ _ _ left;
-      line·decode = λ w κs given g r r′ left left′. value w _ _ _ _ _ left;
-      line·to_barcode = λ w κs given g r r′ left left′.
-          two w _ _ _ _ _ (λ p p′. (same (p .0) (p′ .0), ap (λ bytes. (tt, (bytes, tt))) (cc (p .0, p .1, p′ .0, p′ .1))));
-      line·from_barcode = λ w κs given g r r′ left left′.
-          two w _ _ _ _ _ (λ p p′. (same (p .0) (p′ .0), ap (λ bytes. (tt, (bytes, tt))) (cc (p .0, p .1, p′ .0, p′ .1))));
-      layout·table = λ w κs given g r r′ left left′. value w _ _ _ _ _ left;
-      layout·row = λ w κs given g r r′ left left′. value w _ _ _ _ _ left;
-      layout·named_by = λ w κs given g r r′ left left′. value w _ _ _ _ _ left;
-      layout·rows_of = λ w κs given g r r′ left left′. value w _ _ _ _ _ left;
-      layout·given_of = λ w κs given g r r′ left left′. value w _ _ _ _ _ left;
-      layout·given_length = λ w κs given g r r′ left left′. value w _ _ _ _ _ left;
-      kinds·check = λ w κs given g r r′ left left′. value w _ _ _ _ _ left;
-      kinds·service = λ w κs given g r r′ left left′. value w _ _ _ _ _ left;
-      kinds·is_capture = λ w κs given g r r′ left left′. value w _ _ _ _ _ left;
-      kinds·is_form = λ w κs given g r r′ left left′. value w _ _ _ _ _ left;
-      kinds·byte_at = λ w κs given g r r′ left left′. value w _ _ _ _ _ left;
-      record·Decoded·answer = λ w κs given g r r′ left left′. value w _ _ _ _ _ left;
-      fields·join = λ w κs given g r r′ left left′.
-          two w _ _ _ _ _ (λ p p′. (same (p .0) (p′ .0), ap (λ bytes. (tt, (bytes, tt))) (cc (p .0, p .1, p′ .0, p′ .1))));
-      fields·make = λ w κs given g r r′ left left′.
-          two w _ _ _ _ _ (λ p p′. (same (p .0) (p′ .0), ap (λ bytes. (tt, (tt, (tt, (tt, (bytes, tt)))))) (cc (p .0, p .1, p′ .0, p′ .1))));
-      record·decode = λ w κs given g r r′ left left′. value w _ _ _ _ _ left;
-      record·field = λ w κs given g r r′ left left′. value w _ _ _ _ _ left;
-      record·check = λ w κs given g r r′ left left′. value w _ _ _ _ _ left;
-      record·accepted_payment = λ w κs given g r r′ left left′. value w _ _ _ _ _ left;
-      file·File·new = λ w κs given g r r′ left left′. value w _ _ _ _ _ left;
-      file·File·take = λ w κs given g r r′ left left′. value w _ _ _ _ _ left;
-      file·File·check_trailer = λ w κs given g r r′ left left′. value w _ _ _ _ _ left;
-      file·File·close = λ w κs given g r r′ left left′. value w _ _ _ _ _ left;
-      board·Lane·is_of = λ w κs given g r r′ left left′. value w _ _ _ _ _ left;
-      board·Slot·post = λ w κs given g r r′ left left′. value w _ _ _ _ _ left;
-      board·Board·new = λ w κs given g r r′ left left′. value w _ _ _ _ _ left;
-      board·Board·find = λ w κs given g r r′ left left′. value w _ _ _ _ _ left;
-      board·Board·post = λ w κs given g r r′ left left′. value w _ _ _ _ _ left;
-      session·Session·new = λ w κs given g r r′ left left′. value w _ _ _ _ _ left;
-      session·Session·take = λ w κs given g r r′ left left′. value w _ _ _ _ _ left;
-      session·Session·abandon = λ w κs given g r r′ left left′. value w _ _ _ _ _ left;
-      session·Session·finish = λ w κs given g r r′ left left′. value w _ _ _ _ _ left;
-      session·Session·run = λ w κs given g r r′ left left′. value w _ _ _ _ _ left;
-      writer·Writer·new = λ w κs given g r r′ left left′. value w _ _ _ _ _ left;
-      writer·Writer·header = λ w κs given g r r′ left left′.
-          two w _ _ _ _ _ (λ p p′. (same (p .0) (p′ .0), ap (λ bytes. (tt, (tt, (bytes, tt)))) (cc (p .0, p .1, p′ .0, p′ .1))));
-      writer·Writer·payment = λ w κs given g r r′ left left′.
-          two w _ _ _ _ _ (λ p p′. (same (p .0) (p′ .0), ap (λ bytes. (tt, (tt, (tt, (tt, (bytes, tt)))))) (cc (p .0, p .1, p′ .0, p′ .1))));
-      writer·Writer·trailer = λ w κs given g r r′ left left′.
-          two w _ _ _ _ _ (λ p p′. (same (p .0) (p′ .0), ap (λ bytes. (tt, (bytes, tt))) (cc (p .0, p .1, p′ .0, p′ .1))));
-      page·print = λ w κs given g r r′ left left′.
-          bounded w _ _ _ _ _ _ _ (λ p p′. (same (p .0) (p′ .0), ap (λ bytes. (tt, (tt, (tt, (tt, (bytes, tt)))))) (same (p .1) (p′ .1))));
-      hollytrot·hollytrot_barcode_check = λ w κs given g r r′ left left′. value w _ _ _ _ _ left;
-      hollytrot·hollytrot_barcode_decode = λ w κs given g r r′ left left′. value w _ _ _ _ _ left;
-      hollytrot·hollytrot_barcode_free_field = λ w κs given g r r′ left left′. value w _ _ _ _ _ left;
-      hollytrot·hollytrot_barcode_build = λ w κs given g r r′ left left′.
-          two w _ _ _ _ _ (λ p p′. (same (p .0) (p′ .0), ap (λ bytes. (tt, (tt, (tt, (tt, (bytes, tt)))))) (same (p .1) (p′ .1))));
-      hollytrot·hollytrot_line_check = λ w κs given g r r′ left left′. value w _ _ _ _ _ left;
-      hollytrot·hollytrot_line_decode = λ w κs given g r r′ left left′. value w _ _ _ _ _ left;
-      hollytrot·hollytrot_line_to_barcode = λ w κs given g r r′ left left′.
-          two w _ _ _ _ _ (λ p p′. (same (p .0) (p′ .0), ap (λ bytes. (tt, (bytes, tt))) (same (p .1) (p′ .1))));
-      hollytrot·hollytrot_line_from_barcode = λ w κs given g r r′ left left′.
-          two w _ _ _ _ _ (λ p p′. (same (p .0) (p′ .0), ap (λ bytes. (tt, (bytes, tt))) (same (p .1) (p′ .1))));
-      hollytrot·hollytrot_date_read = λ w κs given g r r′ left left′. value w _ _ _ _ _ left;
-      hollytrot·hollytrot_date_check = λ w κs given g r r′ left left′. value w _ _ _ _ _ left;
-      hollytrot·hollytrot_check_ten = λ w κs given g r r′ left left′. value w _ _ _ _ _ left;
-      hollytrot·hollytrot_check_eleven = λ w κs given g r r′ left left′. value w _ _ _ _ _ left;
-      hollytrot·hollytrot_page = λ w κs given g r r′ left left′.
-          two w _ _ _ _ _ (λ p p′. (same (p .0) (p′ .0), ap (λ bytes. (tt, (tt, (tt, (tt, (bytes, tt)))))) (same (p .1) (p′ .1))));
-      «hollytrot·hollytrot_record_check» = λ w κs given g r r′ left left′. value w _ _ _ _ _ left;
-      «hollytrot·hollytrot_record_decode» = λ w κs given g r r′ left left′. value w _ _ _ _ _ left;
-      «hollytrot·hollytrot_record_field» = λ w κs given g r r′ left left′. value w _ _ _ _ _ left;
-      «hollytrot·hollytrot_record_join» = λ w κs given g r r′ left left′.
-          two w _ _ _ _ _ (λ p p′. (same (p .0) (p′ .0), ap (λ bytes. (tt, (bytes, tt))) (same (p .1) (p′ .1))));
-      hollytrot·hollytrot_session_new = λ w κs given g r r′ left left′. value w _ _ _ _ _ left;
-      hollytrot·hollytrot_session_take = λ w κs given g r r′ left left′. value w _ _ _ _ _ left;
-      hollytrot·hollytrot_session_run = λ w κs given g r r′ left left′. value w _ _ _ _ _ left;
-      hollytrot·hollytrot_session_abandon = λ w κs given g r r′ left left′. value w _ _ _ _ _ left;
-      hollytrot·hollytrot_session_finish = λ w κs given g r r′ left left′. value w _ _ _ _ _ left;
-      hollytrot·hollytrot_session_board = λ w κs given g r r′ left left′. value w _ _ _ _ _ left;
-      hollytrot·hollytrot_writer_new = λ w κs given g r r′ left left′. value w _ _ _ _ _ left;
-      hollytrot·hollytrot_writer_header = λ w κs given g r r′ left left′.
-          two w _ _ _ _ _ (λ p p′. (same (p .0) (p′ .0), ap (λ bytes. (tt, (tt, (bytes, tt)))) (same (p .1) (p′ .1))));
-      hollytrot·hollytrot_writer_payment = λ w κs given g r r′ left left′.
-          two w _ _ _ _ _ (λ p p′. (same (p .0) (p′ .0), ap (λ bytes. (tt, (tt, (tt, (tt, (bytes, tt)))))) (same (p .1) (p′ .1))));
-      hollytrot·hollytrot_writer_trailer = λ w κs given g r r′ left left′.
-          two w _ _ _ _ _ (λ p p′. (same (p .0) (p′ .0), ap (λ bytes. (tt, (bytes, tt))) (same (p .1) (p′ .1))));
-    }
+    search (
+      of-answer,
+      of-decimal,
+      of-calendar,
+      of-modulus,
+      of-barcode,
+      of-line,
+      of-layout,
+      of-kinds,
+      of-record,
+      of-fields,
+      of-file,
+      of-board,
+      of-session,
+      of-writer,
+      of-page,
+      of-hollytrot,
+    )

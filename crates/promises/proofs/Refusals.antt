@@ -1,44 +1,66 @@
 -- A refusal changes nothing, from the contracts. Assumes nothing.
+use Prim.Native.Nat.{ℕ}
+use mathlib.Core.List.{List}
 use mathlib.Core.Path.{_≡_, refl, _∙_, ap}
+use borrow.Fn.World.{World}
 use Rattle.answer.specs.declared.Answer.{Answer}
 use Rattle.answer.specs.declared.Answer.the-variants.{Accepted}
 use Rattle.answer.specs.Orders.{ifAccepted}
 use Rattle.answer.proofs.Orders.{refusal-keeps}
+use Rattle.writer.specs.declared.Writer.{Writer}
+use Rattle.writer.specs.declared.WriteResult.{WriteResult}
 use Rattle.promises.specs.Refusals.{RefusalsChangeNothing}
-use Rattle.promises.proofs.Clauses.{by-one, by-two, by-bounded}
+use Rattle.promises.proofs.Clauses.{Gives, clauses, by-one, by-two, by-bounded}
 
--- what is kept where it is refused
+-- a refusal keeps the old
 stays : {S : Type 0} (a : Answer) (new old x : S) → x ≡ ifAccepted a new old → (a ≡ Accepted → ⊥) → x ≡ old
 stays a new old x p not = p ∙ refusal-keeps a new old not
 
--- of a result that is given by an equation
+-- the state of a result that is given by an equation
 given-by :
     {R S : Type 0} (answer : R → Answer) (state : R → S) (x r : R) (new old : S)
     → state x ≡ ifAccepted (answer x) new old → r ≡ x → (answer r ≡ Accepted → ⊥) → state r ≡ old
-given-by answer state x r new old is p not = stays (answer x) new old (state r) (ap state p ∙ is) (λ a. not (ap answer p ∙ a))
+given-by answer state x r new old is p not =
+    stays (answer x) new old (state r) (ap state p ∙ is) (λ a. not (ap answer p ∙ a))
 
 paired : {A B : Type 0} {a a′ : A} {b b′ : B} → a ≡ a′ → b ≡ b′ → _≡_ {A = A × B} (a, b) (a′, b′)
 paired p q i = (p i, q i)
 
+-- the buffer of an operation that returns its answer
+buffer :
+    (w : World) (x r : Answer) (new old bytes : List ℕ)
+    → Gives w (clauses w (r ≡ x) (bytes ≡ ifAccepted r new old)) ((r ≡ Accepted → ⊥) → bytes ≡ old)
+buffer w x r new old bytes = by-two w _ _ _ (λ p. stays r new old bytes)
+
+-- the writer and its buffer
+writer :
+    (w : World) (a : Answer) (new old : Writer) (r : WriteResult) (made held bytes : List ℕ)
+    → Gives w
+    (clauses w (r ≡ record { answer = a; writer = ifAccepted a new old }) (bytes ≡ ifAccepted (r .answer) made held))
+    ((r .answer ≡ Accepted → ⊥) → _≡_ {A = Writer × List ℕ} (r .writer, bytes) (old, held))
+writer w a new old r made held bytes =
+    by-two w _ _ _ (λ p b not.
+    let state = given-by (λ t. t .answer) (λ t. t .writer) _ r new old refl p not in
+    paired state (stays (r .answer) made held bytes b not))
+
 pub refusals-change-nothing : RefusalsChangeNothing
 refusals-change-nothing =
     record {
-      decimal·put_number = λ w κs given g r left. by-two w _ _ _ (λ p. stays r _ _ _);
-      barcode·builder·build = λ w κs given g r left. by-two w _ _ _ (λ p. stays r _ _ _);
-      line·to_barcode = λ w κs given g r left. by-two w _ _ _ (λ p. stays r _ _ _);
-      line·from_barcode = λ w κs given g r left. by-two w _ _ _ (λ p. stays r _ _ _);
-      fields·join = λ w κs given g r left. by-two w _ _ _ (λ p. stays r _ _ _);
-      fields·make = λ w κs given g r left. by-two w _ _ _ (λ p. stays r _ _ _);
-      page·print = λ w κs given g r left. by-bounded w _ _ _ _ (λ p b not. stays _ _ _ _ b (λ a. not (ap (λ t. t .answer) p ∙ a)));
+      decimal·put_number = search buffer;
+      barcode·builder·build = search buffer;
+      line·to_barcode = search buffer;
+      line·from_barcode = search buffer;
+      fields·join = search buffer;
+      fields·make = search buffer;
       file·File·take = λ w κs given g r left. by-one w _ _ (given-by (λ t. t .answer) (λ t. t .file) _ r _ _ refl);
       board·Slot·post = λ w κs given g r left. by-one w _ _ (given-by (λ t. t .answer) (λ t. t .slot) _ r _ _ refl);
       board·Board·post = λ w κs given g r left. by-one w _ _ (given-by (λ t. t .answer) (λ t. t .board) _ r _ _ refl);
-      session·Session·take = λ w κs given g r left. by-one w _ _ (given-by (λ t. t .answer) (λ t. t .session) _ r _ _ refl);
+      session·Session·take = λ w κs given g r left.
+          by-one w _ _ (given-by (λ t. t .answer) (λ t. t .session) _ r _ _ refl);
       session·Session·finish = λ w κs given g r left. by-one w _ _ (λ p not. ap (λ t. t .session) p);
-      writer·Writer·header = λ w κs given g r left.
-          by-two w _ _ _ (λ p b not. paired (given-by (λ t. t .answer) (λ t. t .writer) _ r _ _ refl p not) (stays (r .answer) _ _ _ b not));
-      writer·Writer·payment = λ w κs given g r left.
-          by-two w _ _ _ (λ p b not. paired (given-by (λ t. t .answer) (λ t. t .writer) _ r _ _ refl p not) (stays (r .answer) _ _ _ b not));
-      writer·Writer·trailer = λ w κs given g r left.
-          by-two w _ _ _ (λ p b not. paired (given-by (λ t. t .answer) (λ t. t .writer) _ r _ _ refl p not) (stays (r .answer) _ _ _ b not));
+      writer·Writer·header = search writer;
+      writer·Writer·payment = search writer;
+      writer·Writer·trailer = search writer;
+      page·print = λ w κs given g r left.
+          by-bounded w _ _ _ _ (λ p b not. stays _ _ _ _ b (λ a. not (ap (λ t. t .answer) p ∙ a)));
     }

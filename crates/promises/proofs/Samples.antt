@@ -18,7 +18,7 @@ use Rattle.board.specs.Lanes.{fits}
 use Rattle.board.specs.Boards.{ownOf, usedAfter, slotAnswer}
 use Rattle.promises.specs.Samples.{Row, outcomeOf, samples, Hold, P4IsPaid, P5IsAnExchange, P9IsAChange}
 
--- one test over a table says each row
+-- one equation between two tables gives each row's
 each-row : {A B : Type 0} (f g : A → B) (xs : List A) → map f xs ≡ map g xs → Each (λ x. f x ≡ g x) xs
 each-row f g [] p = tt
 each-row {A} {B} f g (x ∷ xs) p = (ap (headOr (f x)) p, each-row f g xs (ap rest p))
@@ -31,12 +31,14 @@ each-row {A} {B} f g (x ∷ xs) p = (ap (headOr (f x)) p, each-row f g xs (ap re
     rest [] = []
     rest (y ∷ ys) = ys
 
-all-rows : map (λ (row : Row). outcomeOf (row .asked)) samples ≡ map (λ (row : Row). row .out) samples
-unfolding recordAnswer fieldAnswer kindAnswer isService isCapture isForm namedBy layoutOf table rowAt figuresAnswer fileAnswer fits ownOf usedAfter slotAnswer firstThreeAnswer generalRight boxRight termOf addedBy digitOfRemainder dateOf isDate daysIn isLeap digitsOf valueOf isOf
+all-rows : map (λ (row : Row). outcomeOf (row .question)) samples ≡ map (λ (row : Row). row .outcome) samples
+unfolding recordAnswer fieldAnswer kindAnswer isService isCapture isForm namedBy layoutOf table rowAt
+    figuresAnswer fileAnswer fits ownOf usedAfter slotAnswer firstThreeAnswer generalRight boxRight
+    termOf addedBy digitOfRemainder dateOf isDate daysIn isLeap digitsOf valueOf isOf
 all-rows = refl
 
 pub samples-hold : Hold samples
-samples-hold = each-row (λ (row : Row). outcomeOf (row .asked)) (λ (row : Row). row .out) samples all-rows
+samples-hold = each-row (λ (row : Row). outcomeOf (row .question)) (λ (row : Row). row .outcome) samples all-rows
 
 pub p4-is-paid : P4IsPaid
 unfolding digitsOf

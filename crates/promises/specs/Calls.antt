@@ -1,4 +1,5 @@
--- A file that the writer closed (document 01): over every list of calls from the constructor, refused ones in between. Assumes nothing.
+-- A file that the writer closed (SPEC.md, "Writer"): over every list of calls to a new writer, refused ones in between.
+-- Assumes nothing.
 use Prim.Native.Nat.{ℕ, _≤_}
 use mathlib.Core.List.{List, [], _∷_, _++_, map}
 use mathlib.Core.Path.{_≡_}
@@ -9,53 +10,58 @@ use Rattle.board.specs.Lanes.{mostLanes, lanesFrom}
 use Rattle.session.specs.Sessions.{freshSession}
 use Rattle.writer.specs.declared.Stage.the-variants as stage
 use Rattle.writer.specs.declared.Writer.{Writer}
-use Rattle.writer.specs.Writers.{freshWriter, headerAnswer, headerWritten, headerBytes, paymentAnswer, paymentWritten, trailerAnswer, trailerWritten, trailerBytes}
+use Rattle.writer.specs.Writers.{freshWriter, headerAnswer, headerWritten, headerBytes, paymentAnswer, paymentWritten}
+use Rattle.writer.specs.Writers.{trailerAnswer, trailerWritten, trailerBytes}
 use Rattle.ledger.specs.Ledgers.{taking, lanesOfRecords}
 use Rattle.ledger.specs.Promises.{answersOf}
 use Rattle.ledger.specs.WholeFiles.{AllAccepted}
 use Rattle.ledger.specs.WrittenFiles.{Given, recordOf, writtenRecords, Closed, trailerAfter}
 
--- a call, with what is given to it and the length of the room lent for its record
+-- a call, with its arguments and the length of the caller's buffer for its record
 pub data Call : Type 0 where
   header : List ℕ → ℕ → Call
   payment : Given → ℕ → Call
   trailer : ℕ → Call
 
--- its answer, the writer that follows, and the record that it writes where it is accepted
+-- its answer, the writer after it, and the record that it writes if it is accepted
 abbrev pub answerTo : Writer → Call → Answer
-answerTo w (header given room) = headerAnswer w given room
-answerTo w (payment g room) = paymentAnswer w (g .fields) (g .received) (g .tariff) room
-answerTo w (trailer room) = trailerAnswer w room
+answerTo w (header given size) = headerAnswer w given size
+answerTo w (payment g size) = paymentAnswer w (g .fields) (g .received) (g .tariff) size
+answerTo w (trailer size) = trailerAnswer w size
 
 abbrev pub nextWriter : Writer → Call → Writer
-nextWriter w (header given room) = headerWritten w given room .writer
-nextWriter w (payment g room) = paymentWritten w (g .fields) (g .received) (g .tariff) room .writer
-nextWriter w (trailer room) = trailerWritten w room .writer
+nextWriter w (header given size) = headerWritten w given size .writer
+nextWriter w (payment g size) = paymentWritten w (g .fields) (g .received) (g .tariff) size .writer
+nextWriter w (trailer size) = trailerWritten w size .writer
 
 abbrev pub writes : Writer → Call → List ℕ
-writes w (header given room) = headerBytes given
-writes w (payment g room) = recordOf g
-writes w (trailer room) = trailerBytes w
+writes w (header given size) = headerBytes given
+writes w (payment g size) = recordOf g
+writes w (trailer size) = trailerBytes w
 
--- calls one after the other: the writer that follows, and the records written
+-- calls one after the other: the writer after them, and the records that they wrote
 abbrev pub writerAfterCalls : Writer → List Call → Writer
 writerAfterCalls w [] = w
 writerAfterCalls w (call ∷ calls) = writerAfterCalls (nextWriter w call) calls
 
 abbrev pub recordsWritten : Writer → List Call → List (List ℕ)
 recordsWritten w [] = []
-recordsWritten w (call ∷ calls) = ifAccepted (answerTo w call) (writes w call ∷ []) [] ++ recordsWritten (nextWriter w call) calls
+recordsWritten w (call ∷ calls) =
+    ifAccepted (answerTo w call) (writes w call ∷ []) [] ++ recordsWritten (nextWriter w call) calls
 
--- what they wrote is one file that a writer closed; a fresh session accepts it, unless it names over 64 issuers
+-- the calls wrote one file, with a header, payments and the right trailer; a fresh session accepts it, unless it has
+-- more than 64 issuers
 pub record OneFile (calls : List Call) : Type 0 where
   pub heading : List ℕ
   pub payments : List Given
   pub closed : Closed heading payments
-  pub records : recordsWritten freshWriter calls ≡ headerBytes heading ∷ (writtenRecords payments ++ (trailerAfter heading payments ∷ []))
+  pub records :
+      recordsWritten freshWriter calls
+      ≡ headerBytes heading ∷ (writtenRecords payments ++ (trailerAfter heading payments ∷ []))
   pub accepted :
       length (lanesFrom (lanesOfRecords (writtenRecords payments))) ≤ mostLanes
       → AllAccepted (answersOf freshSession (map taking (recordsWritten freshWriter calls)))
 
--- Promise.
+-- Promise: calls after which the writer is closed wrote one file.
 abbrev pub CallsMakeOneFile : Type 0
 CallsMakeOneFile = (calls : List Call) → writerAfterCalls freshWriter calls .stage ≡ stage.Closed → OneFile calls

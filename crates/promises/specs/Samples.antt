@@ -1,4 +1,4 @@
--- P1 to P12 of document 01 ("Proved samples"): each row an input, what is asked of it, and what comes out. Assumes nothing.
+-- P1 to P12 (SPEC.md, "Samples"): each row has an input, what is computed of it, and the outcome. Assumes nothing.
 use Prim.Native.Nat.{ℕ}
 use mathlib.Core.Bool.{Bool, true, false}
 use mathlib.Core.List.{List, [], _∷_, _++_}
@@ -26,20 +26,20 @@ use Rattle.session.specs.declared.RunResult.{RunResult}
 use Rattle.session.specs.Sessions.{freshSession}
 use Rattle.session.specs.Runs.{runOf}
 use Rattle.typos.specs.Typos.{Passes, Names, InOneBox, BothMove, NoCheck}
-use Rattle.ledger.specs.Samples as book
+use Rattle.ledger.specs.Samples as ledger
 
--- What may be asked.
+-- What is computed of an input.
 
 pub data Question : Type 0 where
-  check : Modulus → List ℕ → Question  -- the check of these digits under this modulus
+  check : Modulus → List ℕ → Question  -- the check digit of these digits under this modulus
   barcode : List ℕ → Question  -- these bytes, decoded as a barcode
   line : List ℕ → Question  -- these bytes, decoded as a typed line
   date : List ℕ → Question  -- whether these bytes are a date
-  files : List ℕ → Question  -- these bytes, taken by a fresh session, record by record
+  files : List ℕ → Question  -- these bytes, run by a fresh session
 
--- What may come out. Refusals with the paper's number and place; 0 at place 0 is accepted.
+-- The outcomes. A refusal has its number and place (SPEC.md, "Refusals"); number 0 at place 0 is acceptance.
 
--- what a run over files shows: its answer, the records and files accepted, the lanes
+-- a run over files: its answer, the records and files accepted, and the lanes shown
 pub record Shown : Type 0 where
   pub number : ℕ
   pub place : ℕ
@@ -72,7 +72,7 @@ ranTo r =
       lanes = lanesOf (r .session .shown);
     })
 
--- what comes out, by the definitions that the contracts of the operations cite
+-- the outcome, by the definitions that the contracts of the operations cite
 abbrev pub outcomeOf : Question → Outcome
 outcomeOf (check m digits) = digit (checkOf m digits)
 outcomeOf (barcode code) = decodedTo (barcodes.decodedBarcode code)
@@ -107,31 +107,31 @@ abbrev pub p9 : List ℕ
 p9 = digitsOf 48 818000000004_000000100005_000000000000_000000000060
 
 abbrev pub p11 : List ℕ
-p11 = book.header ++ book.trailer 000002 0
+p11 = ledger.header ++ ledger.trailer 000002 0
 
 abbrev pub p12 : ℕ → List ℕ
-p12 total = book.header ++ (book.payment 2147483648 ++ (book.payment 2147483649 ++ book.trailer 000004 total))
+p12 total = ledger.header ++ (ledger.payment 2147483648 ++ (ledger.payment 2147483649 ++ ledger.trailer 000004 total))
 
--- What is said of them.
+-- Their values.
 
--- the fields; the free field starts with no date
+-- the fields of a line whose free field starts with no date
 abbrev pub fields : ℕ → ℕ → ℕ → ℕ → Fields
 fields segment kind value number =
     record { kind = kind; value = value; issuer = record { segment = segment; number = number }; due = NoDate }
 
--- the lane of the issuer that the payments name, which is that of P4
+-- the one lane of the payments of P12, whose issuer is that of P4
 abbrev pub lane : ℕ → ℕ → List Lane
-lane payments centavos = record { issuer = book.sampleIssuer; tally = book.tally payments centavos } ∷ []
+lane payments centavos = record { issuer = ledger.sampleIssuer; tally = ledger.tally payments centavos } ∷ []
 
 -- The table.
 
 pub record Row : Type 0 where
-  pub asked : Question
-  pub out : Outcome
+  pub question : Question
+  pub outcome : Outcome
 
 infix 70 _gives_
 abbrev pub _gives_ : Question → Outcome → Row
-asked gives out = record { asked = asked; out = out }
+question gives outcome = record { question = question; outcome = outcome }
 
 abbrev pub samples : List Row
 samples =
@@ -149,19 +149,21 @@ samples =
     ∷ date (digitsOf 8 19000229) gives isDate false
     ∷ date (digitsOf 8 21000229) gives isDate false
     ∷ files p11 gives shows (record { number = 0; place = 0; records = 2; files = 1; lanes = [] })  -- P11
-    ∷ files (p12 4294967297) gives shows (record { number = 0; place = 0; records = 4; files = 1; lanes = lane 2 4294967297 })  -- P12
+    -- P12
+    ∷ files (p12 4294967297)
+    gives shows (record { number = 0; place = 0; records = 4; files = 1; lanes = lane 2 4294967297 })
     ∷ files (p12 1) gives shows (record { number = 14; place = 8; records = 3; files = 0; lanes = [] })
     ∷ []
 
--- Promise: each row comes out as the table says.
+-- Promise: each row has the outcome that the table says.
 abbrev pub Hold : List Row → Type 0
-Hold rows = Each (λ (row : Row). outcomeOf (row .asked) ≡ row .out) rows
+Hold rows = Each (λ (row : Row). outcomeOf (row .question) ≡ row .outcome) rows
 
 -- Promise: the payments of P12 have P4's barcode.
 abbrev pub P4IsPaid : Type 0
-P4IsPaid = lines.codeOf p4 ≡ book.code
+P4IsPaid = lines.codeOf p4 ≡ ledger.code
 
--- Promises: what passes by demand 3 is real.
+-- Promises: typos that pass by demand 3 occur.
 
 -- P5 is P4 with 0 and 9 exchanged at places 15 and 16, in its second box
 abbrev pub P5IsAnExchange : Type 0

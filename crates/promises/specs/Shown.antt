@@ -1,4 +1,4 @@
--- What a decoded record shows, by the places of document 01 ("The three records"), with no row of the table named. Assumes nothing.
+-- What a decoded record shows, by its places (SPEC.md, "Records") and not by rows of the table. Assumes nothing.
 use Prim.Native.Nat.{ℕ, _+_, _-_}
 use mathlib.Core.List.{List}
 use mathlib.Core.Path.{_≡_}
@@ -18,11 +18,13 @@ numberAt first last rec = numberOf (places first last rec)
 abbrev pub dateAt : ℕ → ℕ → List ℕ → Date
 dateAt first last rec = dayOf (dateOf (places first last rec))
 
--- Promise: refusals 13 and 14 point at the count and the total of a Z, 16 to 18 at the received centavos of a G, and at the issuer, place 16 of
--- its barcode.
+-- Promise: refusals 13 and 14 point at the count and the total of a Z, 16 and 18 at the received centavos of a G, and
+-- 17 at the issuer, place 16 of its barcode.
 abbrev pub RefusalsPointAtPlaces : Type 0
 RefusalsPointAtPlaces =
-    (countPlace ≡ rowAt countRow .first) × (totalPlace ≡ rowAt totalRow .first) × (receivedPlace ≡ rowAt receivedRow .first)
+    (countPlace ≡ rowAt countRow .first)
+    × (totalPlace ≡ rowAt totalRow .first)
+    × (receivedPlace ≡ rowAt receivedRow .first)
     × (issuerPlace ≡ rowAt barcodeRow .first - 1 + 16)
 
 -- Promise: bank, date and sequence number of an A; dates, barcode, amounts and number of a G; count and total of a Z.

@@ -1,1 +1,1 @@
-// Theorems only: what the rooms promise, gathered in the order of the demands.
+// Theorems only: what the crates promise, gathered in the order of the demands.

@@ -19,8 +19,8 @@ use Rattle.session.specs.declared.TakeResult.{TakeResult}
 use Rattle.session.specs.declared.RunResult.{RunResult}
 use Rattle.session.specs.Sessions.{takeAnswer, sessionWith, finishOf}
 use Rattle.session.specs.Runs.{piecesUpTo, piecesOf, filesClosed, addCounts, stoppedIfRefused, runAll, runOf}
-use Rattle.quadro.specs.declared.ReadResult.{ReadResult}
-use Rattle.quadro.specs.declared.ReadResult.the-variants.{Ended}
+use Rattle.quadro.specs.declared.BufferRead.{BufferRead}
+use Rattle.quadro.specs.declared.BufferRead.the-variants.{Ended}
 use Rattle.quadro.specs.Days.{runBufferOf, endedOf, Counted, CountsWithin}
 
 closed-few : (n : MaybeRecord) → filesClosed n ≤ 1
@@ -29,7 +29,9 @@ closed-few (Is Payment) = omega arith
 closed-few (Is Trailer) = omega arith
 closed-few Other = omega arith
 
-one-more : (a : Answer) (s : Session) (closed n : ℕ) (next : RunResult) → closed ≤ 1 → Counted n next → Counted (suc n) (stoppedIfRefused a s (addCounts 1 closed next))
+one-more :
+    (a : Answer) (s : Session) (closed n : ℕ) (next : RunResult) → closed ≤ 1 → Counted n next
+    → Counted (suc n) (stoppedIfRefused a s (addCounts 1 closed next))
 one-more Accepted s closed n next h c = (omega arith, omega arith)
 one-more (Refused why place) s closed n next h c = (omega arith, omega arith)
 
@@ -37,7 +39,8 @@ all-few : (s : Session) (rs : List (List ℕ)) → Counted (length rs) (runAll s
 all-few s [] = (omega arith, omega arith)
 all-few s (r ∷ rs) =
     let named = namedBy (getD r 0 0) in
-    one-more (takeAnswer s r) s (filesClosed named) (length rs) (runAll (sessionWith s (decodedRecord r)) rs) (closed-few named) (all-few (sessionWith s (decodedRecord r)) rs)
+    let next = sessionWith s (decodedRecord r) in
+    one-more (takeAnswer s r) s (filesClosed named) (length rs) (runAll next rs) (closed-few named) (all-few next rs)
 
 pieces-few : (n : ℕ) (bytes : List ℕ) → length (piecesUpTo n bytes) ≤ n
 pieces-few zero bytes = omega arith
@@ -50,27 +53,35 @@ run-few s bytes =
     let few = pieces-few (length bytes) bytes in
     (omega (arith, all .0), omega (arith, all .1))
 
--- What the program's steps make.
+-- What the program's steps return.
 
 pub counted : (s : Session) (bytes : List ℕ) {r : RunResult} → r ≡ runOf s bytes → Counted (length bytes) r
 counted s bytes e = rw e (run-few s bytes)
 
 -- the first n bytes of a buffer
-pub few-fed : (s : Session) (buf : List ℕ) (n : ℕ) {r : RunResult} → n ≤ length buf → r ≡ runOf s (take n buf) → Counted n r
-few-fed s buf n h e = rw (length-take-le n buf h) at (counted s (take n buf) e)
+pub few-run :
+    (s : Session) (buf : List ℕ) (n : ℕ) {r : RunResult} → n ≤ length buf → r ≡ runOf s (take n buf) → Counted n r
+few-run s buf n h e = rw (length-take-le n buf h) at (counted s (take n buf) e)
 
-pub fed : (day : RunResult) (bytes : List ℕ) {r : RunResult} → r ≡ runOf (day .session) bytes → addCounts (day .records) (day .files) r ≡ runBufferOf day bytes
-fed day bytes e = ap (addCounts (day .records) (day .files)) e
+pub run-behind :
+    (day : RunResult) (bytes : List ℕ) {r : RunResult} → r ≡ runOf (day .session) bytes
+    → addCounts (day .records) (day .files) r ≡ runBufferOf day bytes
+run-behind day bytes e = ap (addCounts (day .records) (day .files)) e
 
-pub ended-refused : (day : RunResult) {why : Reason} {place : ℕ} → day .answer ≡ Refused why place → day ≡ endedOf day
+abbrev answered : RunResult → Answer → RunResult
+answered day a = record { answer = a; session = day .session; records = day .records; files = day .files }
+
+pub ended-refused :
+    (day : RunResult) {why : Reason} {place : ℕ} → day .answer ≡ Refused why place → day ≡ endedOf day
 ended-refused day e =
     let same : day .answer ≡ (day .answer then finishOf (day .session) .answer) = rw e in
-    ap (λ (a : Answer). record { answer = a; session = day .session; records = day .records; files = day .files }) same
+    ap (answered day) same
 
-pub ended-accepted : (day : RunResult) {took : TakeResult} → day .answer ≡ Accepted → took ≡ finishOf (day .session)
-    → record { answer = took .answer; session = day .session; records = day .records; files = day .files } ≡ endedOf day
+pub ended-accepted :
+    (day : RunResult) {took : TakeResult} → day .answer ≡ Accepted → took ≡ finishOf (day .session)
+    → answered day (took .answer) ≡ endedOf day
 ended-accepted day e f = rw (e, f)
 
--- where the input ended, the bytes fit
-pub ended : {r : ReadResult} {k n : ℕ} → r ≡ Ended k → CountsWithin n r → k ≤ n
+-- if the input ended, the bytes read fit into the buffer
+pub ended : {r : BufferRead} {k n : ℕ} → r ≡ Ended k → CountsWithin n r → k ≤ n
 ended e w = rw e at w

@@ -1,2 +1,2 @@
 pub mod Days
-pub mod Feeding
+pub mod Buffers

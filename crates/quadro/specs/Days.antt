@@ -1,4 +1,4 @@
--- A day as the program takes it: its input piece by piece, and its end. Assumes nothing.
+-- A day (SPEC.md, "The program quadro"): the run over the input, buffer by buffer, and its end. Assumes nothing.
 use Prim.Native.Nat.{ℕ, _+_, _*_, _≤_}
 use mathlib.Core.List.{List, _++_}
 use mathlib.Core.Path.{_≡_}
@@ -9,30 +9,37 @@ use Rattle.layout.specs.Layouts.{recordLength}
 use Rattle.session.specs.declared.RunResult.{RunResult}
 use Rattle.session.specs.Sessions.{freshSession, finishOf}
 use Rattle.session.specs.Runs.{emptyRun, addCounts, runOf}
-use Rattle.quadro.specs.declared.ReadResult.{ReadResult}
-use Rattle.quadro.specs.declared.ReadResult.the-variants.{Full, Ended, Failed}
+use Rattle.quadro.specs.declared.BufferRead.{BufferRead}
+use Rattle.quadro.specs.declared.BufferRead.the-variants.{Full, Ended, Failed}
 
--- nothing taken
+-- no input yet
 abbrev pub freshDay : RunResult
 freshDay = emptyRun Accepted freshSession
 
--- a piece more, taken by the session that the pieces before it left
+-- one more buffer, run by the session that the buffers before it left
 abbrev pub runBufferOf : RunResult → List ℕ → RunResult
-runBufferOf day piece = addCounts (day .records) (day .files) (runOf (day .session) piece)
+runBufferOf day buffer = addCounts (day .records) (day .files) (runOf (day .session) buffer)
 
--- the end of the input: 19 while a file is open, where nothing was refused
+-- the end of the input: refused (19) while a file is open, unless the day was refused before
 abbrev pub endedOf : RunResult → RunResult
 endedOf day =
-    record { answer = day .answer then finishOf (day .session) .answer; session = day .session; records = day .records; files = day .files }
+    record {
+      answer = day .answer then finishOf (day .session) .answer;
+      session = day .session;
+      records = day .records;
+      files = day .files;
+    }
 
--- Promise: buffers of whole records, fed one after the other, are one run over the input; behind a refusal nothing more is taken.
-abbrev pub FeedingIsOneRun : Type 0
-FeedingIsOneRun =
+-- Promise: buffers of whole records, run one after the other, are one run over the input; a refusal in the first is the
+-- refusal of both together.
+abbrev pub BuffersAreOneRun : Type 0
+BuffersAreOneRun =
     (day : RunResult) (n : ℕ) (front rest : List ℕ) → length front ≡ n * recordLength
-    → (runBufferOf day front .answer ≡ Accepted → runBufferOf (runBufferOf day front) rest ≡ runBufferOf day (front ++ rest))
+    → (runBufferOf day front .answer ≡ Accepted
+    → runBufferOf (runBufferOf day front) rest ≡ runBufferOf day (front ++ rest))
     × ((runBufferOf day front .answer ≡ Accepted → ⊥) → runBufferOf day (front ++ rest) ≡ runBufferOf day front)
 
--- Bounds, so that no count comes round: no more is counted than bytes were read.
+-- Bounds, so that no count wraps: at most one record and one file is counted for each byte read.
 
 abbrev pub bufferLength : ℕ
 bufferLength = 65400
@@ -45,14 +52,16 @@ FullBufferIsWhole = bufferLength ≡ 436 * recordLength
 abbrev pub mostCounted : ℕ
 mostCounted = 2_305_843_009_213_693_952
 
+-- at most n records and n files
 abbrev pub Counted : ℕ → RunResult → Type 0
 Counted n day = (day .records ≤ n) × (day .files ≤ n)
 
+-- at most one buffer's bytes more
 abbrev pub Grown : RunResult → RunResult → Type 0
 Grown day next = (next .records ≤ day .records + bufferLength) × (next .files ≤ day .files + bufferLength)
 
--- where the input ended, no more bytes came than the buffer has
-abbrev pub CountsWithin : ℕ → ReadResult → Type 0
+-- if the input ended, at most n bytes were read
+abbrev pub CountsWithin : ℕ → BufferRead → Type 0
 CountsWithin n Full = Unit {0}
 CountsWithin n (Ended k) = k ≤ n
 CountsWithin n Failed = Unit {0}

@@ -1,8 +1,10 @@
-// Reads return files from standard input, and prints the board shown at their end or at the first refusal.
+// quadro reads return files from standard input, and prints the page of the board shown at the input's end or at the
+// first refusal (SPEC.md, "The program quadro"). A day is the run over all input so far.
 ghost use mathlib.Core.Path.{_≡_};
 ghost use Prim.Native.Nat.{_≤_};
 ghost use lib.ListN.{length, take};
-ghost use Rattle.quadro.specs.Days.{bufferLength, mostCounted, freshDay, runBufferOf, endedOf, Counted, Grown, CountsWithin};
+ghost use Rattle.quadro.specs.Days.{bufferLength, mostCounted, freshDay, runBufferOf, endedOf};
+ghost use Rattle.quadro.specs.Days.{Counted, Grown, CountsWithin};
 use answer::Answer;
 use libc::STDERR_FILENO;
 use libc::STDIN_FILENO;
@@ -10,39 +12,40 @@ use libc::STDOUT_FILENO;
 use session::RunResult;
 use session::Session;
 
-// 436 records, so that a full buffer holds whole ones.
+// 436 records, so that a full buffer has no part of a record.
 const SIZE: usize = 65400;
 
-// Nothing says that an input ends, so the buffers are counted: 2^60 bytes, which no input has.
+// No contract says that an input ends, so the buffers are counted: 2^60 bytes are more than any input has.
 const TURNS: u64 = 17628769183591;
 
-pub enum ReadResult {
+// How reading a buffer ended: it is full, the input ended behind so many bytes, or a read failed.
+pub enum BufferRead {
     Full,
-    // the input ended behind so many bytes
     Ended(usize),
     Failed,
 }
 
 // Reads until the buffer is full, the input ends or a read fails.
-fn read_buffer(buf: &mut [u8]) -> ReadResult
+fn read_buffer(buf: &mut [u8]) -> BufferRead
     ensures { λ r. ⌜ CountsWithin (length (now (buf .entry))) r ⌝ }
 {
     let mut n: usize = 0;
     while n < buf.len() {
         let got = libc::read(STDIN_FILENO, &mut buf[n..]);
         if got < 0 {
-            return ReadResult::Failed;
+            return BufferRead::Failed;
         }
         let more = io::count(got, &buf[n..]);
         if more == 0 {
-            return ReadResult::Ended(n);
+            return BufferRead::Ended(n);
         }
         n += more;
     }
-    ReadResult::Full
+    BufferRead::Full
 }
 
-fn start() -> RunResult
+// A day with no input yet.
+fn fresh_day() -> RunResult
     ensures { λ r. ⌜ r ≡ freshDay ⌝ }
 {
     RunResult {
@@ -53,11 +56,11 @@ fn start() -> RunResult
     }
 }
 
-// The first bytes of a buffer, after those before them.
+// The day after the first n bytes of a buffer.
 fn run_buffer(day: RunResult, buf: &[u8], n: usize) -> RunResult
     requires { ⌜ Counted mostCounted day × (n ≤ bufferLength) × (n ≤ length (now buf)) ⌝ }
     ensures { λ r. ⌜ r ≡ runBufferOf day (take n (now (buf .entry))) ⌝ }
-    ensures few { λ r. ⌜ Grown day r ⌝ }
+    ensures bounded { λ r. ⌜ Grown day r ⌝ }
 {
     let before = day.session;
     let ran = before.run(&buf[..n]);
@@ -71,7 +74,8 @@ fn run_buffer(day: RunResult, buf: &[u8], n: usize) -> RunResult
     }
 }
 
-fn end(day: RunResult) -> RunResult
+// The day after the input's end: refused while a file is open, unless it was refused before.
+fn finish_day(day: RunResult) -> RunResult
     ensures { λ r. ⌜ r ≡ endedOf day ⌝ }
 {
     let answer = day.answer;
@@ -91,74 +95,75 @@ fn end(day: RunResult) -> RunResult
     }
 }
 
-// How a turn left the day: more may come, it is over, or a read failed.
-pub enum Went {
+// How a turn ended: more input may follow, the day is over, or a read failed.
+pub enum TurnEnd {
     More,
     Over,
     Failed,
 }
 
-pub struct Turn {
-    pub went: Went,
+// The day after a turn.
+pub struct TurnResult {
+    pub end: TurnEnd,
     pub day: RunResult,
 }
 
-fn unless_refused(answer: Answer) -> Went {
+fn more_unless_refused(answer: Answer) -> TurnEnd {
     match answer {
-        Answer::Accepted => Went::More,
-        Answer::Refused(_, _) => Went::Over,
+        Answer::Accepted => TurnEnd::More,
+        Answer::Refused(_, _) => TurnEnd::Over,
     }
 }
 
-// One buffer of input. It takes the array, so that nothing is asked of its length in the loop.
-fn take_turn(day: RunResult, buf: &mut [u8; SIZE]) -> Turn
+// Reads and runs one buffer of input. It takes the array, so that its length is known in the caller's loop.
+fn run_next_buffer(day: RunResult, buf: &mut [u8; SIZE]) -> TurnResult
     requires { ⌜ Counted mostCounted day ⌝ }
     ensures { λ r. ⌜ Grown day (r .day) ⌝ }
 {
     match read_buffer(buf) {
-        ReadResult::Full => {
+        BufferRead::Full => {
             let next = run_buffer(day, buf, SIZE);
             let answer = next.answer;
-            Turn {
-                went: unless_refused(answer),
+            TurnResult {
+                end: more_unless_refused(answer),
                 day: next,
             }
         }
-        ReadResult::Ended(n) => Turn {
-            went: Went::Over,
-            day: end(run_buffer(day, buf, n)),
+        BufferRead::Ended(n) => TurnResult {
+            end: TurnEnd::Over,
+            day: finish_day(run_buffer(day, buf, n)),
         },
-        ReadResult::Failed => Turn {
-            went: Went::Failed,
+        BufferRead::Failed => TurnResult {
+            end: TurnEnd::Failed,
             day,
         },
     }
 }
 
-fn goes_on(went: Went) -> bool {
-    match went {
-        Went::More => true,
-        Went::Over => false,
-        Went::Failed => false,
+fn has_more(end: TurnEnd) -> bool {
+    match end {
+        TurnEnd::More => true,
+        TurnEnd::Over => false,
+        TurnEnd::Failed => false,
     }
 }
 
-// The whole input, or as much as the session takes of it.
-fn read_day() -> Turn {
+// The last turn over the input: at its end, at the first refusal or failed read, or after 2^60 bytes.
+fn run_input() -> TurnResult {
     let mut buf = [0u8; SIZE];
-    let mut day = start();
+    let mut day = fresh_day();
     let mut turns: u64 = TURNS;
     while 0 < turns {
         turns -= 1;
-        let next = take_turn(day, &mut buf);
-        let went = next.went;
-        if !goes_on(went) {
+        let next = run_next_buffer(day, &mut buf);
+        let end = next.end;
+        if !has_more(end) {
             return next;
         }
         day = next.day;
     }
-    Turn {
-        went: Went::More,
+    TurnResult {
+        end: TurnEnd::More,
         day,
     }
 }
@@ -168,7 +173,15 @@ fn print_page(day: RunResult) {
     let answer = day.answer;
     let session = day.session;
     let board = session.shown;
-    let printed = page::print(answer, day.records, day.files, board, &mut page);
+    let number = answer.number() as u64;
+    let printed = page::print(
+        number,
+        answer.place(),
+        day.records,
+        day.files,
+        board,
+        &mut page,
+    );
     let length = printed.length;
     if !io::write_all(STDOUT_FILENO, &page[..length]) {
         os::fail(b"quadro: standard output");
@@ -176,13 +189,13 @@ fn print_page(day: RunResult) {
 }
 
 fn main() {
-    let last = read_day();
-    let went = last.went;
+    let last = run_input();
+    let end = last.end;
     let day = last.day;
-    match went {
-        Went::Over => print_page(day),
-        Went::Failed => os::fail(b"quadro: standard input"),
-        Went::More => {
+    match end {
+        TurnEnd::Over => print_page(day),
+        TurnEnd::Failed => os::fail(b"quadro: standard input"),
+        TurnEnd::More => {
             io::write_all(STDERR_FILENO, b"quadro: more than 2^60 bytes of input\n");
         }
     }

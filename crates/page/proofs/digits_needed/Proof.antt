@@ -18,7 +18,9 @@ loop-holds : tie.Need-loop-holds Inv-loop μ-loop
 loop-holds c = search needs
 
 add-digits : tie.Need-add-digits Inv-loop μ-loop
-add-digits c = omega (arith, needed-more (c .before .loop .rest) (c .loop-test .taken), needed-few (c .before .before .args .n) (omega arith))
+add-digits c =
+    let more = needed-more (c .before .loop .rest) (c .loop-test .taken) in
+    omega (arith, more, needed-few (c .before .before .args .n) (omega arith))
 
 loop-less : tie.Need-loop-less Inv-loop μ-loop
 loop-less c = search needs
@@ -28,8 +30,10 @@ loop-again c = omega (arith, needed-more (c .before .loop .rest) (c .loop-test .
 
 returns : tie.Need-returns Inv-loop μ-loop
 returns c =
-    let e : c .before .loop .digits ≡ needed (c .before .before .args .n) = omega (arith, needed-none (c .before .loop .rest) (c .loop-test .left)) in
-    (e, omega (arith, needed-few (c .before .before .args .n) (omega arith)))
+    let n = c .before .before .args .n in
+    let none = needed-none (c .before .loop .rest) (c .loop-test .left) in
+    let all : c .before .loop .digits ≡ needed n = omega (arith, none) in
+    (all, omega (arith, needed-few n (omega arith)))
 
 pub digits-needed-spec : {M : Type 1} → statement M
 digits-needed-spec =

@@ -39,11 +39,16 @@ same-length c = search needs
 returns : tie.Need-returns
 unfolding issuerLine
 returns c =
-    let word = c .before .before .before .before .before .before .before .before .before .before .before .before .before .before .before .before .before .before .before .before .before .put-text .ensures in
-    let segment = c .before .before .before .before .before .before .before .before .before .before .before .before .before .before .before .before .before .put-shown .ensures in
-    let hyphen = c .before .before .before .before .before .before .before .before .before .before .before .before .put-text2 .ensures in
-    let number = rw (c .before .before .before .before .before .before .before .before .before .issuer-width .ensures .0) at (c .before .before .before .before .before .before .before .put-shown2 .ensures) in
-    wrote-then (omega arith) word (wrote-then (omega arith) segment (wrote-then (omega arith) hyphen (wrote-then (omega arith) number (c .before .before .put-text3 .ensures))))
+    let number = c .before .before .before .before .before .before .before in
+    let width = number .before .before in
+    let hyphen = width .before .before .before in
+    let segment = hyphen .before .before .before .before .before in
+    let word = segment .before .before .before .before in
+    let digits = rw (width .issuer-width .ensures .0) at (number .put-shown2 .ensures) in
+    wrote-then (omega arith) (word .put-text .ensures)
+    (wrote-then (omega arith) (segment .put-shown .ensures)
+    (wrote-then (omega arith) (hyphen .put-text2 .ensures)
+    (wrote-then (omega arith) digits (c .before .before .put-text3 .ensures))))
 
 pub put-issuer-spec : {M : Type 1} → statement M
 put-issuer-spec =

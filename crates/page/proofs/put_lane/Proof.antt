@@ -23,7 +23,11 @@ same-length c = search needs
 
 returns : tie.Need-returns
 unfolding laneLines
-returns c = wrote-then (omega arith) (c .before .before .before .before .before .before .before .before .before .before .put-line .ensures) (wrote-then (omega arith) (c .before .before .before .before .before .before .put-issuer .ensures) (c .before .before .put-tally .ensures))
+returns c =
+    let issuer = c .before .before .before .before .before .before in
+    let number = issuer .before .before .before .before in
+    let rest = wrote-then (omega arith) (issuer .put-issuer .ensures) (c .before .before .put-tally .ensures) in
+    wrote-then (omega arith) (number .put-line .ensures) rest
 
 pub put-lane-spec : {M : Type 1} → statement M
 put-lane-spec =

@@ -5,21 +5,25 @@ use borrow.Author.Needs.{needs}
 use lib.ListN.{take, length}
 use Rattle.board.specs.Boards.{lanesOf}
 use Rattle.page.proofs.Pages.{lanes-start, lanes-turn, lanes-end}
-use Rattle.page.specs.Pages.{lanesLines, mostLane, Wrote}
+use Rattle.page.specs.Pages.{lanesLines, mostLane}
+use Rattle.page.specs.Pieces.{Wrote}
 use Rattle.page.proofs.put_lanes.Statement.{statement}
 use Rattle.page.proofs.put_lanes.Tie as tie
 
 abbrev Inv-loop : tie.InvT-loop
-Inv-loop out₀ at board used next₀ i₀ out next i = (i ≤ length (lanesOf board)) × Wrote (i * mostLane) at (lanesLines 1 (take i (lanesOf board))) out₀ next out
+Inv-loop out₀ at board used next₀ i₀ out next i =
+    (i ≤ length (lanesOf board)) × Wrote (i * mostLane) at (lanesLines 1 (take i (lanesOf board))) out₀ next out
 
 abbrev μ-loop : tie.MeasureT-loop
 μ-loop out₀ at board used next₀ i₀ out next i = used - i
 
-in-use-requires : tie.Need-in-use-requires Inv-loop μ-loop
-in-use-requires c κs = search needs
+lanes-in-use-requires : tie.Need-lanes-in-use-requires Inv-loop μ-loop
+lanes-in-use-requires c κs = search needs
 
 loop-holds : tie.Need-loop-holds Inv-loop μ-loop
-loop-holds c = (search needs, lanes-start (c .before .before .args .t1) (c .before .before .args .at) (c .before .before .args .out .now) (omega arith))
+loop-holds c =
+    let a = c .before .before .args in
+    (search needs, lanes-start (a .t1) (a .at) (a .out .now) (omega arith))
 
 mul-lane : tie.Need-mul-lane Inv-loop μ-loop
 mul-lane c = search needs
@@ -41,8 +45,11 @@ loop-less c = search needs
 
 loop-again : tie.Need-loop-again Inv-loop μ-loop
 loop-again c =
-    let a = c .before .before .before .before .before .before .before .before .before .args in
-    (omega arith, lanes-turn (a .t1) (a .at) (a .out .now) (omega arith) (omega arith) (omega arith) (c .before .before .before .before .before .before .loop .inv .1) (c .before .before .put-lane .ensures))
+    let turn = c .before .before .before .before .before .before in
+    let a = turn .before .before .before .args in
+    let wrote = turn .loop .inv .1 in
+    let lane = c .before .before .put-lane .ensures in
+    (omega arith, lanes-turn (a .t1) (a .at) (a .out .now) (omega arith) (omega arith) (omega arith) wrote lane)
 
 same-length : tie.Need-same-length Inv-loop μ-loop
 same-length c = search needs
@@ -58,7 +65,7 @@ put-lanes-spec =
     (tie.spec
     Inv-loop
     μ-loop
-    in-use-requires
+    lanes-in-use-requires
     loop-holds
     mul-lane
     element-copy-out-lane

@@ -23,7 +23,11 @@ same-length c = search needs
 
 returns : tie.Need-returns
 unfolding numberLine
-returns c = wrote-then (omega arith) (c .before .before .before .before .before .before .before .before .before .before .before .put-text .ensures) (wrote-then (omega arith) (c .before .before .before .before .before .before .before .put-shown .ensures) (c .before .before .put-text2 .ensures))
+returns c =
+    let number = c .before .before .before .before .before .before .before in
+    let word = number .before .before .before .before in
+    let rest = wrote-then (omega arith) (number .put-shown .ensures) (c .before .before .put-text2 .ensures) in
+    wrote-then (omega arith) (word .put-text .ensures) rest
 
 pub put-line-spec : {M : Type 1} → statement M
 put-line-spec =

@@ -23,7 +23,9 @@ same-length c = search needs
 returns : tie.Need-returns
 returns c =
     let a = c .before .before .before .before .before .before .before .args in
-    wrote-shown (a .width) (a .n) (a .at) (a .out .now) (omega arith) (omega arith) (omega arith) (search needs) (c .before .before .put-number .ensures .0) (c .before .before .put-number .ensures .1)
+    let put = c .before .before .put-number .ensures in
+    let wrote = wrote-shown (a .width) (a .n) (a .at) (a .out .now) (omega arith) (omega arith) (omega arith) in
+    wrote (search needs) (put .0) (put .1)
 
 pub put-shown-spec : {M : Type 1} → statement M
 put-shown-spec =

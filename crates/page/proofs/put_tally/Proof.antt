@@ -23,7 +23,9 @@ same-length c = search needs
 
 returns : tie.Need-returns
 unfolding tallyLines
-returns c = wrote-then (omega arith) (c .before .before .before .before .before .before .before .put-line .ensures) (c .before .before .put-line2 .ensures)
+returns c =
+    let payments = c .before .before .before .before .before .before .before .put-line .ensures in
+    wrote-then (omega arith) payments (c .before .before .put-line2 .ensures)
 
 pub put-tally-spec : {M : Type 1} → statement M
 put-tally-spec =

@@ -6,6 +6,15 @@ use lib.Seq.{length-take-le}
 use Rattle.quadro.proofs.print_page.Statement.{statement}
 use Rattle.quadro.proofs.print_page.Tie as tie
 
+number-requires : tie.Need-number-requires
+number-requires c κs = search needs
+
+cast-number : tie.Need-cast-number
+cast-number c = search needs
+
+place-requires : tie.Need-place-requires
+place-requires c κs = search needs
+
 slice-aggregate-print : tie.Need-slice-aggregate-print
 slice-aggregate-print c = search needs
 
@@ -16,7 +25,9 @@ array-share-prefix-page : tie.Need-array-share-prefix-page
 array-share-prefix-page c = search needs
 
 slice-aggregate-write-all : tie.Need-slice-aggregate-write-all
-slice-aggregate-write-all c = sym (length-take-le (c .before .before .print .result .length) (c .before .before .print .last .1 .1 .1 .1 .0) (omega arith))
+slice-aggregate-write-all c =
+    let printed = c .before .before .print in
+    sym (length-take-le (printed .result .length) (printed .last .1 .1 .1 .1 .1 .0) (omega arith))
 
 write-all-requires : tie.Need-write-all-requires
 write-all-requires c κs = search needs
@@ -37,6 +48,9 @@ pub print-page-spec : {M : Type 1} → statement M
 print-page-spec =
     tie.close
     (tie.spec
+    number-requires
+    cast-number
+    place-requires
     slice-aggregate-print
     print-requires
     array-share-prefix-page

@@ -4,12 +4,14 @@ use native.Mathlib.Omega.{arith}
 use borrow.Author.Needs.{needs}
 use lib.ListN.{take}
 use lib.Seq.{length-take-le}
-use Rattle.quadro.proofs.Days.{few-fed, fed}
+use Rattle.quadro.proofs.Days.{few-run, run-behind}
 use Rattle.quadro.proofs.run_buffer.Statement.{statement}
 use Rattle.quadro.proofs.run_buffer.Tie as tie
 
 slice-aggregate-run : tie.Need-slice-aggregate-run
-slice-aggregate-run c = sym (length-take-le (c .before .before .before .args .n) (c .before .before .before .args .buf .now) (omega arith))
+slice-aggregate-run c =
+    let a = c .before .before .before .args in
+    sym (length-take-le (a .n) (a .buf .now) (omega arith))
 
 run-requires : tie.Need-run-requires
 run-requires c κs = search needs
@@ -19,7 +21,7 @@ add-t10 c =
     let ran = c .before .before .before in
     let start = ran .before .before .before .before in
     let a = start .args in
-    let few = few-fed (a .day .session) (a .buf .now) (a .n) (start .pre .2) (ran .run .ensures) in
+    let few = few-run (a .day .session) (a .buf .now) (a .n) (start .pre .2) (ran .run .ensures) in
     omega (arith, few .0, start .pre .0 .0, start .pre .1)
 
 add-t11 : tie.Need-add-t11
@@ -27,7 +29,7 @@ add-t11 c =
     let ran = c .before .before .before .before .before in
     let start = ran .before .before .before .before in
     let a = start .args in
-    let few = few-fed (a .day .session) (a .buf .now) (a .n) (start .pre .2) (ran .run .ensures) in
+    let few = few-run (a .day .session) (a .buf .now) (a .n) (start .pre .2) (ran .run .ensures) in
     omega (arith, few .1, start .pre .0 .1, start .pre .1)
 
 returns : tie.Need-returns
@@ -35,9 +37,10 @@ returns c =
     let ran = c .before .before .before .before .before in
     let start = ran .before .before .before .before in
     let a = start .args in
-    let made = fed (a .day) (take (a .n) (a .buf .now)) (ran .run .ensures) in
-    let few = few-fed (a .day .session) (a .buf .now) (a .n) (start .pre .2) (ran .run .ensures) in
-    (made, (omega (arith, few .0, start .pre .0 .0, start .pre .1), omega (arith, few .1, start .pre .0 .1, start .pre .1)))
+    let made = run-behind (a .day) (take (a .n) (a .buf .now)) (ran .run .ensures) in
+    let few = few-run (a .day .session) (a .buf .now) (a .n) (start .pre .2) (ran .run .ensures) in
+    let before = start .pre in
+    (made, (omega (arith, few .0, before .0 .0, before .1), omega (arith, few .1, before .0 .1, before .1)))
 
 pub run-buffer-spec : {M : Type 1} → statement M
 run-buffer-spec = tie.close (tie.spec slice-aggregate-run run-requires add-t10 add-t11 returns)

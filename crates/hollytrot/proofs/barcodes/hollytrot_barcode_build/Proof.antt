@@ -1,6 +1,8 @@
 -- `hollytrot::barcodes::hollytrot_barcode_build` meets its contract. Assumes nothing.
 use borrow.Author.Needs.{needs}
-use Rattle.hollytrot.proofs.Steps.{handed}
+use lib.ListN.{length}
+use Rattle.barcode.specs.Building.{buildAnswer, builtOf}
+use Rattle.hollytrot.proofs.Steps.{crossed}
 use Rattle.hollytrot.proofs.barcodes.hollytrot_barcode_build.Statement.{statement}
 use Rattle.hollytrot.proofs.barcodes.hollytrot_barcode_build.Tie as tie
 
@@ -14,7 +16,14 @@ same-length : tie.Need-same-length
 same-length c = search needs
 
 returns : tie.Need-returns
-returns c = let e = c .before .before .before .build .ensures in handed _ _ (c .c-answer .ensures) (e .0) (e .1)
+returns c =
+    let build = c .before .before .before in
+    let a = build .before .before .before .before .args in
+    let free = a .free .now in
+    let answer = buildAnswer (length (a .out .now)) (a .issuer) (a .kind) (a .value) free in
+    let built = builtOf (a .issuer) (a .kind) (a .value) free in
+    let e = build .build .ensures in
+    crossed {b = answer} built (a .out .now) (c .c-answer .ensures) (e .0) (e .1)
 
 pub hollytrot-barcode-build-spec : {M : Type 1} → statement M
 hollytrot-barcode-build-spec =

@@ -8,11 +8,11 @@ use Rattle.hollytrot.proofs.barcodes.hollytrot_date_read.Tie as tie
 read-date-requires : tie.Need-read-date-requires
 read-date-requires c κs = search needs
 
-day-requires : tie.Need-day-requires
-day-requires c κs = search needs
+date-or-zeros-requires : tie.Need-date-or-zeros-requires
+date-or-zeros-requires c κs = search needs
 
 returns : tie.Need-returns
-returns c = c .day .ensures ∙ ap dayOf (c .before .read-date .ensures)
+returns c = c .date-or-zeros .ensures ∙ ap dayOf (c .before .read-date .ensures)
 
 pub hollytrot-date-read-spec : {M : Type 1} → statement M
-hollytrot-date-read-spec = tie.close (tie.spec read-date-requires day-requires returns)
+hollytrot-date-read-spec = tie.close (tie.spec read-date-requires date-or-zeros-requires returns)

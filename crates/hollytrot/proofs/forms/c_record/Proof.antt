@@ -58,16 +58,32 @@ no-trailer-requires-3 : tie.Need-no-trailer-requires-3
 no-trailer-requires-3 c κs = search needs
 
 returns : tie.Need-returns
-returns c = rw (c .before .before .before .before .d .given .1, c .before .before .c-answer .ensures, c .before .no-c-payment .ensures, c .no-trailer .ensures)
+returns c =
+    let answer = c .before .before in
+    let is = answer .before .before .d .given .1 in
+    rw (is, answer .c-answer .ensures, c .before .no-c-payment .ensures, c .no-trailer .ensures)
 
 returns-2 : tie.Need-returns-2
-returns-2 c = rw (c .before .before .before .before .before .d2 .given .1, c .before .before .before .c-answer2 .ensures, c .before .before .no-header .ensures, c .before .c-payment .ensures, c .no-trailer2 .ensures)
+returns-2 c =
+    let header = c .before .before in
+    let answer = header .before in
+    let payment = c .before .c-payment .ensures in
+    let is = answer .before .before .d2 .given .1 in
+    rw (is, answer .c-answer2 .ensures, header .no-header .ensures, payment, c .no-trailer2 .ensures)
 
 returns-3 : tie.Need-returns-3
-returns-3 c = rw (c .before .before .before .before .d3 .given .1, c .before .before .c-answer3 .ensures, c .before .no-header2 .ensures, c .no-c-payment2 .ensures)
+returns-3 c =
+    let answer = c .before .before in
+    let is = answer .before .before .d3 .given .1 in
+    rw (is, answer .c-answer3 .ensures, c .before .no-header2 .ensures, c .no-c-payment2 .ensures)
 
 returns-4 : tie.Need-returns-4
-returns-4 c = rw (c .before .before .before .before .before .d4 .given .1, c .before .before .before .c-answer4 .ensures, c .before .before .no-header3 .ensures, c .before .no-c-payment3 .ensures, c .no-trailer3 .ensures)
+returns-4 c =
+    let header = c .before .before in
+    let answer = header .before in
+    let payment = c .before .no-c-payment3 .ensures in
+    let is = answer .before .before .d4 .given .1 in
+    rw (is, answer .c-answer4 .ensures, header .no-header3 .ensures, payment, c .no-trailer3 .ensures)
 
 pub c-record-spec : {M : Type 1} → statement M
 c-record-spec =

@@ -20,10 +20,15 @@ c-writer-requires : tie.Need-c-writer-requires
 c-writer-requires c κs = search needs
 
 returns : tie.Need-returns
-returns c = wrote-refused _ (c .before .before .before .before .args .w) (c .c-answer .ensures) (c .before .enum-told .given .1)
+returns c =
+    let told = c .before in
+    wrote-refused _ (told .before .before .before .args .w) (c .c-answer .ensures) (told .enum-told .given .1)
 
 returns-2 : tie.Need-returns-2
-returns-2 c = wrote-accepted _ (c .before .before .before .before .before .args .w) (c .before .c-answer2 .ensures) (c .before .before .enum-told2 .given .1) (c .c-writer .ensures)
+returns-2 c =
+    let answer = c .before .c-answer2 .ensures in
+    let told = c .before .before in
+    wrote-accepted _ (told .before .before .before .args .w) answer (told .enum-told2 .given .1) (c .c-writer .ensures)
 
 pub c-write-result-spec : {M : Type 1} → statement M
 c-write-result-spec =

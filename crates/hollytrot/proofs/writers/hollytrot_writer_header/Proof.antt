@@ -6,8 +6,8 @@ use Rattle.hollytrot.proofs.Steps.{written}
 use Rattle.hollytrot.proofs.writers.hollytrot_writer_header.Statement.{statement}
 use Rattle.hollytrot.proofs.writers.hollytrot_writer_header.Tie as tie
 
-writer-of-requires : tie.Need-writer-of-requires
-writer-of-requires c κs = search needs
+writer-from-c-requires : tie.Need-writer-from-c-requires
+writer-from-c-requires c κs = search needs
 
 header-requires : tie.Need-header-requires
 header-requires c κs = search needs
@@ -20,10 +20,15 @@ same-length c = search needs
 
 returns : tie.Need-returns
 returns c =
-    let a = c .before .before .before .before .before .before .before .before .args in
-    let e = c .before .before .before .header .ensures in
-    written (λ w. headerWritten w (a .fields .now) (length (a .out .now))) (λ w. headerBytes (a .fields .now)) (a .writer) (a .out .now) (c .before .before .before .before .before .writer-of .ensures) (e .0) (e .1) (c .c-write-result .ensures)
+    let call = c .before .before .before in
+    let given = call .before .before in
+    let a = given .before .before .before .args in
+    let fields = a .fields .now in
+    let out = a .out .now in
+    let of = written (λ w. headerWritten w fields (length out)) (λ w. headerBytes fields) (a .writer) out in
+    let e = call .header .ensures in
+    of (given .writer-from-c .ensures) (e .0) (e .1) (c .c-write-result .ensures)
 
 pub hollytrot-writer-header-spec : {M : Type 1} → statement M
 hollytrot-writer-header-spec =
-    tie.close (tie.spec writer-of-requires header-requires c-write-result-requires same-length returns)
+    tie.close (tie.spec writer-from-c-requires header-requires c-write-result-requires same-length returns)

@@ -1,13 +1,15 @@
 -- `hollytrot::writers::hollytrot_writer_payment` meets its contract. Assumes nothing.
 use borrow.Author.Needs.{needs}
 use lib.ListN.{length}
+use Rattle.writer.specs.declared.Writer.{Writer}
+use Rattle.writer.specs.declared.WriteResult.{WriteResult}
 use Rattle.writer.specs.Writers.{paymentWritten, paymentBytes}
 use Rattle.hollytrot.proofs.Steps.{written}
 use Rattle.hollytrot.proofs.writers.hollytrot_writer_payment.Statement.{statement}
 use Rattle.hollytrot.proofs.writers.hollytrot_writer_payment.Tie as tie
 
-writer-of-requires : tie.Need-writer-of-requires
-writer-of-requires c κs = search needs
+writer-from-c-requires : tie.Need-writer-from-c-requires
+writer-from-c-requires c κs = search needs
 
 payment-requires : tie.Need-payment-requires
 payment-requires c κs = search needs
@@ -20,10 +22,16 @@ same-length c = search needs
 
 returns : tie.Need-returns
 returns c =
-    let a = c .before .before .before .before .before .before .before .before .args in
-    let e = c .before .before .before .payment .ensures in
-    written (λ w. paymentWritten w (a .fields .now) (a .received) (a .tariff) (length (a .out .now))) (λ w. paymentBytes (a .fields .now) (a .received) (a .tariff)) (a .writer) (a .out .now) (c .before .before .before .before .before .writer-of .ensures) (e .0) (e .1) (c .c-write-result .ensures)
+    let call = c .before .before .before in
+    let given = call .before .before in
+    let a = given .before .before .before .args in
+    let fields = a .fields .now in
+    let out = a .out .now in
+    let result : Writer → WriteResult = λ w. paymentWritten w fields (a .received) (a .tariff) (length out) in
+    let of = written result (λ w. paymentBytes fields (a .received) (a .tariff)) (a .writer) out in
+    let e = call .payment .ensures in
+    of (given .writer-from-c .ensures) (e .0) (e .1) (c .c-write-result .ensures)
 
 pub hollytrot-writer-payment-spec : {M : Type 1} → statement M
 hollytrot-writer-payment-spec =
-    tie.close (tie.spec writer-of-requires payment-requires c-write-result-requires same-length returns)
+    tie.close (tie.spec writer-from-c-requires payment-requires c-write-result-requires same-length returns)

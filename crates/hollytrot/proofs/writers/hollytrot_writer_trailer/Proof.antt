@@ -6,8 +6,8 @@ use Rattle.hollytrot.proofs.Steps.{written}
 use Rattle.hollytrot.proofs.writers.hollytrot_writer_trailer.Statement.{statement}
 use Rattle.hollytrot.proofs.writers.hollytrot_writer_trailer.Tie as tie
 
-writer-of-requires : tie.Need-writer-of-requires
-writer-of-requires c κs = search needs
+writer-from-c-requires : tie.Need-writer-from-c-requires
+writer-from-c-requires c κs = search needs
 
 trailer-requires : tie.Need-trailer-requires
 trailer-requires c κs = search needs
@@ -20,10 +20,14 @@ same-length c = search needs
 
 returns : tie.Need-returns
 returns c =
-    let a = c .before .before .before .before .before .before .before .args in
-    let e = c .before .before .before .trailer .ensures in
-    written (λ w. trailerWritten w (length (a .out .now))) trailerBytes (a .writer) (a .out .now) (c .before .before .before .before .before .writer-of .ensures) (e .0) (e .1) (c .c-write-result .ensures)
+    let call = c .before .before .before in
+    let given = call .before .before in
+    let a = given .before .before .args in
+    let out = a .out .now in
+    let of = written (λ w. trailerWritten w (length out)) trailerBytes (a .writer) out in
+    let e = call .trailer .ensures in
+    of (given .writer-from-c .ensures) (e .0) (e .1) (c .c-write-result .ensures)
 
 pub hollytrot-writer-trailer-spec : {M : Type 1} → statement M
 hollytrot-writer-trailer-spec =
-    tie.close (tie.spec writer-of-requires trailer-requires c-write-result-requires same-length returns)
+    tie.close (tie.spec writer-from-c-requires trailer-requires c-write-result-requires same-length returns)

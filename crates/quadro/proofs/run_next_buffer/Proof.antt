@@ -1,9 +1,9 @@
--- `quadro::take_turn` meets its contract. Assumes nothing.
+-- `quadro::run_next_buffer` meets its contract. Assumes nothing.
 use native.Mathlib.Omega.{arith}
 use borrow.Author.Needs.{needs}
 use Rattle.quadro.proofs.Days.{ended}
-use Rattle.quadro.proofs.take_turn.Statement.{statement}
-use Rattle.quadro.proofs.take_turn.Tie as tie
+use Rattle.quadro.proofs.run_next_buffer.Statement.{statement}
+use Rattle.quadro.proofs.run_next_buffer.Tie as tie
 
 read-buffer-requires : tie.Need-read-buffer-requires
 read-buffer-requires c κs = search needs
@@ -14,17 +14,20 @@ enum-told c = search needs
 run-buffer-requires : tie.Need-run-buffer-requires
 run-buffer-requires c κs = search needs
 
-unless-refused-requires : tie.Need-unless-refused-requires
-unless-refused-requires c κs = search needs
+more-unless-refused-requires : tie.Need-more-unless-refused-requires
+more-unless-refused-requires c κs = search needs
 
 enum-known-n : tie.Need-enum-known-n
 enum-known-n c = search needs
 
 run-buffer-requires-2 : tie.Need-run-buffer-requires-2
-run-buffer-requires-2 c κs = let fits = ended (c .before .before .before .n .given .1) (c .before .before .before .before .before .read-buffer .ensures) in (search needs, omega (arith, fits), omega (arith, fits))
+run-buffer-requires-2 c κs =
+    let told = c .before .before .before in
+    let fits = ended (told .n .given .1) (told .before .before .read-buffer .ensures) in
+    (search needs, omega (arith, fits), omega (arith, fits))
 
-end-requires : tie.Need-end-requires
-end-requires c κs = search needs
+finish-day-requires : tie.Need-finish-day-requires
+finish-day-requires c κs = search needs
 
 enum-told-2 : tie.Need-enum-told-2
 enum-told-2 c = search needs
@@ -33,22 +36,22 @@ returns : tie.Need-returns
 returns c = search needs
 
 returns-2 : tie.Need-returns-2
-returns-2 c = rw (c .end .ensures) (c .before .run-buffer2 .ensures .1)
+returns-2 c = rw (c .finish-day .ensures) (c .before .run-buffer2 .ensures .1)
 
 returns-3 : tie.Need-returns-3
 returns-3 c = search needs
 
-pub take-turn-spec : {M : Type 1} → statement M
-take-turn-spec =
+pub run-next-buffer-spec : {M : Type 1} → statement M
+run-next-buffer-spec =
     tie.close
     (tie.spec
     read-buffer-requires
     enum-told
     run-buffer-requires
-    unless-refused-requires
+    more-unless-refused-requires
     enum-known-n
     run-buffer-requires-2
-    end-requires
+    finish-day-requires
     enum-told-2
     returns
     returns-2

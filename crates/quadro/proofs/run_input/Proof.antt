@@ -1,0 +1,58 @@
+-- `quadro::run_input` meets its contract. Assumes nothing.
+use Prim.Native.Nat.{_+_, _*_, _≤_}
+use native.Mathlib.Omega.{arith}
+use borrow.Author.Needs.{needs}
+use Rattle.quadro.specs.Days.{bufferLength}
+use Rattle.quadro.proofs.run_input.Statement.{statement}
+use Rattle.quadro.proofs.run_input.Tie as tie
+
+abbrev Inv-loop : tie.InvT-loop
+Inv-loop buf₀ day₀ turns₀ buf day turns =
+    (day .records + turns * bufferLength ≤ 1_152_921_504_606_851_400)
+    × (day .files + turns * bufferLength ≤ 1_152_921_504_606_851_400)
+
+abbrev μ-loop : tie.MeasureT-loop
+μ-loop buf₀ day₀ turns₀ buf day turns = turns
+
+fresh-day-requires : tie.Need-fresh-day-requires Inv-loop μ-loop
+fresh-day-requires c κs = search needs
+
+loop-holds : tie.Need-loop-holds Inv-loop μ-loop
+loop-holds c = rw (c .fresh-day .ensures) (omega arith, omega arith)
+
+sub-turns : tie.Need-sub-turns Inv-loop μ-loop
+sub-turns c = search needs
+
+run-next-buffer-requires : tie.Need-run-next-buffer-requires Inv-loop μ-loop
+run-next-buffer-requires c κs = search needs
+
+has-more-requires : tie.Need-has-more-requires Inv-loop μ-loop
+has-more-requires c κs = search needs
+
+returns : tie.Need-returns Inv-loop μ-loop
+returns c = search needs
+
+loop-less : tie.Need-loop-less Inv-loop μ-loop
+loop-less c = search needs
+
+loop-again : tie.Need-loop-again Inv-loop μ-loop
+loop-again c = search needs
+
+returns-2 : tie.Need-returns-2 Inv-loop μ-loop
+returns-2 c = search needs
+
+pub run-input-spec : {M : Type 1} → statement M
+run-input-spec =
+    tie.close
+    (tie.spec
+    Inv-loop
+    μ-loop
+    fresh-day-requires
+    loop-holds
+    sub-turns
+    run-next-buffer-requires
+    has-more-requires
+    returns
+    loop-less
+    loop-again
+    returns-2)
