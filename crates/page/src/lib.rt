@@ -77,14 +77,6 @@ fn put_line(word: &[u8], n: u64, out: &mut [u8], at: usize) -> usize
     put_text(b"\n", out, end)
 }
 
-// How many digits an issuer's number has in a barcode.
-fn issuer_width(segment: u64) -> usize
-    ensures { λ r. ⌜ r ≡ widthOf (issuer segment) ⌝ }
-    ensures bounded { λ r. ⌜ r ≤ 8 ⌝ }
-{
-    if segment == 6 { 8 } else { 4 }
-}
-
 fn put_issuer(issuer: Issuer, out: &mut [u8], at: usize) -> usize
     requires { ⌜ at + mostIssuer ≤ length (now out) ⌝ }
     ensures { λ r. ⌜ Wrote mostIssuer at (issuerLine issuer) (now (out .entry)) r (now (out .exit)) ⌝ }
@@ -93,7 +85,7 @@ fn put_issuer(issuer: Issuer, out: &mut [u8], at: usize) -> usize
     let value = put_text(b"issuer=", out, at);
     let hyphen = put_shown(segment, 1, out, value);
     let number = put_text(b"-", out, hyphen);
-    let end = put_shown(issuer.number, issuer_width(segment), out, number);
+    let end = put_shown(issuer.number, barcode::issuer_width(segment), out, number);
     put_text(b"\n", out, end)
 }
 
@@ -116,17 +108,11 @@ fn put_lane(number: u64, lane: Lane, out: &mut [u8], at: usize) -> usize
     put_tally(tally, out, next)
 }
 
-// How many lanes are in use; of a board in an arbitrary state at most as many as it has.
-fn lanes_in_use(board: Board) -> usize
+fn lanes_shown(board: Board) -> usize
     ensures { λ r. ⌜ r ≡ length (lanesOf board) ⌝ }
     ensures bounded { λ r. ⌜ r ≤ mostLanes ⌝ }
 {
-    let used = board.used;
-    if used < Board::LANES {
-        used
-    } else {
-        Board::LANES
-    }
+    board::lanes_in_use(board.used)
 }
 
 fn put_lanes(board: Board, out: &mut [u8], at: usize) -> usize
@@ -134,7 +120,7 @@ fn put_lanes(board: Board, out: &mut [u8], at: usize) -> usize
     ensures { λ r.
         ⌜ Wrote (mostLanes * mostLane) at (lanesLines 1 (lanesOf board)) (now (out .entry)) r (now (out .exit)) ⌝ }
 {
-    let used = lanes_in_use(board);
+    let used = lanes_shown(board);
     let mut next = at;
     let mut i: usize = 0;
     while i < used {
@@ -149,7 +135,7 @@ fn put_sums(board: Board, out: &mut [u8], at: usize) -> usize
     requires { ⌜ at + mostSums ≤ length (now out) ⌝ }
     ensures { λ r. ⌜ Wrote mostSums at (sumsLines board) (now (out .entry)) r (now (out .exit)) ⌝ }
 {
-    let next = put_line(b"lanes=", lanes_in_use(board) as u64, out, at);
+    let next = put_line(b"lanes=", lanes_shown(board) as u64, out, at);
     let total = board.total;
     put_tally(total, out, next)
 }

@@ -1,6 +1,7 @@
 -- `page::put_issuer` meets its contract. Assumes nothing.
 use native.Mathlib.Omega.{arith}
 use borrow.Author.Needs.{needs}
+use Rattle.barcode.proofs.Codes.{issuer-end-range}
 use Rattle.page.proofs.Steps.{wrote-then}
 use Rattle.page.specs.Pages.{issuerLine}
 use Rattle.page.proofs.put_issuer.Statement.{statement}
@@ -25,7 +26,11 @@ issuer-width-requires : tie.Need-issuer-width-requires
 issuer-width-requires c κs = search needs
 
 put-shown-requires-2 : tie.Need-put-shown-requires-2
-put-shown-requires-2 c κs = search needs
+put-shown-requires-2 c κs =
+    let width = c .before in
+    let start = width .before .before .before .before .before .before .before .before .before .before .before .before .before .before .before .before in
+    let range = issuer-end-range (start .args .issuer .segment) in
+    (omega (arith, width .issuer-width .ensures), search needs)
 
 slice-aggregate-put-text-3 : tie.Need-slice-aggregate-put-text-3
 slice-aggregate-put-text-3 c = search needs
@@ -44,7 +49,7 @@ returns c =
     let hyphen = width .before .before .before in
     let segment = hyphen .before .before .before .before .before in
     let word = segment .before .before .before .before in
-    let digits = rw (width .issuer-width .ensures .0) at (number .put-shown2 .ensures) in
+    let digits = rw (width .issuer-width .ensures) at (number .put-shown2 .ensures) in
     wrote-then (omega arith) (word .put-text .ensures)
     (wrote-then (omega arith) (segment .put-shown .ensures)
     (wrote-then (omega arith) (hyphen .put-text2 .ensures)

@@ -17,8 +17,8 @@ Inv-loop out₀ at board used next₀ i₀ out next i =
 abbrev μ-loop : tie.MeasureT-loop
 μ-loop out₀ at board used next₀ i₀ out next i = used - i
 
-lanes-in-use-requires : tie.Need-lanes-in-use-requires Inv-loop μ-loop
-lanes-in-use-requires c κs = search needs
+lanes-shown-requires : tie.Need-lanes-shown-requires Inv-loop μ-loop
+lanes-shown-requires c κs = search needs
 
 loop-holds : tie.Need-loop-holds Inv-loop μ-loop
 loop-holds c =
@@ -65,7 +65,7 @@ put-lanes-spec =
     (tie.spec
     Inv-loop
     μ-loop
-    lanes-in-use-requires
+    lanes-shown-requires
     loop-holds
     mul-lane
     element-copy-out-lane

@@ -8,8 +8,8 @@ use Rattle.page.proofs.put_sums.Tie as tie
 slice-aggregate-put-line : tie.Need-slice-aggregate-put-line
 slice-aggregate-put-line c = search needs
 
-lanes-in-use-requires : tie.Need-lanes-in-use-requires
-lanes-in-use-requires c κs = search needs
+lanes-shown-requires : tie.Need-lanes-shown-requires
+lanes-shown-requires c κs = search needs
 
 put-line-requires : tie.Need-put-line-requires
 put-line-requires c κs = search needs
@@ -25,7 +25,7 @@ returns c =
     let line = c .before .before .before .before .before .before .before in
     let used = line .before .before in
     let fits = used .before .before .before .pre in
-    let lanes = rw (used .lanes-in-use .ensures .0) at (line .put-line .ensures) in
+    let lanes = rw (used .lanes-shown .ensures .0) at (line .put-line .ensures) in
     wrote-then (omega arith) lanes (c .before .before .put-tally .ensures)
 
 pub put-sums-spec : {M : Type 1} → statement M
@@ -33,7 +33,7 @@ put-sums-spec =
     tie.close
     (tie.spec
     slice-aggregate-put-line
-    lanes-in-use-requires
+    lanes-shown-requires
     put-line-requires
     put-tally-requires
     same-length
