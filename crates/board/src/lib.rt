@@ -60,6 +60,7 @@ pub struct Search {
 // The entries of a cache of lane indices; see `cache_index`.
 pub const CACHE_LENGTH: usize = 256;
 
+// The most lanes of a board, and the most that any of its payments or centavos, totals included, may reach.
 impl Board {
     pub const LANES: usize = 64;
 
