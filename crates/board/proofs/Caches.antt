@@ -12,11 +12,11 @@ use Rattle.answer.specs.declared.Answer.the-variants.{Accepted}
 use Rattle.barcode.specs.declared.Issuer.{Issuer}
 use Rattle.board.specs.declared.Board.{Board}
 use Rattle.board.specs.declared.SlotResult.{SlotResult}
-use Rattle.board.specs.declared.Search.{Search}
+use Rattle.board.specs.declared.SearchRange.{SearchRange}
 use Rattle.board.specs.declared.Lane.{Lane}
 use Rattle.board.specs.Lanes.{mostLanes, isLaneOf}
 use Rattle.board.specs.Boards.{blank, lanesOf, indexOf, slotAt, slotResultOf}
-use Rattle.board.specs.Searches.{searchOf}
+use Rattle.board.specs.Searches.{searchRangeOf}
 use Rattle.board.proofs.Searches.{in-use, Searched, search-starts}
 use Rattle.board.proofs.Firsts.{FirstAt, first-zero, first-found, first-kept}
 
@@ -35,7 +35,7 @@ zeros-cache b n k = rw (zeros n k) (omega arith, first-zero (lanesOf b))
 -- a search from a cached index
 module _ (b : Board) (full : length (b .lanes) ≡ mostLanes) (i : Issuer) (guess : ℕ) (here : guess < mostLanes)
     (first : FirstAt (lanesOf b) guess) where
-  starts : (t : Bool) → (ltb guess (b .used) && isLaneOf i (getD (b .lanes) guess blank)) ≡ t → (s : Search)
+  starts : (t : Bool) → (ltb guess (b .used) && isLaneOf i (getD (b .lanes) guess blank)) ≡ t → (s : SearchRange)
       → s ≡ cond t (record { from = guess; to = guess }) (record { from = 0; to = min (b .used) mostLanes })
       → Searched b i (s .to) (s .from)
   starts true t s e =
@@ -47,9 +47,9 @@ module _ (b : Board) (full : length (b .lanes) ≡ mostLanes) (i : Issuer) (gues
       rw e (omega arith, omega arith, rw none (first i (omega (arith, in-use b full)) own ∙ omega arith))
   starts false t s e = rw e (search-starts b full i refl)
 
-  pub cached-starts : {s : Search} → s ≡ searchOf i guess (getD (b .lanes) guess blank) (b .used)
+  pub cached-starts : {s : SearchRange} → s ≡ searchRangeOf i guess (getD (b .lanes) guess blank) (b .used)
       → Searched b i (s .to) (s .from)
-  unfolding searchOf
+  unfolding searchRangeOf
   cached-starts {s} e = starts (ltb guess (b .used) && isLaneOf i (getD (b .lanes) guess blank)) refl s e
 
 -- after a payment posted at its issuer's index, which is stored at any entry

@@ -7,7 +7,7 @@ use answer::Answer;
 use barcode::Issuer;
 pub use searching::cache_index;
 pub use searching::lanes_in_use;
-pub use searching::search_for;
+pub use searching::search_range;
 
 // Payments and the centavos they received: of one payment, of a lane, or of the whole board.
 #[repr(C)]
@@ -52,7 +52,7 @@ pub struct PostResult {
 }
 
 // The indices at which an issuer's lane is searched: `from` and those behind it, up to `to` and without it.
-pub struct Search {
+pub struct SearchRange {
     pub from: usize,
     pub to: usize,
 }
@@ -60,6 +60,7 @@ pub struct Search {
 // The entries of a cache of lane indices; see `cache_index`.
 pub const CACHE_LENGTH: usize = 256;
 
+// The most lanes of a board, and the most that any of its payments or centavos, totals included, may reach.
 impl Board {
     pub const LANES: usize = 64;
 

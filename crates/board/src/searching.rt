@@ -1,6 +1,6 @@
 // Searching a lane. `Board::lane_index` is the whole search, of a board passed by value, which copies 2 KB. Code that
 // posts many payments keeps its board in a local and searches it there: it remembers in a cache where it found each
-// issuer last (`cache_index`), tries that lane first (`search_for`), and tests each index of the `Search` until a lane
+// issuer last (`cache_index`), tries that lane first (`search_range`), and tests each index of the range until a lane
 // `is_of` the issuer; the index it ends at is the lane's, or the first free one. Both ways find the same index,
 // `indexOf` of specs/Boards.antt: if one changes, so does the other. proofs/Searches.antt and proofs/Caches.antt tie
 // them.
@@ -8,11 +8,11 @@ ghost use mathlib.Core.Path.{_≡_};
 ghost use Prim.Native.Nat.{_%_, min};
 ghost use Rattle.board.specs.Lanes.{mostLanes};
 ghost use Rattle.board.specs.Boards.{lanesOf, indexOf};
-ghost use Rattle.board.specs.Searches.{cacheLength, searchOf};
+ghost use Rattle.board.specs.Searches.{cacheLength, searchRangeOf};
 use crate::Board;
 use crate::CACHE_LENGTH;
 use crate::Lane;
-use crate::Search;
+use crate::SearchRange;
 use barcode::Issuer;
 
 // How many lanes of a board are in use: its `used`, at most LANES for a board in an arbitrary state.
@@ -26,7 +26,7 @@ pub fn lanes_in_use(used: usize) -> usize
 }
 
 // The entry of an issuer in a cache of CACHE_LENGTH lane indices. Issuers of other segments or numbers may share it, so
-// what is read there is only a guess; see `search_for`.
+// what is read there is only a guess; see `search_range`.
 pub fn cache_index(issuer: Issuer) -> usize
     ensures { λ r. ⌜ r ≡ issuer .number % cacheLength ⌝ }
 {
@@ -35,18 +35,18 @@ pub fn cache_index(issuer: Issuer) -> usize
 
 // Where to search an issuer's lane. If the guess is in use and `seen`, the lane there, is the issuer's, the search is
 // over: `from` and `to` are the guess. Else it goes over all lanes in use. The guess may be any number.
-pub fn search_for(issuer: Issuer, guess: usize, seen: Lane, used: usize) -> Search
-    ensures { λ r. ⌜ r ≡ searchOf issuer guess seen used ⌝ }
+pub fn search_range(issuer: Issuer, guess: usize, seen: Lane, used: usize) -> SearchRange
+    ensures { λ r. ⌜ r ≡ searchRangeOf issuer guess seen used ⌝ }
 {
     if guess < used {
         if seen.is_of(issuer) {
-            return Search {
+            return SearchRange {
                 from: guess,
                 to: guess,
             };
         }
     }
-    Search {
+    SearchRange {
         from: 0,
         to: lanes_in_use(used),
     }

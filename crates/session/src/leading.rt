@@ -128,9 +128,9 @@ impl Session {
             };
             let entry = board::cache_index(payment.issuer);
             let guess = cache[entry] as usize;
-            let search = board::search_for(payment.issuer, guess, work.lanes[guess], work.used);
-            let mut at = search.from;
-            while at < search.to && !work.lanes[at].is_of(payment.issuer) {
+            let range = board::search_range(payment.issuer, guess, work.lanes[guess], work.used);
+            let mut at = range.from;
+            while at < range.to && !work.lanes[at].is_of(payment.issuer) {
                 at += 1;
             }
             if Self::LANES <= at {

@@ -33,6 +33,8 @@ pub struct RunResult {
     pub files: u64,
 }
 
+// The limits of a session, from the crates that check them: lanes, bytes of a record, payments and centavos of a file,
+// payments and centavos of the board.
 impl Session {
     pub const LANES: usize = Board::LANES;
 

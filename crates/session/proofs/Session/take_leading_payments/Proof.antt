@@ -19,10 +19,10 @@ use Rattle.session.proofs.Session.take_leading_payments.Statement.{stat
 use Rattle.session.proofs.Session.take_leading_payments.Tie as tie
 
 abbrev Inv-loop2 : tie.InvT-loop2
-Inv-loop2 self bytes work progress cache payment next entry guess search at₀ at = Searched work (payment .issuer) (search .to) at
+Inv-loop2 self bytes work progress cache payment next entry guess range at₀ at = Searched work (payment .issuer) (range .to) at
 
 abbrev μ-loop2 : tie.MeasureT-loop2
-μ-loop2 self bytes work progress cache payment next entry guess search at₀ at = search .to - at
+μ-loop2 self bytes work progress cache payment next entry guess range at₀ at = range .to - at
 
 abbrev Inv-loop : tie.InvT-loop
 Inv-loop self bytes work₀ progress₀ cache₀ work progress cache =
@@ -62,21 +62,21 @@ array-read-guess c = search needs
 cast-guess : tie.Need-cast-guess Inv-loop2 μ-loop2 Inv-loop μ-loop
 cast-guess c = record { fits = omega (arith, c .before .before .before .before .before .loop .inv .2 (c .cache-index .result) .0) }
 
-mul-search-for : tie.Need-mul-search-for Inv-loop2 μ-loop2 Inv-loop μ-loop
-mul-search-for c = record { fits = omega (arith, c .before .before .before .before .before .loop .inv .2 (c .cache-index .result) .0) }
+mul-search-range : tie.Need-mul-search-range Inv-loop2 μ-loop2 Inv-loop μ-loop
+mul-search-range c = record { fits = omega (arith, c .before .before .before .before .before .loop .inv .2 (c .cache-index .result) .0) }
 
-element-copy-out-search-for :
-    tie.Need-element-copy-out-search-for Inv-loop2 μ-loop2 Inv-loop μ-loop
-element-copy-out-search-for c = c .before .before .before .before .before .loop .inv .2 (c .cache-index .result) .0
+element-copy-out-search-range :
+    tie.Need-element-copy-out-search-range Inv-loop2 μ-loop2 Inv-loop μ-loop
+element-copy-out-search-range c = c .before .before .before .before .before .loop .inv .2 (c .cache-index .result) .0
 
-search-for-requires : tie.Need-search-for-requires Inv-loop2 μ-loop2 Inv-loop μ-loop
-search-for-requires c κs = search needs
+search-range-requires : tie.Need-search-range-requires Inv-loop2 μ-loop2 Inv-loop μ-loop
+search-range-requires c κs = search needs
 
 loop2-holds : tie.Need-loop2-holds Inv-loop2 μ-loop2 Inv-loop μ-loop
 loop2-holds c =
     let o = c .before .before .before .before .before .before .before .loop in
     let cached = o .inv .2 (c .before .before .cache-index .result) in
-    cached-starts (o .work) (o .inv .0) (c .before .before .before .before .payment .given .0 .0 .issuer) _ (cached .0) (cached .1) (c .search-for .ensures)
+    cached-starts (o .work) (o .inv .0) (c .before .before .before .before .payment .given .0 .0 .issuer) _ (cached .0) (cached .1) (c .search-range .ensures)
 
 mul-is-of : tie.Need-mul-is-of Inv-loop2 μ-loop2 Inv-loop μ-loop
 mul-is-of c = search needs
@@ -98,7 +98,7 @@ loop2-again c =
     let l = c .before .before .before .before .before .loop2 in
     let found = c .before .before .before .before .before .before in
     let o = found .before .before .before .before .before .before .before .loop in
-    search-on (o .work) (o .inv .0) (found .before .before .before .before .payment .given .0 .0 .issuer) (found .search-for .result .to) (l .at) (l .inv) (c .before .before .before .if1 .taken) (sym (c .before .is-of .ensures) ∙ not-true _ (c .if2 .taken))
+    search-on (o .work) (o .inv .0) (found .before .before .before .before .payment .given .0 .0 .issuer) (found .search-range .result .to) (l .at) (l .inv) (c .before .before .before .if1 .taken) (sym (c .before .is-of .ensures) ∙ not-true _ (c .if2 .taken))
 
 mul-post-at : tie.Need-mul-post-at Inv-loop2 μ-loop2 Inv-loop μ-loop
 mul-post-at c = search needs
@@ -137,7 +137,7 @@ loop-again : tie.Need-loop-again Inv-loop2 μ-loop2 Inv-loop μ-loop
 loop-again c =
     let l = c .before .before .before .before .before .before .before .before .before .before .loop2 in
     let searched = c .before .before .before .before .before .before .before .before .before .before .before in
-    let to = searched .search-for .result .to in
+    let to = searched .search-range .result .to in
     let start = searched .before .before .before .before .before .before .before in
     let o = start .loop in
     let read = searched .before .before .before .before in
@@ -183,9 +183,9 @@ take-leading-payments-spec =
     cache-index-requires
     array-read-guess
     cast-guess
-    mul-search-for
-    element-copy-out-search-for
-    search-for-requires
+    mul-search-range
+    element-copy-out-search-range
+    search-range-requires
     loop2-holds
     mul-is-of
     element-copy-out-is-of
