@@ -22,7 +22,7 @@ use Rattle.writer.specs.declared.Stage.the-variants as stage
 use Rattle.writer.specs.declared.Writer.{Writer}
 use Rattle.writer.specs.Writers.{freshWriter, writerExpects, callAnswer, headerAnswer, headerBytes, paymentAnswer}
 use Rattle.writer.specs.Writers.{paymentWritten, countBytes, trailerAnswer, trailerBytes}
-use Rattle.writer.proofs.Doors.{door-room}
+use Rattle.writer.proofs.Calls.{call-size}
 use Rattle.ledger.specs.Ledgers.{Step, taking}
 use Rattle.ledger.specs.Promises.{answersOf}
 use Rattle.ledger.specs.WholeFiles.{AllAccepted}
@@ -55,7 +55,7 @@ through w r given size rest e =
     let order = require (writerExpects (w .stage) r) NotExpected 1 in
     let called = then-accepts (callAnswer w r given size) rest .0 e .0 in
     let expected = then-accepts lengths order .0 called .1 in
-    (door-room w r given size called, asked-accepts (writerExpects (w .stage) r) NotExpected 1 .0 expected)
+    (call-size w r given size called, asked-accepts (writerExpects (w .stage) r) NotExpected 1 .0 expected)
 
 expected :
     (w : Writer) (call : Call) → answerTo w call ≡ Accepted

@@ -3,7 +3,8 @@ use Rattle.answer.proofs.Refusals.{numbers-differ, zero-is-accepted}
 use Rattle.answer.proofs.Orders.{then-refuses, first-refuses}
 use Rattle.decimal.proofs.Bytes.{each-refuses}
 use Rattle.barcode.proofs.RoundTrips.{decoded-answers, fields-are-its-places, built-is-read}
-use Rattle.barcode.proofs.RoundTrips.{fields-within-ranges-build, code-is-its-fields}
+use Rattle.barcode.proofs.RoundTrips.{code-is-its-fields}
+use Rattle.barcode.proofs.Building.{fields-within-ranges-build}
 use Rattle.line.proofs.RoundTrips.{line-is-boxes-and-code, fields-give-a-line}
 use Rattle.line.proofs.RoundTrips.{code-to-line-and-back, line-to-code-and-back, line-is-its-fields}
 use Rattle.layout.proofs.Layouts.{fields-cover, record-is-its-fields, mark-names, given-lengths}
@@ -22,15 +23,15 @@ use Rattle.typos.proofs.Pieces.{boxes-are-numbered}
 use Rattle.typos.proofs.OneTen.{one-changed-digit-is-refused}
 use Rattle.typos.proofs.Exchange.{exchange-of-neighbours}
 use Rattle.typos.proofs.OneEleven.{one-changed-digit-under-eleven}
-use Rattle.typos.proofs.Samples.{directions-may-differ, borders-hold, segment-may-slip, kind-may-slip}
-use Rattle.ledger.proofs.Agreement.{session-agrees, answers-are-the-books, next-answer-is-the-books}
+use Rattle.typos.proofs.Samples.{directions-may-differ, borders-hold, segment-typo-passes, kind-typo-passes}
+use Rattle.ledger.proofs.Agreement.{session-agrees, answers-are-the-ledgers, next-answer-is-the-ledgers}
 use Rattle.ledger.proofs.Sessions.{true-trailers-only, only-trailers-show, nothing-shows-before, trailers-show-all}
 use Rattle.ledger.proofs.Sessions.{abandon-keeps-board, abandon-drops-file, abandon-nothing}
 use Rattle.ledger.proofs.Sessions.{finish-answers, finish-keeps-session}
 use Rattle.ledger.proofs.Shown.{lanes-are-the-payments, lanes-in-order, each-lane-is-exact, no-issuer-has-two-lanes}
 use Rattle.ledger.proofs.Shown.{sums-are-the-records, totals-are-the-records, within-limits}
 use Rattle.session.proofs.Runs.{run-is-its-takes}
-use Rattle.ledger.proofs.Runs.{run-is-the-books}
+use Rattle.ledger.proofs.Runs.{run-is-the-ledgers}
 use Rattle.ledger.proofs.WholeFiles.{file-accepted, file-posted, fresh-session-accepts, fresh-session-shows}
 use Rattle.ledger.proofs.WrittenFiles.{closed-file-is-whole, closed-file-is-accepted, fields-write-the-file}
 use Rattle.promises.specs.Demands.{Demand1, Demand2, Demand3, Promised}
@@ -88,7 +89,7 @@ demand-2 =
         written-is-accepted,
         trailer-shows-the-figures,
       );
-      answers = (session-agrees, answers-are-the-books, next-answer-is-the-books, run-is-the-books);
+      answers = (session-agrees, answers-are-the-ledgers, next-answer-is-the-ledgers, run-is-the-ledgers);
       lanes = (lanes-are-the-payments, lanes-in-order, each-lane-is-exact, no-issuer-has-two-lanes);
       sums = (sums-are-the-records, totals-are-the-records);
       together = (only-trailers-show, nothing-shows-before, trailers-show-all);
@@ -105,7 +106,7 @@ demand-3 =
       exchanged = exchange-of-neighbours;
       changedEleven = one-changed-digit-under-eleven;
       real = (p5-is-an-exchange, p9-is-a-change, directions-may-differ, borders-hold);
-      beyond = (segment-may-slip, kind-may-slip);
+      beyond = (segment-typo-passes, kind-typo-passes);
     }
 
 pub promised : Promised

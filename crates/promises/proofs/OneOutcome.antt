@@ -23,6 +23,12 @@ value :
     → Gives w (both w (says w (r ≡ x)) (says w (r′ ≡ x))) ((r ≡ r′) × (left ≡ left))
 value w A L x r r′ left = one w (r ≡ x) (r′ ≡ x) ((r ≡ r′) × (left ≡ left)) (λ p p′. (same p p′, refl))
 
+-- the same with a bound behind the equation
+value-bounded :
+    (w : World) (A L : Type 0) (x r r′ : A) (left : L) (β β′ : Type 0)
+    → Gives w (both w (clauses w (r ≡ x) β) (clauses w (r′ ≡ x) β′)) ((r ≡ r′) × (left ≡ left))
+value-bounded w A L x r r′ left β β′ = two w _ _ _ _ _ (λ p p′. (same (p .0) (p′ .0), refl))
+
 -- What is left of the parameters if one of them is a buffer: its bytes, and nothing of those before and behind it.
 
 abbrev Units : ℕ → Type 0
@@ -86,7 +92,7 @@ of-answer : outcomes.AnswerOutcomes
 of-answer = search value
 
 of-decimal : outcomes.DecimalOutcomes
-of-decimal = search (value, bytes 1 1, answered 2 1)
+of-decimal = search (value, value-bounded, bytes 1 1, answered 2 1)
 
 of-calendar : outcomes.CalendarOutcomes
 of-calendar = search value

@@ -48,12 +48,14 @@ pub record AnswerOutcomes : Type 2 where
   pub answer·Answer·behind : One answer.Answer.behind.ended (λ M. answer.Answer.behind.clauses)
 
 pub record DecimalOutcomes : Type 2 where
+  pub «decimal·in_range» : One decimal.«in_range».ended (λ M. decimal.«in_range».clauses)
   pub decimal·is_of : One decimal.is_of.ended (λ M. decimal.is_of.clauses)
   pub decimal·class_error_bit : One decimal.class_error_bit.ended (λ M. decimal.class_error_bit.clauses)
   pub decimal·all_of : One decimal.all_of.ended (λ M. decimal.all_of.clauses)
   pub decimal·require_class : One decimal.require_class.ended (λ M. decimal.require_class.clauses)
   pub decimal·value : One decimal.value.ended (λ M. decimal.value.clauses)
   pub decimal·number : One decimal.number.ended (λ M. decimal.number.clauses)
+  pub decimal·low_half : One decimal.low_half.ended (λ M. decimal.low_half.clauses)
   pub decimal·low_number : One decimal.low_number.ended (λ M. decimal.low_number.clauses)
   pub decimal·fits_width : One decimal.fits_width.ended (λ M. decimal.fits_width.clauses)
   pub decimal·put : One decimal.put.ended (λ M. decimal.put.clauses)
@@ -72,13 +74,10 @@ pub record ModulusOutcomes : Type 2 where
   pub modulus·sums_of_forty : One modulus.sums_of_forty.ended (λ M. modulus.sums_of_forty.clauses)
 
 pub record BarcodeOutcomes : Type 2 where
-  pub barcode·is_segment : One barcode.is_segment.ended (λ M. barcode.is_segment.clauses)
-  pub barcode·is_kind : One barcode.is_kind.ended (λ M. barcode.is_kind.clauses)
+  pub barcode·issuer_width : One barcode.issuer_width.ended (λ M. barcode.issuer_width.clauses)
   pub barcode·modulus_of_kind : One barcode.modulus_of_kind.ended (λ M. barcode.modulus_of_kind.clauses)
   pub «barcode·check_prefix» : One barcode.«check_prefix».ended (λ M. barcode.«check_prefix».clauses)
   pub barcode·check : One barcode.check.ended (λ M. barcode.check.clauses)
-  pub barcode·check_behind : One barcode.check_behind.ended (λ M. barcode.check_behind.clauses)
-  pub barcode·read_fields : One barcode.read_fields.ended (λ M. barcode.read_fields.clauses)
   pub barcode·accepted_issuer : One barcode.accepted_issuer.ended (λ M. barcode.accepted_issuer.clauses)
   pub barcode·decode : One barcode.decode.ended (λ M. barcode.decode.clauses)
   pub barcode·free_field : OneSeen barcode.free_field.ended (λ M. barcode.free_field.clauses) (λ κs r. now r)
@@ -106,7 +105,6 @@ pub record KindsOutcomes : Type 2 where
   pub kinds·byte_at : One kinds.byte_at.ended (λ M. kinds.byte_at.clauses)
 
 pub record RecordOutcomes : Type 2 where
-  pub record·Decoded·answer : One records.Decoded.answer.ended (λ M. records.Decoded.answer.clauses)
   pub record·decode : One records.decode.ended (λ M. records.decode.clauses)
   pub record·field : OneSeen records.field.ended (λ M. records.field.clauses) (λ κs r. now r)
   pub record·check : One records.check.ended (λ M. records.check.clauses)
@@ -123,10 +121,12 @@ pub record FileOutcomes : Type 2 where
   pub file·File·close : One file.File.close.ended (λ M. file.File.close.clauses)
 
 pub record BoardOutcomes : Type 2 where
+  pub «board·lanes_in_use» : One board.«lanes_in_use».ended (λ M. board.«lanes_in_use».clauses)
+  pub board·cache_index : One board.cache_index.ended (λ M. board.cache_index.clauses)
+  pub board·search_range : One board.search_range.ended (λ M. board.search_range.clauses)
   pub board·Lane·is_of : One board.Lane.is_of.ended (λ M. board.Lane.is_of.clauses)
   pub board·Slot·post : One board.Slot.post.ended (λ M. board.Slot.post.clauses)
   pub board·Board·new : One board.Board.new.ended (λ M. board.Board.new.clauses)
-  pub board·Board·find : One board.Board.find.ended (λ M. board.Board.find.clauses)
   pub board·Board·post : One board.Board.post.ended (λ M. board.Board.post.clauses)
 
 pub record SessionOutcomes : Type 2 where
