@@ -17,9 +17,9 @@ use Rattle.answer.specs.Orders.{require, _then_, firstRefusal, Each, Sto
 pub not-both : {X : Type 0} (a : Answer) {why : Reason} {p : ℕ} → a ≡ Refused why p → a ≡ Accepted → X
 not-both a e f = let z : _≡_ {A = ℕ} 0 1 = cc in absurd (omega arith)
 
-pub asked-accepts : RequireAccepts
-asked-accepts true why p = (λ e. refl, λ e. refl)
-asked-accepts false why p = (λ e. cc, λ e. cc)
+pub require-accepts : RequireAccepts
+require-accepts true why p = (λ e. refl, λ e. refl)
+require-accepts false why p = (λ e. cc, λ e. cc)
 
 pub then-accepts : ThenAccepts
 then-accepts Accepted b = (λ e. (refl, e), λ h. h .1)
@@ -98,9 +98,9 @@ pub moved-twice : MovedTwice
 moved-twice move on Accepted = refl
 moved-twice move on (Refused why p) = refl
 
-pub behind-is-held : BehindIsExact
-behind-is-held n Accepted h = refl
-behind-is-held n (Refused why p) h =
+pub behind-is-exact : BehindIsExact
+behind-is-exact n Accepted h = refl
+behind-is-exact n (Refused why p) h =
     let fits : (t : Bool) → capped (cond t 0 (p + n)) ≡ cond t 0 (p + n) =
     λ t. elim t as (λ (b : Bool). capped (cond b 0 (p + n)) ≡ cond b 0 (p + n)) [ true ↦ omega arith | false ↦ omega arith ] in
     ap (Refused why) (fits (eqb p 0))
@@ -118,9 +118,9 @@ seen-if-accepted see Accepted new old = refl
 seen-if-accepted see (Refused why p) new old = refl
 
 -- no place is past n where no single test has one past n
-pub asked-place : (n : ℕ) (t : Bool) (why : Reason) (p : ℕ) → p ≤ n → answerPlace (require t why p) ≤ n
-asked-place n true why p h = omega arith
-asked-place n false why p h = h
+pub require-place : (n : ℕ) (t : Bool) (why : Reason) (p : ℕ) → p ≤ n → answerPlace (require t why p) ≤ n
+require-place n true why p h = omega arith
+require-place n false why p h = h
 
 pub then-place : (n : ℕ) (a b : Answer) → answerPlace a ≤ n → answerPlace b ≤ n → answerPlace (a then b) ≤ n
 then-place n Accepted b h k = k

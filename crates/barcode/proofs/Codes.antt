@@ -16,7 +16,7 @@ use Rattle.answer.specs.declared.Answer.{Answer}
 use Rattle.answer.specs.declared.Answer.the-variants.{Accepted, Refused}
 use Rattle.answer.specs.Refusals.{answerPlace}
 use Rattle.answer.specs.Orders.{require, _then_, ifAccepted}
-use Rattle.answer.proofs.Orders.{asked-accepts, then-accepts, asked-place, then-place}
+use Rattle.answer.proofs.Orders.{require-accepts, then-accepts, require-place, then-place}
 use Rattle.answer.proofs.Steps.{passed}
 use Rattle.decimal.specs.declared.Class.the-variants.{Digit}
 use Rattle.decimal.specs.Bytes.{isOf, all, eachIs}
@@ -69,8 +69,8 @@ first-three-place l =
     let a = require (eqb (digitAt 1 l) product) WrongProduct 1 in
     let b = require (isSegment (digitAt 2 l)) UnknownSegment 2 in
     let c = require (isKind (digitAt 3 l)) UnknownKind 3 in
-    then-place 45 a (b then c) (asked-place 45 (eqb (digitAt 1 l) product) WrongProduct 1 (omega arith))
-    (then-place 45 b c (asked-place 45 (isSegment (digitAt 2 l)) UnknownSegment 2 (omega arith)) (asked-place 45 (isKind (digitAt 3 l)) UnknownKind 3 (omega arith)))
+    then-place 45 a (b then c) (require-place 45 (eqb (digitAt 1 l) product) WrongProduct 1 (omega arith))
+    (then-place 45 b c (require-place 45 (isSegment (digitAt 2 l)) UnknownSegment 2 (omega arith)) (require-place 45 (isKind (digitAt 3 l)) UnknownKind 3 (omega arith)))
 
 pub code-place : (code : List ℕ) → answerPlace (barcodeAnswer code) ≤ 45
 code-place code = go (eqb (length code) 44) refl
@@ -80,7 +80,7 @@ code-place code = go (eqb (length code) 44) refl
     go true e =
         then-place 45 (prefixAnswer code) (require (generalRight code) WrongGeneralCheck 4) (then-place 45 (eachIs (isOf Digit) NoDigit 1 code) (firstThreeAnswer code) (omega (arith, each-place (isOf Digit) NoDigit 1 code, eqb-true (length code) 44 e))
         (first-three-place code))
-        (asked-place 45 (generalRight code) WrongGeneralCheck 4 (omega arith))
+        (require-place 45 (generalRight code) WrongGeneralCheck 4 (omega arith))
 
 pub issuer-end-range : (s : ℕ) → (19 ≤ issuerEnd s) × (issuerEnd s ≤ 23)
 issuer-end-range s = go (eqb s 6)
@@ -98,7 +98,7 @@ first-three-accepts l = (
   λ e.
       let a = passed (eqb (digitAt 1 l) product) WrongProduct 1 e in
       let b = passed (isSegment (digitAt 2 l)) UnknownSegment 2 (a .1) in
-      (eqb-true (digitAt 1 l) product (a .0), b .0, asked-accepts (isKind (digitAt 3 l)) UnknownKind 3 .0 (b .1)),
+      (eqb-true (digitAt 1 l) product (a .0), b .0, require-accepts (isKind (digitAt 3 l)) UnknownKind 3 .0 (b .1)),
   λ h. rw (eq-eqb (digitAt 1 l) product (h .0), h .1, h .2),
 )
 
@@ -123,7 +123,7 @@ good code e =
       long = eqb-true _ _ (l .0);
       digits = prefix .0;
       first-three = prefix .1;
-      general = asked-accepts (generalRight code) WrongGeneralCheck 4 .0 (body .1);
+      general = require-accepts (generalRight code) WrongGeneralCheck 4 .0 (body .1);
     }
 
 pub accepted : (code : List ℕ) → Good code → barcodeAnswer code ≡ Accepted

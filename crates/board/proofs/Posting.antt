@@ -15,7 +15,7 @@ use Rattle.answer.specs.declared.Reason.the-variants.{BoardFull, BoardTotalPass
 use Rattle.answer.specs.declared.Answer.{Answer}
 use Rattle.answer.specs.declared.Answer.the-variants.{Accepted, Refused}
 use Rattle.answer.specs.Orders.{require, ifAccepted}
-use Rattle.answer.proofs.Orders.{asked-accepts, then-accepts, refusal-keeps}
+use Rattle.answer.proofs.Orders.{require-accepts, then-accepts, refusal-keeps}
 use Rattle.board.specs.declared.Tally.{Tally}
 use Rattle.board.specs.declared.Lane.{Lane}
 use Rattle.board.specs.declared.Board.{Board}
@@ -76,8 +76,8 @@ fit b p =
     let one = require (ltb (s .at) mostLanes) BoardFull issuerPlace in
     let sums = fits (grownSlot s p .lane .tally) && fits (grownSlot s p .total) in
     let two = then-accepts one (require sums BoardTotalPassed receivedPlace) in
-    let first = asked-accepts (ltb (s .at) mostLanes) BoardFull issuerPlace in
-    let second = asked-accepts sums BoardTotalPassed receivedPlace in
+    let first = require-accepts (ltb (s .at) mostLanes) BoardFull issuerPlace in
+    let second = require-accepts sums BoardTotalPassed receivedPlace in
     let both = and-eq-true-iff (fits (grownSlot s p .lane .tally)) (fits (grownSlot s p .total)) in (
       λ e.
           let h = both .0 (second .0 (two .0 e .1)) in

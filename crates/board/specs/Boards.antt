@@ -18,7 +18,8 @@ use Rattle.board.specs.declared.Board.{Board}
 use Rattle.board.specs.declared.Slot.{Slot}
 use Rattle.board.specs.declared.SlotResult.{SlotResult}
 use Rattle.board.specs.declared.PostResult.{PostResult}
-use Rattle.board.specs.Lanes.{mostLanes, emptyTally, plus, fits, isLaneOf, grownLane, placed, lanesFrom, tallySum, issuersOf, isAmong, Distinct}
+use Rattle.board.specs.Lanes.{mostLanes, emptyTally, plus, fits, isLaneOf, grownLane, placed, lanesFrom}
+use Rattle.board.specs.Lanes.{tallySum, issuersOf, isAmong, Distinct}
 
 -- the array's entry where no lane is in use
 abbrev pub blank : Lane

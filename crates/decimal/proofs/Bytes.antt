@@ -16,7 +16,7 @@ use Rattle.answer.specs.declared.Answer.{Answer}
 use Rattle.answer.specs.declared.Answer.the-variants.{Accepted, Refused}
 use Rattle.answer.specs.Refusals.{answerPlace}
 use Rattle.answer.specs.Orders.{require, movedBy}
-use Rattle.answer.proofs.Orders.{asked-accepts, then-accepts, moved-then, asked-place, then-place}
+use Rattle.answer.proofs.Orders.{require-accepts, then-accepts, moved-then, require-place, then-place}
 use Rattle.decimal.specs.Bytes.{all, eachIs, AllJoins, AllOfPart, EachAccepts, EachRefuses, EachMoves}
 
 pub all-joins : AllJoins
@@ -43,7 +43,7 @@ all-set ok (b ∷ bs) (suc i) d h e = let both = and-eq-true-iff (ok b) (all ok 
 pub each-accepts : EachAccepts
 each-accepts ok why p [] = (λ e. refl, λ e. refl)
 each-accepts ok why p (b ∷ bs) =
-    let here = asked-accepts (ok b) why p in
+    let here = require-accepts (ok b) why p in
     let row = then-accepts (require (ok b) why p) (eachIs ok why (suc p) bs) in
     let rest = each-accepts ok why (suc p) bs in
     let both = and-eq-true-iff (ok b) (all ok bs) in
@@ -71,7 +71,7 @@ each-moves ok why p by (b ∷ bs) =
 pub each-place : (ok : ℕ → Bool) (why : Reason) (p : ℕ) (bs : List ℕ) → answerPlace (eachIs ok why p bs) ≤ p + length bs
 each-place ok why p [] = omega arith
 each-place ok why p (b ∷ bs) =
-    then-place (p + suc (length bs)) (require (ok b) why p) (eachIs ok why (suc p) bs) (asked-place (p + suc (length bs)) (ok b) why p (omega arith))
+    then-place (p + suc (length bs)) (require (ok b) why p) (eachIs ok why (suc p) bs) (require-place (p + suc (length bs)) (ok b) why p (omega arith))
     (omega (arith, each-place ok why (suc p) bs))
 
 -- A loop at byte i, by what is known of the bytes from i on: the byte passes, it fails, there is none.

@@ -68,8 +68,8 @@ capped-small n h = omega arith
 capped-large : (n : ℕ) → largestNumber ≤ n → capped n ≡ largestNumber
 capped-large n h = omega arith
 
-pub nineteen-are-held : NineteenFit
-nineteen-are-held bs h =
+pub nineteen-fit : NineteenFit
+nineteen-fit bs h =
     let p : 10 ^ length bs ≤ 10 ^ 19 = pow-le-pow-right (lit< tt) h in
     capped-small (numberOf bs) (omega (arith, number-fits bs))
 

@@ -243,7 +243,8 @@ pub fn put(piece: &[u8], out: &mut [u8], at: usize)
 // place 1, where the number has more digits. Accepted with nothing written where `width` bytes do not fit.
 pub fn put_number(n: u64, width: usize, out: &mut [u8], at: usize) -> Answer
     ensures answer { λ r. ⌜ r ≡ widthAnswer width n ⌝ }
-    ensures bytes { λ r. ⌜ now (out .exit) ≡ ifAccepted r (putAt at (digitsOf width n) (now (out .entry))) (now (out .entry)) ⌝ }
+    ensures bytes { λ r.
+        ⌜ now (out .exit) ≡ ifAccepted r (putAt at (digitsOf width n) (now (out .entry))) (now (out .entry)) ⌝ }
 {
     if !fits_width(n, width) {
         return Answer::Refused(Reason::TooWide, 1);

@@ -15,7 +15,7 @@ use Rattle.answer.specs.declared.Answer.{Answer}
 use Rattle.answer.specs.declared.Answer.the-variants.{Accepted, Refused}
 use Rattle.answer.specs.Refusals.{answerPlace}
 use Rattle.answer.specs.Orders.{movedBy, behind, cappedBehind}
-use Rattle.answer.proofs.Orders.{behind-is-held}
+use Rattle.answer.proofs.Orders.{behind-is-exact}
 use Rattle.decimal.specs.Places.{widthOf}
 use Rattle.layout.specs.declared.Field.{Field}
 use Rattle.layout.specs.declared.Kind.the-variants as kind
@@ -135,7 +135,7 @@ module _ {f : Field} {fs : List Field} {given amounts made : List ℕ} {done at 
       refuses {b} {why} {p} e2 h =
           let z : fieldMadeAnswer f (drop at given) (drop used amounts) ≡ Refused why (behind done p) =
           ap (movedBy (behind (f .first - 1))) (sym answered-as ∙ e2) ∙ ap (λ (k : ℕ). Refused why (behind k p)) front in
-          h ∙ behind-is-held done a (omega (arith, near)) ∙ rw e2 (rw z at (m .answer))
+          h ∙ behind-is-exact done a (omega (arith, near)) ∙ rw e2 (rw z at (m .answer))
 
       pub step : {n u : ℕ} {ys : List ℕ} → a ≡ Accepted → n ≡ at + t → u ≡ cond (isMoney (f .kind)) (used + 1) used
           → ys ≡ writtenOf (f .kind) (length (take (f .last - done) (drop done made))) (take (at + t - at) (drop at given)) x

@@ -12,7 +12,7 @@ use lib.Seq.{length-take-le, take-all, take-at, drop-at, drop-drop, take-take}
 use Rattle.answer.specs.declared.Reason.the-variants.{NoDigit, FixedDiffers, TooWide}
 use Rattle.answer.specs.declared.Answer.the-variants.{Accepted}
 use Rattle.answer.specs.Orders.{_then_, firstRefusal, movedBy, behind}
-use Rattle.answer.proofs.Orders.{asked-accepts, then-accepts, moved-accepts}
+use Rattle.answer.proofs.Orders.{require-accepts, then-accepts, moved-accepts}
 use Rattle.decimal.specs.declared.Class.the-variants.{Digit, Blank}
 use Rattle.decimal.specs.Bytes.{isOf, all}
 use Rattle.decimal.specs.Numbers.{numberOf, digitsOf, widthAnswer}
@@ -44,15 +44,15 @@ blanks (b ∷ bs) t =
 written-back : (k : Kind) (w : ℕ) (bs : List ℕ) → length bs ≡ w → fitsKind k w ≡ true → kindAnswer k bs ≡ Accepted
     → writtenOf k w (take (givenOf k w .to - givenOf k w .from) (drop (givenOf k w .from) bs)) (numberOf bs) ≡ bs
 unfolding kindAnswer isService
-written-back (kind.Mark byte) w bs n t a = sym (same-equal bs (byte ∷ []) (asked-accepts (same bs (byte ∷ [])) FixedDiffers 1 .0 a))
-written-back kind.Version w bs n t a = sym (same-equal bs version (asked-accepts (same bs version) FixedDiffers 1 .0 a))
+written-back (kind.Mark byte) w bs n t a = sym (same-equal bs (byte ∷ []) (require-accepts (same bs (byte ∷ [])) FixedDiffers 1 .0 a))
+written-back kind.Version w bs n t a = sym (same-equal bs version (require-accepts (same bs version) FixedDiffers 1 .0 a))
 written-back kind.Service w bs n t a =
-    let s = asked-accepts (isSpelling (getD bs 1 0) && same bs (serviceOf (getD bs 1 0))) FixedDiffers 1 .0 a in
+    let s = require-accepts (isSpelling (getD bs 1 0) && same bs (serviceOf (getD bs 1 0))) FixedDiffers 1 .0 a in
     let e = same-equal bs (serviceOf (getD bs 1 0)) (and-eq-true-iff (isSpelling (getD bs 1 0)) (same bs (serviceOf (getD bs 1 0))) .0 s .1) in
     let g : getD (take 1 (drop 1 bs)) 0 0 ≡ getD bs 1 0 = ap (λ (l : List ℕ). getD (take 1 (drop 1 l)) 0 0) e in
     ap serviceOf g ∙ sym e
 written-back kind.Blank w bs n t a =
-    ap (λ (m : ℕ). replicate m 32) (sym n) ∙ blanks bs (asked-accepts (all (isOf Blank) bs) FixedDiffers 1 .0 a)
+    ap (λ (m : ℕ). replicate m 32) (sym n) ∙ blanks bs (require-accepts (all (isOf Blank) bs) FixedDiffers 1 .0 a)
 written-back kind.Text w bs n t a = take-all (w - 0) bs (omega arith)
 written-back kind.Digits w bs n t a = take-all (w - 0) bs (omega arith)
 written-back kind.Money w bs n t a =
@@ -66,7 +66,7 @@ written-back kind.Form w bs n t a = take-all (w - 0) bs (omega arith)
 number-fits-back : (k : Kind) (w : ℕ) (bs : List ℕ) → length bs ≡ w → cond (isMoney k) (widthAnswer w (numberOf bs)) Accepted ≡ Accepted
 number-fits-back k w bs n =
     let h : numberOf bs < 10 ^ w = rw (sym n) (number-fits bs) in
-    let a : widthAnswer w (numberOf bs) ≡ Accepted = asked-accepts (ltb (numberOf bs) (10 ^ w)) TooWide 1 .1 (lt-ltb (numberOf bs) (10 ^ w) h) in
+    let a : widthAnswer w (numberOf bs) ≡ Accepted = require-accepts (ltb (numberOf bs) (10 ^ w)) TooWide 1 .1 (lt-ltb (numberOf bs) (10 ^ w) h) in
     elim (isMoney k) as (λ (b : Bool). cond b (widthAnswer w (numberOf bs)) Accepted ≡ Accepted) [ true ↦ a | false ↦ refl ]
 
 -- a part of a part

@@ -13,7 +13,7 @@ use Rattle.answer.specs.declared.Answer.{Answer}
 use Rattle.answer.specs.declared.Answer.the-variants.{Accepted, Refused}
 use Rattle.answer.specs.Refusals.{answerPlace}
 use Rattle.answer.specs.Orders.{_then_, ifAccepted}
-use Rattle.answer.proofs.Orders.{accepted-takes, asked-place, then-place}
+use Rattle.answer.proofs.Orders.{accepted-takes, require-place, then-place}
 use Rattle.decimal.specs.declared.Class.the-variants.{Digit}
 use Rattle.decimal.specs.Bytes.{isOf}
 use Rattle.decimal.specs.Numbers.{digitsOf, widthAnswer}
@@ -105,6 +105,6 @@ pub put-place : (k : Kind) (w : ℕ) (piece : List ℕ) (n : ℕ) → length (wr
 unfolding writtenAnswer
 put-place k w piece n e h =
     let wide : (t : Bool) → answerPlace (cond t (widthAnswer w n) Accepted) ≤ 151 =
-    λ t. elim t as (λ (b : Bool). answerPlace (cond b (widthAnswer w n) Accepted) ≤ 151) [ true ↦ asked-place 151 (ltb n (10 ^ w)) TooWide 1 (omega arith) | false ↦ omega arith ] in
+    λ t. elim t as (λ (b : Bool). answerPlace (cond b (widthAnswer w n) Accepted) ≤ 151) [ true ↦ require-place 151 (ltb n (10 ^ w)) TooWide 1 (omega arith) | false ↦ omega arith ] in
     then-place 151 (cond (isMoney k) (widthAnswer w n) Accepted) (kindAnswer k (writtenOf k w piece n)) (wide (isMoney k))
     (kind-place k (writtenOf k w piece n) (omega arith))

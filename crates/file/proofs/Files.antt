@@ -14,7 +14,7 @@ use Rattle.answer.specs.declared.Reason.the-variants.{CountDiffers, TotalDiffer
 use Rattle.answer.specs.declared.Answer.{Answer}
 use Rattle.answer.specs.declared.Answer.the-variants.{Accepted, Refused}
 use Rattle.answer.specs.Orders.{require, _then_, ifAccepted}
-use Rattle.answer.proofs.Orders.{asked-accepts, then-accepts, refusal-keeps}
+use Rattle.answer.proofs.Orders.{require-accepts, then-accepts, refusal-keeps}
 use Rattle.file.specs.declared.File.{File}
 use Rattle.file.specs.declared.Figures.{Figures}
 use Rattle.file.specs.Files.{mostPayments, mostCentavos, freshFile, fileAnswer, fileWith, figuresAnswer, closingAnswer, FileWithin, fileAnswers, fileWithAll, receivedOf, FileAccepts, RefusalKeepsFile, StaysWithin, FreshFileTakes, FreshFileHolds, OneRightTrailer, ClosingAccepts, FiguresFit}
@@ -23,8 +23,8 @@ use Rattle.file.specs.Files.{mostPayments, mostCentavos, freshFile, file
 both : (s t : Bool) (v w : Reason) (p q : ℕ) → (require s v p then require t w q ≡ Accepted) ↔ ((s ≡ true) × (t ≡ true))
 both s t v w p q =
     let two = then-accepts (require s v p) (require t w q) in
-    let a = asked-accepts s v p in
-    let b = asked-accepts t w q in
+    let a = require-accepts s v p in
+    let b = require-accepts t w q in
     (λ e. (a .0 (two .0 e .0), b .0 (two .0 e .1)), λ h. two .1 (a .1 (h .0), b .1 (h .1)))
 
 pub file-accepts : FileAccepts

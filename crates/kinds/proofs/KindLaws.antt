@@ -14,7 +14,7 @@ use Rattle.answer.specs.declared.Reason.the-variants.{NoDigit, NoText, FixedDif
 use Rattle.answer.specs.declared.Answer.the-variants.{Accepted, Refused}
 use Rattle.answer.specs.Refusals.{answerPlace}
 use Rattle.answer.specs.Orders.{require, _then_}
-use Rattle.answer.proofs.Orders.{asked-place, then-place}
+use Rattle.answer.proofs.Orders.{require-place, then-place}
 use Rattle.decimal.specs.declared.Class.the-variants as class
 use Rattle.decimal.specs.declared.Class.the-variants.{Digit}
 use Rattle.decimal.specs.Bytes.{isOf, all, eachIs}
@@ -77,7 +77,7 @@ no-date bs e = rw e
 
 -- no place of an answer is far past a field of a record
 at-first : (t : Bool) (why : Reason) → answerPlace (require t why 1) ≤ 151
-at-first t why = asked-place 151 t why 1 (omega arith)
+at-first t why = require-place 151 t why 1 (omega arith)
 
 in-part : (ok : ℕ → Bool) (why : Reason) (bs : List ℕ) → length bs ≤ 150 → answerPlace (eachIs ok why 1 bs) ≤ 151
 in-part ok why bs h = omega (arith, each-place ok why 1 bs)

@@ -12,7 +12,8 @@ use Rattle.decimal.specs.Bytes.{within, isOf, all, eachIs}
 use Rattle.calendar.specs.Dates.{dateOf, isFound}
 use Rattle.barcode.specs.Codes.{barcodeAnswer}
 use Rattle.layout.specs.declared.Kind.{Kind}
-use Rattle.layout.specs.declared.Kind.the-variants.{Mark, Version, Service, Blank, Text, Digits, Money, Date, Barcode, Capture, Form}
+use Rattle.layout.specs.declared.Kind.the-variants.{Mark, Version, Service, Blank, Text, Digits, Money, Date, Barcode}
+use Rattle.layout.specs.declared.Kind.the-variants.{Capture, Form}
 
 -- two lists of bytes are the same
 abbrev pub same : List ℕ → List ℕ → Bool

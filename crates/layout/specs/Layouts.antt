@@ -9,7 +9,8 @@ use Rattle.decimal.specs.Places.{Stretch, widthOf, gather}
 use Rattle.layout.specs.declared.Field.{Field}
 use Rattle.layout.specs.declared.Given.{Given}
 use Rattle.layout.specs.declared.Kind.{Kind}
-use Rattle.layout.specs.declared.Kind.the-variants.{Mark, Version, Service, Blank, Text, Digits, Money, Date, Barcode, Capture, Form}
+use Rattle.layout.specs.declared.Kind.the-variants.{Mark, Version, Service, Blank, Text, Digits, Money, Date}
+use Rattle.layout.specs.declared.Kind.the-variants.{Barcode, Capture, Form}
 use Rattle.layout.specs.declared.MaybeRecord.{MaybeRecord}
 use Rattle.layout.specs.declared.MaybeRecord.the-variants.{Is, Other}
 use Rattle.layout.specs.declared.Record.{Record}

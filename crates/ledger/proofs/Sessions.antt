@@ -14,7 +14,7 @@ use Rattle.answer.specs.declared.Answer.{Answer}
 use Rattle.answer.specs.declared.Answer.the-variants.{Accepted, Refused}
 use Rattle.answer.specs.Refusals.{answerNumber, answerPlace}
 use Rattle.answer.specs.Orders.{require, ifAccepted}
-use Rattle.answer.proofs.Orders.{asked-accepts, then-accepts, refusal-keeps}
+use Rattle.answer.proofs.Orders.{require-accepts, then-accepts, refusal-keeps}
 use Rattle.answer.proofs.Steps.{passed}
 use Rattle.layout.specs.declared.MaybeRecord.{MaybeRecord}
 use Rattle.layout.specs.declared.MaybeRecord.the-variants.{Is, Other}
@@ -41,8 +41,8 @@ figures-accept f rec =
     let count = eqb (trailerShown rec .count) (length (f .payments) + 2) in
     let total = eqb (trailerShown rec .total) (receivedIn (f .payments)) in
     let two = then-accepts (require count CountDiffers countPlace) (require total TotalDiffers totalPlace) in
-    let one = asked-accepts count CountDiffers countPlace in
-    let other = asked-accepts total TotalDiffers totalPlace in (
+    let one = require-accepts count CountDiffers countPlace in
+    let other = require-accepts total TotalDiffers totalPlace in (
       λ e. (eqb-true _ _ (one .0 (two .0 e .0)), eqb-true _ _ (other .0 (two .0 e .1))),
       λ h. two .1 (one .1 (eq-eqb _ _ (h .0)), other .1 (eq-eqb _ _ (h .1))),
     )

@@ -20,7 +20,9 @@ use Rattle.board.specs.Lanes.{mostLanes, limit, lanesFrom, sumBy, each, issuers
 use Rattle.board.specs.Boards.{lanesOf, SoundBoard}
 use Rattle.session.specs.declared.Session.{Session}
 use Rattle.session.specs.Sessions.{freshSession, takeAnswer, takeOf, abandonOf, finishOf}
-use Rattle.ledger.specs.Ledgers.{Filed, Ledger, freshLedger, paymentRecords, openRecords, lanesOfRecords, receivedIn, ofIssuer, ledgerAnswer, Step, taking, abandoning, ledgerAfter, ledgerAnswers}
+use Rattle.ledger.specs.Ledgers.{Filed, Ledger, freshLedger, paymentRecords, openRecords, lanesOfRecords}
+use Rattle.ledger.specs.Ledgers.{receivedIn, ofIssuer, ledgerAnswer, Step, taking, abandoning, ledgerAfter}
+use Rattle.ledger.specs.Ledgers.{ledgerAnswers}
 
 -- The same steps through a session.
 

@@ -11,7 +11,8 @@ use Rattle.board.specs.declared.Board.{Board}
 use Rattle.board.specs.Lanes.{mostLanes, lanesFrom}
 use Rattle.session.specs.Sessions.{freshSession, closedAt}
 use Rattle.writer.specs.declared.Writer.{Writer}
-use Rattle.writer.specs.Writers.{freshWriter, headerAnswer, headerWritten, headerBytes, paymentAnswer, paymentWritten, paymentBytes, trailerAnswer, trailerBytes}
+use Rattle.writer.specs.Writers.{freshWriter, headerAnswer, headerWritten, headerBytes, paymentAnswer, paymentWritten}
+use Rattle.writer.specs.Writers.{paymentBytes, trailerAnswer, trailerBytes}
 use Rattle.ledger.specs.Ledgers.{Step, lanesOfRecords}
 use Rattle.ledger.specs.Promises.{answersOf, shownLanes}
 use Rattle.ledger.specs.WholeFiles.{Whole, fileOf, TrueFigures, AllAccepted}

@@ -15,7 +15,7 @@ use Rattle.answer.specs.declared.Reason.the-variants.{WrongLength, WrongBoxChec
 use Rattle.answer.specs.declared.Answer.{Answer}
 use Rattle.answer.specs.declared.Answer.the-variants.{Accepted, Refused}
 use Rattle.answer.specs.Orders.{firstRefusal, Each}
-use Rattle.answer.proofs.Orders.{asked-accepts, then-accepts}
+use Rattle.answer.proofs.Orders.{require-accepts, then-accepts}
 use Rattle.answer.proofs.Steps.{passed}
 use Rattle.decimal.specs.Places.{Stretch, putAt}
 use Rattle.decimal.proofs.Places.{put-next}
@@ -47,7 +47,7 @@ pub boxes-accept : (line : List ℕ) (plan : List Stretch)
     → (firstRefusal (boxAnswer line) plan ≡ Accepted) ↔ Each (λ box. boxRight (modulusOf (digitAt 3 line)) line box ≡ true) plan
 boxes-accept line [] = (λ e. tt, λ h. refl)
 boxes-accept line (b ∷ plan) =
-    let here = asked-accepts (boxRight (modulusOf (digitAt 3 line)) line b) WrongBoxCheck (b .last + 1) in
+    let here = require-accepts (boxRight (modulusOf (digitAt 3 line)) line b) WrongBoxCheck (b .last + 1) in
     let both = then-accepts (boxAnswer line b) (firstRefusal (boxAnswer line) plan) in
     let rest = boxes-accept line plan in
     (λ e. (here .0 (both .0 e .0), rest .0 (both .0 e .1)), λ h. both .1 (here .1 (h .0), rest .1 (h .1)))

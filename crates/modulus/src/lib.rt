@@ -2,7 +2,8 @@
 ghost use mathlib.Core.Path.{_≡_};
 ghost use Prim.Native.Nat.{_-_, _%_, _≤_, _<_};
 ghost use lib.ListN.{length};
-ghost use Rattle.modulus.specs.Checks.{sizeOf, weightOf, productPart, termOf, weightedSum, digitOfRemainder, checkOf};
+ghost use Rattle.modulus.specs.Checks.{sizeOf, weightOf, productPart, termOf, weightedSum, digitOfRemainder};
+ghost use Rattle.modulus.specs.Checks.{checkOf};
 
 mod forty;
 

@@ -10,7 +10,7 @@ use Rattle.answer.specs.declared.Reason.the-variants.{WrongLength, NotExpected}
 use Rattle.answer.specs.declared.Answer.{Answer}
 use Rattle.answer.specs.declared.Answer.the-variants.{Accepted, Refused}
 use Rattle.answer.specs.Orders.{require, _then_, ifAccepted}
-use Rattle.answer.proofs.Orders.{asked-accepts, then-accepts, accepted-takes}
+use Rattle.answer.proofs.Orders.{require-accepts, then-accepts, accepted-takes}
 use Rattle.layout.specs.declared.Record.{Record}
 use Rattle.layout.specs.declared.Record.the-variants.{Header, Payment, Trailer}
 use Rattle.layout.specs.Layouts.{recordLength, givenLength}
@@ -55,7 +55,7 @@ through w r given size rest e =
     let order = require (writerExpects (w .stage) r) NotExpected 1 in
     let called = then-accepts (callAnswer w r given size) rest .0 e .0 in
     let expected = then-accepts lengths order .0 called .1 in
-    (call-size w r given size called, asked-accepts (writerExpects (w .stage) r) NotExpected 1 .0 expected)
+    (call-size w r given size called, require-accepts (writerExpects (w .stage) r) NotExpected 1 .0 expected)
 
 expected :
     (w : Writer) (call : Call) → answerTo w call ≡ Accepted

@@ -11,7 +11,7 @@ use lib.ListN.{length, getD, take, drop}
 use Rattle.answer.specs.declared.Reason.the-variants.{NoDigit, NoText, FixedDiffers, NoDate, UnknownCode}
 use Rattle.answer.specs.declared.Answer.the-variants.{Accepted}
 use Rattle.answer.specs.Orders.{require, _then_}
-use Rattle.answer.proofs.Orders.{asked-accepts, then-accepts}
+use Rattle.answer.proofs.Orders.{require-accepts, then-accepts}
 use Rattle.decimal.specs.declared.Class.the-variants.{Digit, Blank, Text}
 use Rattle.decimal.specs.Bytes.{isOf, all, within, eachIs}
 use Rattle.decimal.proofs.Bytes.{each-accepts}
@@ -39,15 +39,15 @@ digits bs = each-accepts (isOf Digit) NoDigit 1 bs
 
 pub blank : (bs : List ℕ) → (kindAnswer kind.Blank bs ≡ Accepted) ↔ (all (isOf Blank) bs ≡ true)
 unfolding kindAnswer
-blank bs = asked-accepts (all (isOf Blank) bs) FixedDiffers 1
+blank bs = require-accepts (all (isOf Blank) bs) FixedDiffers 1
 
 pub capture : (bs : List ℕ) → (kindAnswer kind.Capture bs ≡ Accepted) ↔ (isCapture (getD bs 0 0) ≡ true)
 unfolding kindAnswer
-capture bs = asked-accepts (isCapture (getD bs 0 0)) UnknownCode 1
+capture bs = require-accepts (isCapture (getD bs 0 0)) UnknownCode 1
 
 pub form : (bs : List ℕ) → (kindAnswer kind.Form bs ≡ Accepted) ↔ (isForm (getD bs 0 0) ≡ true)
 unfolding kindAnswer
-form bs = asked-accepts (isForm (getD bs 0 0)) UnknownCode 1
+form bs = require-accepts (isForm (getD bs 0 0)) UnknownCode 1
 
 pub code : (bs : List ℕ) → (kindAnswer kind.Barcode bs ≡ Accepted) ↔ (barcodeAnswer bs ≡ Accepted)
 unfolding kindAnswer
@@ -56,7 +56,7 @@ code bs = (λ e. e, λ e. e)
 pub date : (bs : List ℕ) → (kindAnswer kind.Date bs ≡ Accepted) ↔ (isFound (dateOf bs) ≡ true)
 unfolding kindAnswer
 date bs = (
-  λ e. asked-accepts (isFound (dateOf bs)) NoDate 1 .0 (then-accepts (eachIs (isOf Digit) NoDigit 1 bs) (require (isFound (dateOf bs)) NoDate 1) .0 e .1),
+  λ e. require-accepts (isFound (dateOf bs)) NoDate 1 .0 (then-accepts (eachIs (isOf Digit) NoDigit 1 bs) (require (isFound (dateOf bs)) NoDate 1) .0 e .1),
   go (dateOf bs) refl,
 )
   where
@@ -84,4 +84,4 @@ captured b t = go (leb 49 b) (leb b 54) (leb 97 b) (leb b 102) refl refl refl re
 pub mark : (rec : List ℕ) → length rec ≡ recordLength → getD rec 0 0 ≡ 71 → kindAnswer (kind.Mark 71) (take 1 (drop 0 rec)) ≡ Accepted
 unfolding kindAnswer
 mark [] n e = absurd (omega arith)
-mark (b ∷ rec) n e = asked-accepts (same (b ∷ []) (71 ∷ [])) FixedDiffers 1 .1 (and-eq-true-iff (eqb b 71) true .1 (eq-eqb b 71 e, refl))
+mark (b ∷ rec) n e = require-accepts (same (b ∷ []) (71 ∷ [])) FixedDiffers 1 .1 (and-eq-true-iff (eqb b 71) true .1 (eq-eqb b 71 e, refl))

@@ -10,7 +10,7 @@ use Rattle.answer.specs.declared.Reason.the-variants.{WrongLength}
 use Rattle.answer.specs.declared.Answer.{Answer}
 use Rattle.answer.specs.declared.Answer.the-variants.{Accepted, Refused}
 use Rattle.answer.specs.Orders.{require, Each, behind}
-use Rattle.answer.proofs.Orders.{asked-accepts, then-accepts, first-accepts, moved-accepts}
+use Rattle.answer.proofs.Orders.{require-accepts, then-accepts, first-accepts, moved-accepts}
 use Rattle.decimal.specs.LowHalves.{lowNumberOf}
 use Rattle.calendar.specs.declared.Date.{Date}
 use Rattle.layout.specs.declared.Field.{Field}
@@ -33,7 +33,7 @@ pub accepted-is : (rec : List ℕ) → recordAnswer rec ≡ Accepted
 unfolding recordAnswer
 accepted-is rec e =
     let both = then-accepts (require (eqb (length rec) recordLength) WrongLength 0) (namedAnswer (namedBy (getD rec 0 0)) rec) .0 e in
-    (eqb-true (length rec) recordLength (asked-accepts (eqb (length rec) recordLength) WrongLength 0 .0 (both .0)), both .1)
+    (eqb-true (length rec) recordLength (require-accepts (eqb (length rec) recordLength) WrongLength 0 .0 (both .0)), both .1)
 
 pub accepted-named : (r : Record) (rec : List ℕ) → recordAnswer rec ≡ Accepted → namedBy (getD rec 0 0) ≡ Is r
     → (length rec ≡ recordLength) × (layoutAnswer r rec ≡ Accepted)

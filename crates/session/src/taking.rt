@@ -2,7 +2,8 @@
 ghost use mathlib.Core.Path.{_≡_};
 ghost use Rattle.record.specs.Values.{decodedRecord};
 ghost use Rattle.board.specs.Lanes.{laneOfOne};
-ghost use Rattle.session.specs.Sessions.{freshSession, openedAt, sessionExpects, paymentResult, postingResult, trailerResult, recordResult, takeOf, abandonOf, finishOf};
+ghost use Rattle.session.specs.Sessions.{freshSession, openedAt, sessionExpects, paymentResult, postingResult};
+ghost use Rattle.session.specs.Sessions.{trailerResult, recordResult, takeOf, abandonOf, finishOf};
 use crate::Session;
 use crate::TakeResult;
 use answer::Answer;

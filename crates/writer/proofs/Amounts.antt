@@ -10,7 +10,7 @@ use lib.Seq.{take-at, drop-at, take-append-seam, drop-append-seam}
 use Rattle.answer.specs.declared.Reason.the-variants.{TooWide}
 use Rattle.answer.specs.declared.Answer.the-variants.{Accepted}
 use Rattle.answer.specs.Orders.{_then_, behind}
-use Rattle.answer.proofs.Orders.{asked-accepts, then-accepts, moved-accepts}
+use Rattle.answer.proofs.Orders.{require-accepts, then-accepts, moved-accepts}
 use Rattle.decimal.specs.Numbers.{numberOf, digitsOf, widthAnswer}
 use Rattle.decimal.specs.Places.{widthOf}
 use Rattle.decimal.proofs.Numbers.{number-of-digits, digits-fill}
@@ -51,7 +51,7 @@ module _ (w : ℕ) (g : List ℕ) (m n : ℕ) where
 fits : (w : ℕ) (g : List ℕ) (n : ℕ) → writtenAnswer kind.Money w g n ≡ Accepted → n < 10 ^ w
 unfolding writtenAnswer
 fits w g n a =
-    ltb-true n (10 ^ w) (asked-accepts (ltb n (10 ^ w)) TooWide 1 .0 (then-accepts (widthAnswer w n) (kindAnswer kind.Money (digitsOf w n)) .0 a .0))
+    ltb-true n (10 ^ w) (require-accepts (ltb n (10 ^ w)) TooWide 1 .0 (then-accepts (widthAnswer w n) (kindAnswer kind.Money (digitsOf w n)) .0 a .0))
 
 same-amount : (k : Kind) (w : ℕ) (g : List ℕ) (m n : ℕ) → isMoney k ≡ true → writtenAnswer k w g m ≡ Accepted → writtenAnswer k w g n ≡ Accepted
     → writtenOf k w g m ≡ writtenOf k w g n → m ≡ n

@@ -10,7 +10,7 @@ use Rattle.answer.specs.declared.Reason.the-variants.{WrongLength, NotExpected,
 use Rattle.answer.specs.declared.Answer.{Answer}
 use Rattle.answer.specs.declared.Answer.the-variants.{Accepted, Refused}
 use Rattle.answer.specs.Orders.{require, _then_, ifAccepted}
-use Rattle.answer.proofs.Orders.{asked-accepts, then-accepts, refusal-keeps, accepted-takes}
+use Rattle.answer.proofs.Orders.{require-accepts, then-accepts, refusal-keeps, accepted-takes}
 use Rattle.decimal.specs.Numbers.{digitsOf, widthAnswer}
 use Rattle.decimal.specs.Places.{putAt}
 use Rattle.decimal.proofs.Numbers.{digits-fill}
@@ -34,7 +34,7 @@ use Rattle.writer.specs.Promises.{RefusalKeepsWriter}
 pub call-size : (w : Writer) (r : Record) (given size : ℕ) → callAnswer w r given size ≡ Accepted → size ≡ recordLength
 call-size w r given size e =
     let both = then-accepts (require (eqb size recordLength && eqb given (givenLength r)) WrongLength 0) (require (writerExpects (w .stage) r) NotExpected 1) .0 e in
-    let t = asked-accepts (eqb size recordLength && eqb given (givenLength r)) WrongLength 0 .0 (both .0) in
+    let t = require-accepts (eqb size recordLength && eqb given (givenLength r)) WrongLength 0 .0 (both .0) in
     eqb-true size recordLength (and-eq-true-iff (eqb size recordLength) (eqb given (givenLength r)) .0 t .0)
 
 pub refusal-keeps-writer : RefusalKeepsWriter
@@ -125,7 +125,7 @@ module _ (w : Writer) (out digits : List ℕ) {call width making both a : Answer
       let x = figuresOf (w .file) .count in
       let e : closed .figures .count ≡ x = ap (λ (f : Figures). f .count) (figures-are h) in
       let fits : x < 10 ^ 6 = figures-fit (w .file) (closing-accepts (w .file) .0 h) .0 in
-      let accepted : width ≡ Accepted = q ∙ ap (widthAnswer 6) e ∙ asked-accepts (ltb x (10 ^ 6)) TooWide 1 .1 (lt-ltb x (10 ^ 6) fits) in
+      let accepted : width ≡ Accepted = q ∙ ap (widthAnswer 6) e ∙ require-accepts (ltb x (10 ^ 6)) TooWide 1 .1 (lt-ltb x (10 ^ 6) fits) in
       p ∙ accepted-takes width (putAt 0 (digitsOf 6 (closed .figures .count)) digits) digits accepted
       ∙ put-whole (digitsOf 6 (closed .figures .count)) digits (digits-fill 6 (closed .figures .count) .0 ∙ sym n) ∙ ap (digitsOf 6) e ∙ ap (λ (d : ℕ). digitsOf d x) six
 

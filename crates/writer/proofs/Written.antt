@@ -11,7 +11,7 @@ use lib.Seq.{length-take-le}
 use Rattle.answer.specs.declared.Reason.the-variants.{WrongLength, NotExpected}
 use Rattle.answer.specs.declared.Answer.the-variants.{Accepted}
 use Rattle.answer.specs.Orders.{require, _then_}
-use Rattle.answer.proofs.Orders.{asked-accepts, then-accepts}
+use Rattle.answer.proofs.Orders.{require-accepts, then-accepts}
 use Rattle.decimal.specs.Places.{Stretch, widthOf, partAt, gather}
 use Rattle.layout.specs.declared.MaybeRecord.the-variants.{Is}
 use Rattle.layout.specs.declared.Record.{Record}
@@ -46,7 +46,7 @@ unfolding makeAnswer
 making-is r given amounts size e =
     let lengths = eqb size recordLength && eqb (length given) (givenLength r) in
     let both = then-accepts (require lengths WrongLength 0) (makingAnswer (layoutOf r) given amounts) .0 e in
-    let t = asked-accepts lengths WrongLength 0 .0 (both .0) in
+    let t = require-accepts lengths WrongLength 0 .0 (both .0) in
     (eqb-true (length given) (givenLength r) (and-eq-true-iff (eqb size recordLength) (eqb (length given) (givenLength r)) .0 t .1), both .1)
 
 pub written-is-accepted : WrittenIsAccepted
@@ -94,13 +94,13 @@ module _ (w : Writer) (r : Record) (rec amounts : List ℕ) (accepts : recordAns
   pub call-accepted : writerExpects (w .stage) r ≡ true → callAnswer w r (length (joinedOf r rec)) recordLength ≡ Accepted
   call-accepted t =
       then-accepts (require (eqb recordLength recordLength && eqb (length (joinedOf r rec)) (givenLength r)) WrongLength 0) (require (writerExpects (w .stage) r) NotExpected 1) .1
-      (asked-accepts (eqb recordLength recordLength && eqb (length (joinedOf r rec)) (givenLength r)) WrongLength 0 .1 lengths-right, asked-accepts (writerExpects (w .stage) r) NotExpected 1 .1 t)
+      (require-accepts (eqb recordLength recordLength && eqb (length (joinedOf r rec)) (givenLength r)) WrongLength 0 .1 lengths-right, require-accepts (writerExpects (w .stage) r) NotExpected 1 .1 t)
 
   pub makes : makingAnswer (layoutOf r) (joinedOf r rec) amounts ≡ Accepted → makeAnswer r (joinedOf r rec) amounts recordLength ≡ Accepted
   unfolding makeAnswer
   makes a =
       then-accepts (require (eqb recordLength recordLength && eqb (length (joinedOf r rec)) (givenLength r)) WrongLength 0) (makingAnswer (layoutOf r) (joinedOf r rec) amounts) .1
-      (asked-accepts (eqb recordLength recordLength && eqb (length (joinedOf r rec)) (givenLength r)) WrongLength 0 .1 lengths-right, a)
+      (require-accepts (eqb recordLength recordLength && eqb (length (joinedOf r rec)) (givenLength r)) WrongLength 0 .1 lengths-right, a)
 
 -- A has no amounts; those of G are what it received and its tariff.
 header-amounts : (rec : List ℕ)

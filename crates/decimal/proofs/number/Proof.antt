@@ -1,7 +1,7 @@
 -- `decimal::number` meets its contract. Assumes nothing.
 use mathlib.Core.Path.{sym, _∙_}
 use borrow.Author.Needs.{needs}
-use Rattle.decimal.proofs.Numbers.{nineteen-are-held, low-of-digits}
+use Rattle.decimal.proofs.Numbers.{nineteen-fit, low-of-digits}
 use Rattle.decimal.proofs.number.Statement.{statement}
 use Rattle.decimal.proofs.number.Tie as tie
 
@@ -21,7 +21,7 @@ returns-2 : tie.Need-returns-2
 returns-2 c =
     let part = c .before .before .before .before .before .args .part .now in
     let few = c .before .before .before .if1 .left in
-    c .low-number .ensures ∙ low-of-digits part (sym (c .before .before .all-of .ensures) ∙ c .before .if2 .taken) few ∙ sym (nineteen-are-held part few)
+    c .low-number .ensures ∙ low-of-digits part (sym (c .before .before .all-of .ensures) ∙ c .before .if2 .taken) few ∙ sym (nineteen-fit part few)
 
 long-number-requires-2 : tie.Need-long-number-requires-2
 long-number-requires-2 c κs = search needs

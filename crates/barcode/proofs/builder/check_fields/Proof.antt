@@ -7,7 +7,7 @@ use borrow.Author.Tests.{not-true, not-false}
 use lib.Dec.{ltb}
 use Rattle.answer.specs.declared.Reason.the-variants.{NoDigit}
 use Rattle.answer.specs.Orders.{behind, cappedBehind, movedBy}
-use Rattle.answer.proofs.Orders.{behind-is-held}
+use Rattle.answer.proofs.Orders.{behind-is-exact}
 use Rattle.answer.proofs.Steps.{stops, goes}
 use Rattle.decimal.specs.declared.Class.the-variants.{Digit}
 use Rattle.decimal.specs.Bytes.{isOf, eachIs}
@@ -120,7 +120,7 @@ returns-6 c =
     let fits = ap (λ (w : ℕ). ltb (a .issuer .number) (10 ^ w)) (sym (width .issuer-width .ensures)) in
     let number = fits ∙ sym (numbered .before .fits-width2 .ensures) ∙ not-false _ (numbered .if5 .left) in
     let near = each-place (isOf Digit) NoDigit 1 free in
-    let held = behind-is-held (end .issuer-end .result) (eachIs (isOf Digit) NoDigit 1 free) (omega (arith, near, sized .if3 .left)) in
+    let held = behind-is-exact (end .issuer-end .result) (eachIs (isOf Digit) NoDigit 1 free) (omega (arith, near, sized .if3 .left)) in
     let place = ap (λ (e : ℕ). movedBy (behind e) (eachIs (isOf Digit) NoDigit 1 free)) told in
     let digits = c .behind .ensures ∙ ap (movedBy (cappedBehind (end .issuer-end .result))) (c .before .require-class .ensures) ∙ held ∙ place in
     let last = digits ∙ one-place-last (a .issuer) (a .kind) (a .value) free _ in

@@ -4,7 +4,7 @@ use mathlib.Core.Path.{ap, _∙_}
 use native.Mathlib.Omega.{arith}
 use borrow.Author.Needs.{needs}
 use Rattle.answer.specs.Orders.{movedBy, cappedBehind}
-use Rattle.answer.proofs.Orders.{behind-is-held}
+use Rattle.answer.proofs.Orders.{behind-is-exact}
 use Rattle.kinds.proofs.KindLaws.{kind-place}
 use Rattle.record.proofs.FieldBytes.{part-length}
 use Rattle.kinds.specs.Kinds.{kindAnswer}
@@ -33,7 +33,7 @@ returns c =
     let bs = fieldBytes f (s .args .rec .now) in
     let n = part-length f (s .args .rec .now) (s .pre .1) (s .pre .0) in
     let near = kind-place (f .kind) bs (omega (arith, n, s .pre .1 .end)) in
-    let held = behind-is-held (f .first - 1) (kindAnswer (f .kind) bs) (omega (arith, near, s .pre .1 .order, s .pre .1 .end)) in
+    let held = behind-is-exact (f .first - 1) (kindAnswer (f .kind) bs) (omega (arith, near, s .pre .1 .order, s .pre .1 .end)) in
     c .behind .ensures ∙ ap (movedBy (cappedBehind (f .first - 1))) k ∙ held
 
 pub field-answer-spec : {M : Type 1} → statement M
