@@ -7,7 +7,7 @@ use mathlib.Core.Path.{_≡_, refl, sym, ap, _∙_}
 use native.Mathlib.Omega.{arith}
 use borrow.Author.Tests.{eqb-true, eqb-false, lt-ltb, le-ltb}
 use lib.Dec.{eqb}
-use Rattle.decimal.proofs.Finite.{lt-or-le}
+use Rattle.answer.proofs.Tests.{lt-or-le}
 use lib.ListN.{length, getD, set, length-set, length-append}
 use lib.Seq.{getD-set-same, getD-set-other, getD-append-seam, take-set-lt, take-suc-set}
 use Rattle.answer.specs.declared.Answer.the-variants.{Accepted}

@@ -4,27 +4,16 @@ use mathlib.Core.Bool.{Bool, true, false, cond, _&&_, and-eq-true-iff, false≢t
 use mathlib.Core.List.{List, [], _∷_, _++_, append-assoc, append-nil}
 use mathlib.Core.Path.{_≡_, refl, sym, ap, ap₂, _∙_}
 use native.Mathlib.Omega.{arith}
-use borrow.Author.Tests.{eqb-true, eqb-false, eq-eqb, ne-eqb}
+use borrow.Author.Tests.{eqb-true, eq-eqb}
 use lib.Dec.{eqb}
+use Rattle.answer.proofs.Tests.{split, eqb-sym}
 use Rattle.barcode.specs.declared.Issuer.{Issuer}
 use Rattle.board.specs.declared.Tally.{Tally}
 use Rattle.board.specs.declared.Lane.{Lane}
 use Rattle.board.proofs.Tallies.{alike}
 use Rattle.board.specs.Lanes.{plus, emptyTally, sameIssuer, isLaneOf, grownLane, placed, placedAll, lanesFrom, tallySum, sumBy, Adds, each, only, issuersOf, isAmong, appearing, Distinct, PaymentsAdd, CentavosAdd, SumsAgree, OwnSumsAgree, SumIsKept, PastThirtyTwoBits, NoIssuerTwice, InOrderOfAppearance, OnePaymentMore}
 
--- a fact of a choice from the fact of each case
-pub split : {A : Type 0} (P : A → Type 0) (t : Bool) {x y : A} → (t ≡ true → P x) → (t ≡ false → P y) → P (cond t x y)
-split P true f g = f refl
-split P false f g = g refl
-
 -- Issuers.
-
-eqb-sym : (a b : ℕ) → eqb a b ≡ eqb b a
-eqb-sym a b = go (eqb a b) refl
-  where
-    go : (t : Bool) → eqb a b ≡ t → eqb a b ≡ eqb b a
-    go true e = e ∙ sym (eq-eqb b a (sym (eqb-true a b e)))
-    go false e = e ∙ sym (ne-eqb b a (λ q. eqb-false a b e (sym q)))
 
 same-sym : (i j : Issuer) → sameIssuer i j ≡ sameIssuer j i
 same-sym i j = ap₂ _&&_ (eqb-sym (i .segment) (j .segment)) (eqb-sym (i .number) (j .number))

@@ -1,14 +1,13 @@
 -- The round trips: a record's fields make it again, and what is made has the fields it was given. Assumes nothing.
-use Prim.Native.Nat.{ℕ, zero, suc, _+_, _-_, _^_, _≤_, _<_}
+use Prim.Native.Nat.{ℕ, _+_, _-_, _^_, _≤_, _<_}
 use mathlib.Core.Bool.{Bool, true, false, cond, _&&_, and-eq-true-iff}
 use mathlib.Core.List.{List, [], _∷_, _++_, map, append-assoc, append-nil}
 use mathlib.Core.Path.{_≡_, refl, sym, ap, _∙_}
-use native.Mathlib.Nat.{not-suc-le-zero, le-of-suc-le-suc}
 use native.Mathlib.Omega.{arith}
 use borrow.Author.Tests.{lt-ltb, eqb-true}
 use lib.Dec.{eqb, ltb}
 use lib.ListN.{length, getD, take, drop, replicate, length-append, length-drop, drop-of-length-le, take-append-drop}
-use lib.Seq.{length-take-le, take-all, take-at, drop-at, drop-drop, take-take}
+use lib.Seq.{length-take-le, take-all, take-at, drop-at, drop-drop}
 use Rattle.answer.specs.declared.Reason.the-variants.{NoDigit, FixedDiffers, TooWide}
 use Rattle.answer.specs.declared.Answer.the-variants.{Accepted}
 use Rattle.answer.specs.Orders.{_then_, firstRefusal, movedBy, behind}
@@ -19,6 +18,7 @@ use Rattle.decimal.specs.Numbers.{numberOf, digitsOf, widthAnswer}
 use Rattle.decimal.proofs.Bytes.{each-accepts}
 use Rattle.decimal.proofs.Numbers.{number-fits, digits-of-number}
 use Rattle.decimal.specs.Places.{widthOf, partAt, gather}
+use Rattle.decimal.proofs.Places.{part-of-part}
 use Rattle.layout.specs.declared.Field.{Field}
 use Rattle.layout.specs.declared.Kind.{Kind}
 use Rattle.layout.specs.declared.Kind.the-variants as kind
@@ -68,17 +68,6 @@ number-fits-back k w bs n =
     let h : numberOf bs < 10 ^ w = rw (sym n) (number-fits bs) in
     let a : widthAnswer w (numberOf bs) ≡ Accepted = require-accepts (ltb (numberOf bs) (10 ^ w)) TooWide 1 .1 (lt-ltb (numberOf bs) (10 ^ w) h) in
     elim (isMoney k) as (λ (b : Bool). cond b (widthAnswer w (numberOf bs)) Accepted ≡ Accepted) [ true ↦ a | false ↦ refl ]
-
--- a part of a part
-drop-take : (m w : ℕ) (l : List ℕ) → m ≤ w → drop m (take w l) ≡ take (w - m) (drop m l)
-drop-take zero w l h = let e : w - 0 ≡ w = omega arith in rw e
-drop-take (suc m) zero l h = absurd (not-suc-le-zero h)
-drop-take (suc m) (suc w) [] h = sym (take-all (suc w - suc m) [] (omega arith))
-drop-take (suc m) (suc w) (x ∷ l) h = let e : suc w - suc m ≡ w - m = omega arith in rw e (drop-take m w l (le-of-suc-le-suc h))
-
-part-of-part : (rec : List ℕ) (a w m n : ℕ) → m + n ≤ w → take n (drop m (take w (drop a rec))) ≡ take n (drop (a + m) rec)
-part-of-part rec a w m n h =
-    rw (drop-take m w (drop a rec) (omega arith), drop-drop m a rec) (take-take n (w - m) (drop (a + m) rec) (omega arith))
 
 -- what is given of a field, from the field's bytes
 given-part : (f : Field) (rec : List ℕ) → 1 ≤ f .first → fitsField f ≡ true

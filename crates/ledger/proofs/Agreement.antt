@@ -1,6 +1,6 @@
 -- A session and the ledger agree at first and after every step, so their answers are equal. Assumes nothing.
 use Prim.Native.Nat.{ℕ, _+_}
-use mathlib.Core.Bool.{true, false, not, false≢true}
+use mathlib.Core.Bool.{true, not, false≢true}
 use mathlib.Core.List.{List, [], _∷_, _++_, append-assoc, append-nil}
 use mathlib.Core.Option.{Option, none, some}
 use mathlib.Core.Path.{_≡_, refl, sym, ap, ap₂, _∙_}
@@ -14,6 +14,7 @@ use Rattle.answer.specs.declared.Answer.the-variants.{Accepted, Refused}
 use Rattle.answer.specs.Orders.{require, _then_, ifAccepted}
 use Rattle.answer.proofs.Orders.{not-both, then-accepts, then-groups}
 use Rattle.answer.proofs.Steps.{passed}
+use Rattle.answer.proofs.Tests.{split}
 use Rattle.layout.specs.declared.MaybeRecord.{MaybeRecord}
 use Rattle.layout.specs.declared.MaybeRecord.the-variants.{Is, Other}
 use Rattle.layout.specs.declared.Record.the-variants.{Header, Payment, Trailer}
@@ -25,7 +26,7 @@ use Rattle.board.specs.declared.Lane.{Lane}
 use Rattle.board.specs.declared.Board.{Board}
 use Rattle.board.specs.Lanes.{placed, lanesFrom}
 use Rattle.board.specs.Boards.{lanesOf, postAnswer, answerAfter, SoundBoard}
-use Rattle.board.proofs.Lanes.{split, one-payment-more}
+use Rattle.board.proofs.Lanes.{one-payment-more}
 use Rattle.board.proofs.Posting.{fit, with-sound, post-places, stays-sound}
 use Rattle.board.proofs.Boards.{answers-as-payments}
 use Rattle.session.specs.declared.Session.{Session}

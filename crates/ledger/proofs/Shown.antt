@@ -7,12 +7,14 @@ use native.Mathlib.Omega.{arith}
 use borrow.Author.Tests.{eq-eqb}
 use lib.ListN.{length}
 use Rattle.answer.specs.Orders.{Each}
+use Rattle.answer.proofs.Orders.{each-both}
+use Rattle.answer.proofs.Tests.{split}
 use Rattle.barcode.specs.declared.Issuer.{Issuer}
 use Rattle.board.specs.declared.Tally.{Tally}
 use Rattle.board.specs.declared.Lane.{Lane}
 use Rattle.board.specs.Lanes.{sameIssuer, isLaneOf, lanesFrom, sumBy, each, only, issuersOf, isAmong, Distinct}
 use Rattle.board.proofs.Tallies.{low, alike}
-use Rattle.board.proofs.Lanes.{split, same-is, payments-add, centavos-add, sum-read, sums-agree, own-sums-agree, in-order-of-appearance, no-issuer-twice}
+use Rattle.board.proofs.Lanes.{same-is, payments-add, centavos-add, sum-read, sums-agree, own-sums-agree, in-order-of-appearance, no-issuer-twice}
 use Rattle.board.proofs.Posting.{length-lanes}
 use Rattle.ledger.specs.Ledgers.{laneOfRecord, lanesOfRecords, receivedIn, ofIssuer}
 use Rattle.ledger.specs.Promises.{reached, shownLanes, acceptedRecords, LanesAreThePayments, LanesInOrder, EachLaneIsExact, SumsAreTheRecords, TotalsAreTheRecords, NoIssuerHasTwoLanes, WithinLimits}
@@ -116,11 +118,6 @@ own-received i (rec ∷ recs) =
     (isLaneOf i (laneOfRecord rec))
     (λ t. rw t (omega (arith, own-received i recs)))
     (λ t. rw t (omega (arith, own-received i recs)))
-
-each-both : {P Q R : Lane → Type 0} → ((l : Lane) → P l → Q l → R l) → (ls : List Lane) → Each P ls → Each Q ls
-    → Each R ls
-each-both f [] p q = tt
-each-both f (l ∷ ls) p q = (f l (p .0) (q .0), each-both f ls (p .1) (q .1))
 
 pub each-lane-is-exact : EachLaneIsExact
 each-lane-is-exact steps =

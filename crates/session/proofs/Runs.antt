@@ -11,7 +11,7 @@ use Rattle.answer.specs.declared.Reason.{Reason}
 use Rattle.answer.specs.declared.Answer.{Answer}
 use Rattle.answer.specs.declared.Answer.the-variants.{Accepted, Refused}
 use Rattle.answer.proofs.Orders.{not-both, accepted-takes}
-use Rattle.decimal.proofs.Finite.{lt-or-le}
+use Rattle.answer.proofs.Tests.{lt-or-le}
 use Rattle.layout.specs.Layouts.{recordLength, namedBy}
 use Rattle.record.specs.Values.{decodedRecord}
 use Rattle.session.specs.declared.Session.{Session}

@@ -13,7 +13,7 @@ use Rattle.decimal.specs.declared.Class.the-variants.{Digit}
 use Rattle.decimal.specs.Bytes.{isOf, all}
 use Rattle.decimal.specs.OneByte.{Beside}
 use Rattle.decimal.specs.Places.{partAt}
-use Rattle.decimal.proofs.Finite.{lt-or-le}
+use Rattle.answer.proofs.Tests.{lt-or-le}
 use Rattle.decimal.proofs.Places.{part-beside}
 use Rattle.modulus.specs.declared.Modulus.{Modulus}
 use Rattle.modulus.specs.Checks.{remainderOf, checkOf}

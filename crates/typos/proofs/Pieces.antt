@@ -7,7 +7,7 @@ use native.Mathlib.Omega.{arith}
 use lib.ListN.{length, getD, set}
 use Rattle.decimal.specs.OneByte.{Lies, Beside, InPlan}
 use Rattle.decimal.specs.Places.{Stretch, partAt, gather}
-use Rattle.decimal.proofs.Finite.{lt-or-le}
+use Rattle.answer.proofs.Tests.{lt-or-le}
 use Rattle.decimal.proofs.Places.{length-part, part-within, part-byte, gather-outside, gather-within}
 use Rattle.barcode.specs.Codes.{checked}
 use Rattle.line.specs.Lines.{boxes, codeOf}

@@ -1,6 +1,5 @@
 -- `modulus::digit_of_remainder` meets its contract: under each modulus a number in the range, below it, past it. Assumes
 -- nothing.
-use Prim.Native.Nat.{ℕ}
 use mathlib.Core.Path.{_≡_}
 use native.Mathlib.Omega.{arith}
 use borrow.Author.Needs.{needs}
