@@ -1,5 +1,6 @@
 -- Laws of what an accepted record shows. Assumes nothing.
 use Prim.Native.Nat.{ℕ, _-_, _≤_}
+use mathlib.Core.Bool.{true, false}
 use mathlib.Core.List.{List, [], _∷_}
 use mathlib.Core.Logic.{_↔_}
 use mathlib.Core.Path.{_≡_, refl, sym, _∙_}
@@ -10,8 +11,9 @@ use Rattle.answer.specs.declared.Reason.the-variants.{WrongLength}
 use Rattle.answer.specs.declared.Answer.{Answer}
 use Rattle.answer.specs.declared.Answer.the-variants.{Accepted, Refused}
 use Rattle.answer.specs.Orders.{require, Each, behind}
-use Rattle.answer.proofs.Orders.{require-accepts, then-accepts, first-accepts, moved-accepts}
+use Rattle.answer.proofs.Orders.{not-both, require-accepts, then-accepts, first-accepts, moved-accepts}
 use Rattle.decimal.specs.LowHalves.{lowNumberOf}
+use Rattle.decimal.proofs.Finite.{never}
 use Rattle.calendar.specs.declared.Date.{Date}
 use Rattle.layout.specs.declared.Field.{Field}
 use Rattle.layout.specs.declared.MaybeRecord.{MaybeRecord}
@@ -21,7 +23,7 @@ use Rattle.layout.specs.declared.Record.the-variants.{Header, Payment, Trailer}
 use Rattle.layout.specs.Layouts.{recordLength, namedBy, layoutOf, table, noField, rowAt, bankRow, fileDateRow, sequenceRow, countRow, totalRow}
 use Rattle.layout.proofs.Layouts.{row-lies}
 use Rattle.kinds.specs.Kinds.{kindAnswer}
-use Rattle.record.specs.Records.{fieldBytes, fieldAnswer, layoutAnswer, namedAnswer, recordAnswer}
+use Rattle.record.specs.Records.{fieldBytes, fieldAnswer, layoutAnswer, namedAnswer, recordAnswer, isPayment, isTrailer}
 use Rattle.record.proofs.KindRules.{digits, money}
 use Rattle.record.proofs.FieldBytes.{number-read}
 use Rattle.record.specs.Values.{dateIn, headerShown, trailerShown, recordShown, answerOfRecord, shownUnlessRefused}
@@ -38,6 +40,19 @@ accepted-is rec e =
 pub accepted-named : (r : Record) (rec : List ℕ) → recordAnswer rec ≡ Accepted → namedBy (getD rec 0 0) ≡ Is r
     → (length rec ≡ recordLength) × (layoutAnswer r rec ≡ Accepted)
 accepted-named r rec a e = let is = accepted-is rec a in (is .0, rw e at (is .1))
+
+-- by its first byte: what is Z, and what of an accepted record is neither G nor Z
+pub trailer-named : (m : MaybeRecord) → isTrailer m ≡ true → m ≡ Is Trailer
+trailer-named (Is Header) t = never t
+trailer-named (Is Payment) t = never t
+trailer-named (Is Trailer) t = refl
+trailer-named Other t = never t
+
+pub header-named : (m : MaybeRecord) (rec : List ℕ) → namedAnswer m rec ≡ Accepted → isPayment m ≡ false → isTrailer m ≡ false → m ≡ Is Header
+header-named (Is Header) rec a p t = refl
+header-named (Is Payment) rec a p t = never (sym p)
+header-named (Is Trailer) rec a p t = never (sym t)
+header-named Other rec a p t = not-both _ refl a
 
 -- of 150 bytes the answer is that of the layout that the first one names
 pub named-is : (r : Record) (rec : List ℕ) → length rec ≡ recordLength → namedBy (getD rec 0 0) ≡ Is r → recordAnswer rec ≡ layoutAnswer r rec

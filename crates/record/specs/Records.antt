@@ -38,9 +38,15 @@ namedAnswer Other rec = answer.Refused NotExpected 1
 unfoldable pub recordAnswer : List ℕ → Answer
 recordAnswer rec = require (eqb (length rec) recordLength) WrongLength 0 then namedAnswer (namedBy (getD rec 0 0)) rec
 
--- whether a first byte names G
+-- whether a first byte names G, and whether it names Z
 abbrev pub isPayment : MaybeRecord → Bool
 isPayment (Is Header) = false
 isPayment (Is Payment) = true
 isPayment (Is Trailer) = false
 isPayment Other = false
+
+abbrev pub isTrailer : MaybeRecord → Bool
+isTrailer (Is Header) = false
+isTrailer (Is Payment) = false
+isTrailer (Is Trailer) = true
+isTrailer Other = false

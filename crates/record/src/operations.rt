@@ -6,8 +6,10 @@ ghost use lib.ListN.{length, getD};
 ghost use Rattle.answer.specs.declared.Answer.the-variants as answers;
 ghost use Rattle.layout.specs.declared.Record.the-variants as layouts;
 ghost use Rattle.layout.specs.Layouts.{recordLength, namedBy};
-ghost use Rattle.record.specs.Records.{isPayment, layoutAnswer, recordAnswer};
+ghost use Rattle.record.specs.Records.{isPayment, isTrailer, layoutAnswer, recordAnswer};
 ghost use Rattle.record.specs.Values.{dayOf, headerShown, trailerShown, recordShown, decodedRecord};
+ghost use Rattle.record.specs.declared.fast.FastDecoded.the-variants as fasts;
+ghost use Rattle.record.specs.FastPath.{fastDecodedOf};
 ghost use Rattle.record.specs.Values.{hasRow, fieldIn, shownField};
 use crate::Decoded;
 use crate::Header;
@@ -18,7 +20,6 @@ use crate::fast::FastDecoded;
 use crate::parts;
 use crate::walk;
 use answer::Answer;
-use answer::Reason;
 use calendar::Date;
 use calendar::MaybeDate;
 use layout::MaybeRecord;
@@ -75,20 +76,40 @@ fn read_trailer(rec: &[u8]) -> Trailer
     }
 }
 
-// What an accepted A or Z shows. The two other cases never occur here: the fast path decodes every accepted G.
+// Whether a first byte names Z.
+fn is_trailer(mark: u8) -> bool
+    ensures { λ r. ⌜ r ≡ isTrailer (namedBy mark) ⌝ }
+{
+    match layout::named_by(mark) {
+        MaybeRecord::Is(which) => match which {
+            Record::Header => false,
+            Record::Payment => false,
+            Record::Trailer => true,
+        },
+        MaybeRecord::Other => false,
+    }
+}
+
+// What an accepted record shows that is no G, and so an A or a Z.
 fn header_or_trailer(rec: &[u8]) -> Decoded
     requires { ⌜ recordAnswer (now rec) ≡ answers.Accepted ⌝ }
     requires { ⌜ isPayment (namedBy (getD (now rec) 0 0)) ≡ false ⌝ }
     ensures { λ r. ⌜ r ≡ recordShown (namedBy (getD (now (rec .entry)) 0 0)) (now (rec .entry)) ⌝ }
 {
-    let none = Decoded::Refused(Reason::NotExpected, 1);
-    match layout::named_by(rec[0]) {
-        MaybeRecord::Is(which) => match which {
-            Record::Header => Decoded::Header(read_header(rec)),
-            Record::Payment => none,
-            Record::Trailer => Decoded::Trailer(read_trailer(rec)),
-        },
-        MaybeRecord::Other => none,
+    if is_trailer(rec[0]) {
+        return Decoded::Trailer(read_trailer(rec));
+    }
+    Decoded::Header(read_header(rec))
+}
+
+// A record that the fast path does not recognize: it is refused, or an accepted A or Z.
+fn decode_in_order(rec: &[u8]) -> Decoded
+    requires { ⌜ fasts.Other ≡ fastDecodedOf (decodedRecord (now rec)) ⌝ }
+    ensures { λ r. ⌜ r ≡ decodedRecord (now (rec .entry)) ⌝ }
+{
+    match walk::check_in_order(rec) {
+        Answer::Accepted => header_or_trailer(rec),
+        Answer::Refused(why, place) => Decoded::Refused(why, place),
     }
 }
 
@@ -96,13 +117,10 @@ fn header_or_trailer(rec: &[u8]) -> Decoded
 pub fn decode(rec: &[u8]) -> Decoded
     ensures { λ r. ⌜ r ≡ decodedRecord (now (rec .entry)) ⌝ }
 {
-    match fast::decode_payment(rec) {
-        FastDecoded::Other => match walk::check_in_order(rec) {
-            Answer::Refused(why, place) => Decoded::Refused(why, place),
-            Answer::Accepted => header_or_trailer(rec),
-        },
-        FastDecoded::Paid(payment) => Decoded::Payment(payment),
-    }
+    let FastDecoded::Paid(payment) = fast::decode_payment(rec) else {
+        return decode_in_order(rec);
+    };
+    Decoded::Payment(payment)
 }
 
 // Whether a row of the table is one of the record that a first byte names.
