@@ -13,7 +13,7 @@ use Rattle.answer.specs.declared.Answer.the-variants.{Accepted, Refused}
 use Rattle.answer.specs.Orders.{require, Each, behind}
 use Rattle.answer.proofs.Orders.{not-both, require-accepts, then-accepts, first-accepts, moved-accepts}
 use Rattle.decimal.specs.LowHalves.{lowNumberOf}
-use Rattle.decimal.proofs.Finite.{never}
+use Rattle.answer.proofs.Tests.{never}
 use Rattle.calendar.specs.declared.Date.{Date}
 use Rattle.layout.specs.declared.Field.{Field}
 use Rattle.layout.specs.declared.MaybeRecord.{MaybeRecord}
