@@ -1,6 +1,6 @@
 -- Lines and their barcodes, both ways. Assumes nothing.
 use Prim.Native.Nat.{ℕ, _+_, _-_, _*_, _≤_, _<_}
-use mathlib.Core.Bool.{true, and-eq-true-iff}
+use mathlib.Core.Bool.{Bool, true, false, and-eq-true-iff}
 use mathlib.Core.List.{List, [], _∷_, _++_, append-nil, append-assoc}
 use mathlib.Core.Path.{_≡_, refl, sym, ap, _∙_}
 use native.Mathlib.Omega.{arith}
@@ -8,30 +8,30 @@ use borrow.Author.Tests.{eqb-true, eq-eqb}
 use lib.Dec.{eqb}
 use lib.ListN.{length, getD, take, drop, length-append, length-drop, take-append-drop, List·getD-append}
 use lib.Seq.{length-take-le, take-all, take-at, drop-at, drop-drop, getD-at, getD-take, getD-drop, take-suc}
-use Rattle.answer.specs.declared.Reason.the-variants.{WrongLength}
+use Rattle.answer.specs.declared.Reason.the-variants.{WrongLength, WrongGeneralCheck}
 use Rattle.answer.specs.declared.Answer.{Answer}
-use Rattle.answer.specs.declared.Answer.the-variants.{Accepted}
-use Rattle.answer.specs.Orders.{firstRefusal, movedBy}
+use Rattle.answer.specs.declared.Answer.the-variants.{Accepted, Refused}
+use Rattle.answer.specs.Orders.{require, firstRefusal, movedBy}
 use Rattle.answer.proofs.Orders.{then-accepts, moved-accepts, refusal-keeps}
 use Rattle.answer.proofs.Steps.{passed}
 use Rattle.decimal.specs.declared.Class.the-variants.{Digit}
 use Rattle.decimal.specs.Bytes.{isOf, all}
 use Rattle.decimal.specs.Numbers.{valueOf}
 use Rattle.decimal.specs.Places.{Stretch, partAt, gather}
-use Rattle.decimal.proofs.Places.{joins}
+use Rattle.decimal.proofs.Places.{joins, all-gathered}
 use Rattle.decimal.proofs.Bytes.{all-joins}
 use Rattle.decimal.proofs.Numbers.{digit-back}
 use Rattle.modulus.specs.declared.Modulus.{Modulus}
 use Rattle.modulus.specs.Checks.{checkOf}
 use Rattle.modulus.proofs.Sums.{check-is-one-digit}
-use Rattle.barcode.specs.Codes.{digitAt, modulusOf, firstThreeAnswer, prefixAnswer, fullLengthAnswer, barcodeAnswer, fieldsOf, decoded, decodedBarcode}
+use Rattle.barcode.specs.Codes.{digitAt, modulusOf, firstThreeAnswer, prefixAnswer, generalRight, fullLengthAnswer, barcodeAnswer, fieldsOf, decoded, decodedBarcode}
 use Rattle.barcode.proofs.Building.{fields-within-ranges-build}
 use Rattle.barcode.proofs.RoundTrips.{decoded-answers, code-is-its-fields, built-is-read}
 use Rattle.barcode.proofs.Codes.{first-three-same, prefix-accepts, good, accepted-length}
 use Rattle.barcode.specs.Building.{builtOf}
 use Rattle.barcode.specs.RoundTrips.{answerOfBarcode}
 use Rattle.line.specs.Lines.{boxes, codeOf, inLine, boxRight, boxAnswer, checksAnswer, lineBody, lineAnswer, decodedLine, checkedBox, quarters, withChecks, lineOf, toLineAnswer, toCodeAnswer}
-use Rattle.line.specs.RoundTrips.{SoundLine, LineIsBoxesAndCode, CodeToLineAndBack, LineToCodeAndBack, LineIsItsFields, FieldsGiveALine, RefusedConversionsKeep}
+use Rattle.line.specs.RoundTrips.{SoundLine, LineIsBoxesAndCode, OnlySevenBehindBoxes, DecodedLineAnswers, CodeToLineAndBack, LineToCodeAndBack, LineIsItsFields, FieldsGiveALine, RefusedConversionsKeep}
 use Rattle.line.proofs.Lines.{boxes-accept, code-body, line-body, checked-length}
 
 pub refused-conversions-keep : RefusedConversionsKeep
@@ -171,6 +171,25 @@ line-is-boxes-and-code line = (
       let body = moved-accepts inLine (fullLengthAnswer (codeOf line)) .1 (sym (code-body line n) ∙ s .code) in
       rw (eq-eqb (length line) 48 n, prefix, boxed, body),
 )
+
+pub only-seven-behind-boxes : OnlySevenBehindBoxes
+only-seven-behind-boxes line n prefix right =
+    let first = prefix-accepts line .0 prefix in
+    let digits = all-gathered (isOf Digit) boxes line (first .0) in
+    let code = prefix-accepts (codeOf line) .1 (digits, same-first-three line n ∙ first .1) in
+    let boxed = boxes-accept line boxes .1 right in
+    line-body line n ∙ rw (prefix, boxed, code) (in-place (generalRight (codeOf line)))
+  where
+    in-place : (t : Bool) → movedBy inLine (require t WrongGeneralCheck 4) ≡ require t WrongGeneralCheck 4
+    in-place true = refl
+    in-place false = refl
+
+pub decoded-line-answers : DecodedLineAnswers
+decoded-line-answers line = answers (lineAnswer line)
+  where
+    answers : (a : Answer) → answerOfBarcode (decoded a (fieldsOf (codeOf line))) ≡ a
+    answers Accepted = refl
+    answers (Refused why place) = refl
 
 -- what a line with right check digits is answered, and what it decodes to
 pub checks-decide : (line : List ℕ) → length line ≡ 48 → checksAnswer line ≡ Accepted → Accepted ≡ lineBody line

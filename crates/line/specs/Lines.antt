@@ -43,7 +43,8 @@ boxRight m line box = eqb (getD line (box .last) 0) (48 + checkOf m (partAt box 
 abbrev pub boxAnswer : List ℕ → Stretch → Answer
 boxAnswer line box = require (boxRight (modulusOf (digitAt 3 line)) line box) WrongBoxCheck (box .last + 1)
 
--- typed line: 1, 2, 3, 4, 5, 6, lowest box first, 7. Of its barcode's own order only 7 is left: the rest came before.
+-- typed line: 1, 2, 3, 4, 5, 6, lowest box first, 7. Of its barcode's own order only 7 is left, as the rest came before
+-- (`OnlySevenBehindBoxes`).
 abbrev pub checksAnswer : List ℕ → Answer
 checksAnswer line = firstRefusal (boxAnswer line) boxes then movedBy inLine (fullLengthAnswer (codeOf line))
 

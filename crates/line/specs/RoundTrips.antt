@@ -5,14 +5,15 @@ use mathlib.Core.List.{List}
 use mathlib.Core.Logic.{_↔_}
 use mathlib.Core.Path.{_≡_}
 use lib.ListN.{length, take}
+use Rattle.answer.specs.declared.Reason.the-variants.{WrongGeneralCheck}
 use Rattle.answer.specs.declared.Answer.the-variants.{Accepted}
-use Rattle.answer.specs.Orders.{ifAccepted, Each}
+use Rattle.answer.specs.Orders.{require, ifAccepted, Each}
 use Rattle.calendar.specs.Dates.{dateOf}
 use Rattle.barcode.specs.declared.Issuer.{Issuer}
 use Rattle.barcode.specs.declared.Decoded.the-variants.{Read}
-use Rattle.barcode.specs.Codes.{digitAt, modulusOf, fieldsOf, freeOf, barcodeAnswer}
+use Rattle.barcode.specs.Codes.{digitAt, modulusOf, fieldsOf, freeOf, prefixAnswer, generalRight, barcodeAnswer}
 use Rattle.barcode.specs.Building.{builtOf}
-use Rattle.barcode.specs.RoundTrips.{builtFrom, fromAnswer, WithinRanges}
+use Rattle.barcode.specs.RoundTrips.{answerOfBarcode, builtFrom, fromAnswer, WithinRanges}
 use Rattle.line.specs.Lines.{lineLength, boxes, codeOf, boxRight, lineAnswer, decodedLine}
 use Rattle.line.specs.Lines.{lineOf, toLineAnswer, toCodeAnswer}
 
@@ -24,6 +25,18 @@ pub record SoundLine (line : List ℕ) : Type 0 where
 
 abbrev pub LineIsBoxesAndCode : Type 0
 LineIsBoxesAndCode = (line : List ℕ) → (lineAnswer line ≡ Accepted) ↔ SoundLine line
+
+-- behind the boxes only 7 at place 4 is left: a line whose length, digits, first three places and boxes are right is
+-- accepted if its general check is right, else refused so
+abbrev pub OnlySevenBehindBoxes : Type 0
+OnlySevenBehindBoxes =
+    (line : List ℕ) → length line ≡ lineLength → prefixAnswer line ≡ Accepted
+    → Each (λ box. boxRight (modulusOf (digitAt 3 line)) line box ≡ true) boxes
+    → lineAnswer line ≡ require (generalRight (codeOf line)) WrongGeneralCheck 4
+
+-- the answer that a decoded line gives is the line's
+abbrev pub DecodedLineAnswers : Type 0
+DecodedLineAnswers = (line : List ℕ) → answerOfBarcode (decodedLine line) ≡ lineAnswer line
 
 -- line and barcode convert into each other and back
 abbrev pub CodeToLineAndBack : Type 0

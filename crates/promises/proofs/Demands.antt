@@ -6,6 +6,7 @@ use Rattle.barcode.proofs.RoundTrips.{decoded-answers, fields-are-its-places, b
 use Rattle.barcode.proofs.RoundTrips.{code-is-its-fields}
 use Rattle.barcode.proofs.Building.{fields-within-ranges-build}
 use Rattle.line.proofs.RoundTrips.{line-is-boxes-and-code, fields-give-a-line}
+use Rattle.line.proofs.RoundTrips.{only-seven-behind-boxes, decoded-line-answers}
 use Rattle.line.proofs.RoundTrips.{code-to-line-and-back, line-to-code-and-back, line-is-its-fields}
 use Rattle.layout.proofs.Layouts.{fields-cover, record-is-its-fields, mark-names, given-lengths}
 use Rattle.record.proofs.Shown.{decode-answers, right-fields-are-accepted, fields-are-their-places}
@@ -39,6 +40,7 @@ use Rattle.promises.proofs.Calls.{calls-make-one-file}
 use Rattle.promises.proofs.OneOutcome.{one-outcome}
 use Rattle.promises.proofs.Refusals.{refusals-change-nothing}
 use Rattle.promises.proofs.Samples.{samples-hold, p5-is-an-exchange, p9-is-a-change}
+use Rattle.promises.proofs.Samples.{p6-is-a-change}
 use Rattle.promises.proofs.Shown.{refusals-point-at-places, records-show-their-places}
 
 pub demand-1 : Demand1
@@ -51,6 +53,7 @@ demand-1 =
       order = then-refuses;
       row = first-refuses;
       boxes = first-refuses;
+      behindBoxes = only-seven-behind-boxes;
       bytes = each-refuses;
       keeps = refusals-change-nothing;
       finishing = finish-keeps-session;
@@ -62,7 +65,7 @@ demand-2 =
     record {
       table = (fields-cover, record-is-its-fields, mark-names, given-lengths);
       codes = (decoded-answers, fields-are-its-places, built-is-read);
-      lines = (line-is-boxes-and-code, fields-give-a-line);
+      lines = (decoded-line-answers, line-is-boxes-and-code, fields-give-a-line);
       records = (
         decode-answers,
         records-show-their-places,
@@ -105,6 +108,7 @@ demand-3 =
       changed = one-changed-digit-is-refused;
       exchanged = exchange-of-neighbours;
       changedEleven = one-changed-digit-under-eleven;
+      realRefused = p6-is-a-change;
       real = (p5-is-an-exchange, p9-is-a-change, directions-may-differ, borders-hold);
       beyond = (segment-typo-passes, kind-typo-passes);
     }

@@ -2,14 +2,22 @@
 use Prim.Native.Nat.{ℕ}
 use mathlib.Core.List.{List}
 use mathlib.Core.Path.{_≡_, refl, _∙_, ap}
+use denote.Ref.{now}
 use borrow.Fn.World.{World}
 use Rattle.answer.specs.declared.Answer.{Answer}
 use Rattle.answer.specs.declared.Answer.the-variants.{Accepted}
 use Rattle.answer.specs.Orders.{ifAccepted}
+use Rattle.answer.proofs.Refusals.{zero-is-accepted}
 use Rattle.answer.proofs.Orders.{refusal-keeps}
+use Rattle.session.specs.Sessions.{takeOf}
 use Rattle.writer.specs.declared.Writer.{Writer}
 use Rattle.writer.specs.declared.WriteResult.{WriteResult}
-use Rattle.promises.specs.Refusals.{RefusalsChangeNothing}
+use Rattle.page.specs.Pages.{bufferAnswer}
+use Rattle.hollytrot.specs.declared.CAnswer.{CAnswer}
+use Rattle.hollytrot.specs.declared.CWriter.{CWriter}
+use Rattle.hollytrot.specs.declared.CWriteResult.{CWriteResult}
+use Rattle.hollytrot.specs.Forms.{cAnswerOf}
+use Rattle.promises.specs.Refusals.{RefusalsChangeNothing, first, second, fifth}
 use Rattle.promises.proofs.Clauses.{Gives, clauses, by-one, by-two, by-bounded}
 
 -- a refusal keeps the old
@@ -43,6 +51,26 @@ writer w a new old r made held bytes =
     let state = given-by (λ t. t .answer) (λ t. t .writer) _ r new old refl p not in
     paired state (stays (r .answer) made held bytes b not))
 
+-- The exported operations: a number that is not 0 is that of a refusal.
+
+refused : (a : Answer) (s : CAnswer) → s ≡ cAnswerOf a → (s .number ≡ 0 → ⊥) → a ≡ Accepted → ⊥
+refused a s p not e = not (ap (λ t. t .number) p ∙ zero-is-accepted a .1 e)
+
+exported-buffer :
+    (w : World) (a : Answer) (r : CAnswer) (new old bytes : List ℕ)
+    → Gives w (clauses w (r ≡ cAnswerOf a) (bytes ≡ ifAccepted a new old)) ((r .number ≡ 0 → ⊥) → bytes ≡ old)
+exported-buffer w a r new old bytes = by-two w _ _ _ (λ p b not. stays a new old bytes b (refused a r p not))
+
+exported-writer :
+    (w : World) (a : Answer) (new old : CWriter) (r : CWriteResult) (made held bytes : List ℕ)
+    → Gives w
+    (clauses w (r ≡ record { answer = cAnswerOf a; writer = ifAccepted a new old }) (bytes ≡ ifAccepted a made held))
+    ((r .answer .number ≡ 0 → ⊥) → _≡_ {A = CWriter × List ℕ} (r .writer, bytes) (old, held))
+exported-writer w a new old r made held bytes =
+    by-two w _ _ _ (λ p b not.
+    let no = refused a (r .answer) (ap (λ t. t .answer) p) not in
+    paired (stays a new old (r .writer) (ap (λ t. t .writer) p) no) (stays a made held bytes b no))
+
 pub refusals-change-nothing : RefusalsChangeNothing
 refusals-change-nothing =
     record {
@@ -63,4 +91,19 @@ refusals-change-nothing =
       writer·Writer·trailer = search writer;
       page·print = λ w κs given g r left.
           by-bounded w _ _ _ _ (λ p b not. stays _ _ _ _ b (λ a. not (ap (λ t. t .answer) p ∙ a)));
+      hollytrot·hollytrot_barcode_build = search exported-buffer;
+      hollytrot·hollytrot_line_to_barcode = search exported-buffer;
+      hollytrot·hollytrot_line_from_barcode = search exported-buffer;
+      «hollytrot·hollytrot_record_join» = search exported-buffer;
+      hollytrot·hollytrot_session_take = λ w κs given g r left.
+          let a = takeOf (first given) (now (second given)) .answer in
+          by-one w _ _ (λ p not.
+          stays a _ _ _ (ap (λ t. t .session) p) (refused a (r .answer) (ap (λ t. t .answer) p) not));
+      hollytrot·hollytrot_session_finish = λ w κs given g r left. by-one w _ _ (λ p not. ap (λ t. t .session) p);
+      hollytrot·hollytrot_writer_header = search exported-writer;
+      hollytrot·hollytrot_writer_payment = search exported-writer;
+      hollytrot·hollytrot_writer_trailer = search exported-writer;
+      hollytrot·hollytrot_page = λ w κs given g r left.
+          let a = bufferAnswer (now (fifth given)) in
+          by-two w _ _ _ (λ p b not. stays a _ _ _ b (refused a (r .answer) (ap (λ t. t .answer) p) not));
     }

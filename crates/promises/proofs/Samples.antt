@@ -1,13 +1,14 @@
 -- The samples, by computation. Assumes nothing.
 use mathlib.Core.List.{List, [], _∷_, map}
 use mathlib.Core.Logic.{inl}
-use mathlib.Core.Path.{_≡_, refl, ap}
+use mathlib.Core.Path.{_≡_, refl, sym, ap, subst}
 use native.Mathlib.Omega.{arith}
+use lib.ListN.{getD, set}
 use Rattle.answer.specs.Orders.{Each}
 use Rattle.decimal.specs.Bytes.{isOf}
 use Rattle.decimal.specs.Numbers.{valueOf, digitsOf}
 use Rattle.calendar.specs.Dates.{isLeap, daysIn, isDate, dateOf}
-use Rattle.modulus.specs.Checks.{addedBy, termOf, digitOfRemainder}
+use Rattle.modulus.specs.Checks.{addedBy, termOf, digitOfRemainder, exchanged, ZeroAndNine}
 use Rattle.barcode.specs.Codes.{firstThreeAnswer, generalRight}
 use Rattle.line.specs.Lines.{boxRight}
 use Rattle.layout.specs.Layouts.{namedBy, layoutOf, table, rowAt}
@@ -16,7 +17,13 @@ use Rattle.record.specs.Records.{fieldAnswer, recordAnswer}
 use Rattle.file.specs.Files.{fileAnswer, figuresAnswer}
 use Rattle.board.specs.Lanes.{fits}
 use Rattle.board.specs.Boards.{ownOf, usedAfter, slotAnswer}
-use Rattle.promises.specs.Samples.{Row, outcomeOf, samples, Hold, P4IsPaid, P5IsAnExchange, P9IsAChange}
+use Rattle.typos.specs.Typos.{Passes, InOneBox, BothMove, NoCheck}
+use Rattle.typos.proofs.OneTen.{one-changed-digit-is-refused}
+use Rattle.typos.proofs.Exchange.{exchange-of-neighbours}
+use Rattle.typos.proofs.OneEleven.{one-changed-digit-under-eleven}
+use Rattle.promises.specs.Samples.{Row, outcomeOf, samples, Hold, P4IsPaid, p4, p5, p6, p8, p9}
+use Rattle.promises.specs.Samples.{ChangeUnderTen, ExchangeUnderTen, ChangeUnderEleven}
+use Rattle.promises.specs.Samples.{P5IsAnExchange, P6IsAChange, P9IsAChange}
 
 -- one equation between two tables gives each row's
 each-row : {A B : Type 0} (f g : A → B) (xs : List A) → map f xs ≡ map g xs → Each (λ x. f x ≡ g x) xs
@@ -44,10 +51,75 @@ pub p4-is-paid : P4IsPaid
 unfolding digitsOf
 p4-is-paid = refl
 
-pub p5-is-an-exchange : P5IsAnExchange
+-- Demand 3's statements applied. The premises are computed; what the statement says follows from it.
+
+p6-is : p6 ≡ set p4 47 57
+unfolding digitsOf
+p6-is = refl
+
+p6-premises : ChangeUnderTen p4 47 57
 unfolding firstThreeAnswer generalRight boxRight digitOfRemainder termOf addedBy digitsOf valueOf isOf
-p5-is-an-exchange = (refl, inl (refl, refl), omega arith, refl, refl, refl)
+p6-premises =
+    record { passes = refl; names = refl; inside = omega arith; changes = λ e. omega (arith, e); still = refl }
+
+pub p6-is-a-change : P6IsAChange
+p6-is-a-change =
+    let c = p6-premises in
+    let never = one-changed-digit-is-refused p4 47 57 (c .passes) (c .names) (c .inside) (c .changes) (c .still) in
+    (p6-is, c, λ e. never (subst Passes p6-is e))
+
+p5-is : p5 ≡ exchanged p4 14
+unfolding digitsOf
+p5-is = refl
+
+p5-premises : ExchangeUnderTen p4 14
+unfolding firstThreeAnswer generalRight boxRight digitOfRemainder termOf addedBy digitsOf valueOf isOf
+p5-premises =
+    record { passes = refl; names = refl; inside = omega arith; differ = λ e. omega (arith, e); still = refl }
+
+p5-digits : ZeroAndNine (getD p4 14 0) (getD p4 15 0)
+unfolding digitsOf
+p5-digits = inl (refl, refl)
+
+p5-box : InOneBox 14
+p5-box = omega arith
+
+pub p5-is-an-exchange : P5IsAnExchange
+p5-is-an-exchange =
+    let c = p5-premises in
+    let exactly = exchange-of-neighbours p4 14 (c .passes) (c .names) (c .inside) (c .differ) (c .still) in
+    (p5-is, c, p5-digits, p5-box, subst Passes (sym p5-is) (exactly .1 (p5-digits, p5-box)))
+
+p9-is : p9 ≡ set p8 46 54
+unfolding digitsOf
+p9-is = refl
+
+p9-premises : ChangeUnderEleven p8 46 54
+unfolding firstThreeAnswer generalRight boxRight digitOfRemainder termOf addedBy digitsOf valueOf isOf
+p9-premises =
+    record {
+      passes = refl;
+      names = refl;
+      inside = omega arith;
+      changes = λ e. omega (arith, e);
+      digit = refl;
+      first = refl;
+      second = refl;
+      still = refl;
+    }
+
+p9-place : NoCheck 46
+p9-place = omega arith
+
+p9-moves : BothMove 46 p8 p9
+unfolding termOf addedBy digitsOf valueOf isOf
+p9-moves = (inl (refl, refl), inl (refl, refl))
 
 pub p9-is-a-change : P9IsAChange
-unfolding firstThreeAnswer generalRight boxRight digitOfRemainder termOf addedBy digitsOf valueOf isOf
-p9-is-a-change = (refl, omega arith, (inl (refl, refl), inl (refl, refl)), refl, refl, refl)
+p9-is-a-change =
+    let c = p9-premises in
+    let exactly =
+    one-changed-digit-under-eleven p8 46 54 (c .passes) (c .names) (c .inside) (c .changes) (c .digit) (c .first)
+    (c .second) (c .still) in
+    let moves = subst (BothMove 46 p8) p9-is p9-moves in
+    (p9-is, c, p9-place, p9-moves, subst Passes (sym p9-is) (exactly .1 (p9-place, moves)))

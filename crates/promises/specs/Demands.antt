@@ -7,6 +7,7 @@ use Rattle.decimal.specs.Places.{Stretch}
 use Rattle.barcode.specs.RoundTrips.{DecodedAnswers, FieldsAreItsPlaces, BuiltIsRead}
 use Rattle.barcode.specs.RoundTrips.{FieldsWithinRangesBuild, CodeIsItsFields}
 use Rattle.line.specs.RoundTrips.{LineIsBoxesAndCode, FieldsGiveALine}
+use Rattle.line.specs.RoundTrips.{OnlySevenBehindBoxes, DecodedLineAnswers}
 use Rattle.line.specs.RoundTrips.{CodeToLineAndBack, LineToCodeAndBack, LineIsItsFields}
 use Rattle.layout.specs.declared.Field.{Field}
 use Rattle.layout.specs.Layouts.{FieldsCover, RecordIsItsFields, MarkNames, GivenLengths}
@@ -36,6 +37,7 @@ use Rattle.promises.specs.Calls.{CallsMakeOneFile}
 use Rattle.promises.specs.OneOutcome.{OneOutcome}
 use Rattle.promises.specs.Refusals.{RefusalsChangeNothing}
 use Rattle.promises.specs.Samples.{samples, Hold, P5IsAnExchange, P9IsAChange}
+use Rattle.promises.specs.Samples.{P6IsAChange}
 use Rattle.promises.specs.Shown.{RefusalsPointAtPlaces, RecordsShowTheirPlaces}
 
 -- "It takes every input without a fault and ends" is not stated here: the toolchain proves it of every function that it
@@ -51,6 +53,7 @@ pub record Demand1 : Type 2 where
   pub order : ThenRefuses
   pub row : FirstRefuses Field
   pub boxes : FirstRefuses Stretch
+  pub behindBoxes : OnlySevenBehindBoxes
   pub bytes : EachRefuses
   -- "and then the session, the board and the buffers we lent are what they were"
   pub keeps : RefusalsChangeNothing
@@ -63,7 +66,7 @@ pub record Demand2 : Type 0 where
   pub table : FieldsCover × RecordIsItsFields × MarkNames × GivenLengths
   -- "Lines, barcodes and records decode to their fields,"
   pub codes : DecodedAnswers × FieldsAreItsPlaces × BuiltIsRead
-  pub lines : LineIsBoxesAndCode × FieldsGiveALine
+  pub lines : DecodedLineAnswers × LineIsBoxesAndCode × FieldsGiveALine
   pub records : DecodeAnswers × RecordsShowTheirPlaces × FieldsAreTheirPlaces × MadeIsAccepted × WrittenAmountsAreRead
   -- and nothing is refused that the layout allows,
   pub allowed : FieldsWithinRangesBuild × RightFieldsAreAccepted
@@ -98,6 +101,7 @@ pub record Demand3 : Type 0 where
   -- the whole code both move between 0 and 1."
   pub changedEleven : OneChangedDigitUnderEleven
   -- each case occurs, and a typo that the demand leaves out may pass
+  pub realRefused : P6IsAChange
   pub real : P5IsAnExchange × P9IsAChange × DirectionsMayDiffer × BordersHold
   pub beyond : SegmentTypoPasses × KindTypoPasses
 

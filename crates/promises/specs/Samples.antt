@@ -1,11 +1,14 @@
 -- P1 to P12 (SPEC.md, "Samples"): each row has an input, what is computed of it, and the outcome. Assumes nothing.
-use Prim.Native.Nat.{ℕ}
+use Prim.Native.Nat.{ℕ, _+_, _<_}
 use mathlib.Core.Bool.{Bool, true, false}
 use mathlib.Core.List.{List, [], _∷_, _++_}
+use mathlib.Core.Logic.{_≢_}
 use mathlib.Core.Path.{_≡_}
 use lib.ListN.{getD, set}
-use Rattle.answer.specs.Refusals.{reasonNumber, answerNumber, answerPlace}
+use Rattle.answer.specs.Refusals.{answerNumber, answerPlace}
 use Rattle.answer.specs.Orders.{Each}
+use Rattle.decimal.specs.declared.Class.the-variants.{Digit}
+use Rattle.decimal.specs.Bytes.{isOf}
 use Rattle.decimal.specs.Numbers.{digitsOf}
 use Rattle.decimal.specs.Places.{gather}
 use Rattle.calendar.specs.declared.MaybeDate.{MaybeDate}
@@ -15,10 +18,10 @@ use Rattle.modulus.specs.declared.Modulus.{Modulus}
 use Rattle.modulus.specs.declared.Modulus.the-variants.{Ten, Eleven}
 use Rattle.modulus.specs.Checks.{checkOf, exchanged, ZeroAndNine}
 use Rattle.barcode.specs.declared.Decoded.{Decoded}
-use Rattle.barcode.specs.declared.Decoded.the-variants.{Read, Refused}
 use Rattle.barcode.specs.declared.Fields.{Fields}
 use Rattle.barcode.specs.Codes as barcodes
-use Rattle.barcode.specs.Codes.{checked}
+use Rattle.barcode.specs.Codes.{checked, digitAt, product, isSegment, noFields}
+use Rattle.barcode.specs.RoundTrips.{answerOfBarcode, shownFields}
 use Rattle.line.specs.Lines as lines
 use Rattle.board.specs.declared.Lane.{Lane}
 use Rattle.board.specs.Boards.{lanesOf}
@@ -49,14 +52,19 @@ pub record Shown : Type 0 where
 
 pub data Outcome : Type 0 where
   digit : ℕ → Outcome
-  accepted : Fields → Outcome
-  refused : ℕ → ℕ → Outcome
+  decodes : ℕ → ℕ → Fields → Outcome
   isDate : Bool → Outcome
   shows : Shown → Outcome
 
+-- a barcode or line decoded: the number and place of its answer and the fields shown, which are zeros if it is refused
+abbrev pub accepted : Fields → Outcome
+accepted fields = decodes 0 0 fields
+
+abbrev pub refused : ℕ → ℕ → Outcome
+refused number place = decodes number place noFields
+
 abbrev pub decodedTo : Decoded → Outcome
-decodedTo (Read fields) = accepted fields
-decodedTo (Refused why place) = refused (reasonNumber why) place
+decodedTo d = decodes (answerNumber (answerOfBarcode d)) (answerPlace (answerOfBarcode d)) (shownFields d)
 
 abbrev pub dated : MaybeDate → Outcome
 dated (On d) = isDate true
@@ -163,24 +171,51 @@ Hold rows = Each (λ (row : Row). outcomeOf (row .question) ≡ row .outcome) ro
 abbrev pub P4IsPaid : Type 0
 P4IsPaid = lines.codeOf p4 ≡ ledger.code
 
--- Promises: typos that pass by demand 3 occur.
+-- Promises: each statement of demand 3 has an instance among the samples. Of each instance: the typo, the premises of
+-- the statement, and what the statement says.
 
--- P5 is P4 with 0 and 9 exchanged at places 15 and 16, in its second box
+-- the premises of `OneChangedDigitIsRefused`
+pub record ChangeUnderTen (line : List ℕ) (i d : ℕ) : Type 0 where
+  pub passes : Passes line
+  pub names : Names Ten line
+  pub inside : i < lines.lineLength
+  pub changes : d ≢ getD line i 0
+  pub still : Names Ten (set line i d)
+
+-- P6 is P4 with place 48, the last box's check, changed from 8 to 9: it is refused
+abbrev pub P6IsAChange : Type 0
+P6IsAChange = (p6 ≡ set p4 47 57) × ChangeUnderTen p4 47 57 × ¬ Passes p6
+
+-- the premises of `ExchangeOfNeighbours`
+pub record ExchangeUnderTen (line : List ℕ) (i : ℕ) : Type 0 where
+  pub passes : Passes line
+  pub names : Names Ten line
+  pub inside : i + 1 < lines.lineLength
+  pub differ : getD line i 0 ≢ getD line (i + 1) 0
+  pub still : Names Ten (exchanged line i)
+
+-- P5 is P4 with 0 and 9 exchanged at places 15 and 16, in its second box: it passes
 abbrev pub P5IsAnExchange : Type 0
 P5IsAnExchange =
     (p5 ≡ exchanged p4 14)
+    × ExchangeUnderTen p4 14
     × ZeroAndNine (getD p4 14 0) (getD p4 15 0)
     × InOneBox 14
-    × Names Ten p4
-    × Passes p4
     × Passes p5
 
--- P9 is P8 with place 47 changed from 0 to 6
+-- the premises of `OneChangedDigitUnderEleven`
+pub record ChangeUnderEleven (line : List ℕ) (i d : ℕ) : Type 0 where
+  pub passes : Passes line
+  pub names : Names Eleven line
+  pub inside : i < lines.lineLength
+  pub changes : d ≢ getD line i 0
+  pub digit : isOf Digit d ≡ true
+  pub first : digitAt 1 (set line i d) ≡ product
+  pub second : isSegment (digitAt 2 (set line i d)) ≡ true
+  pub still : Names Eleven (set line i d)
+
+-- P9 is P8 with place 47 changed from 0 to 6, which is no check digit, and both remainders move between 0 and 1: it
+-- passes
 abbrev pub P9IsAChange : Type 0
 P9IsAChange =
-    (p9 ≡ set p8 46 54)
-    × NoCheck 46
-    × BothMove 46 p8 p9
-    × Names Eleven p8
-    × Passes p8
-    × Passes p9
+    (p9 ≡ set p8 46 54) × ChangeUnderEleven p8 46 54 × NoCheck 46 × BothMove 46 p8 p9 × Passes p9
