@@ -4,7 +4,8 @@ ghost use mathlib.Core.Path.{_≡_};
 ghost use Prim.Native.Nat.{_≤_};
 ghost use lib.ListN.{length, take};
 ghost use Rattle.quadro.specs.Days.{bufferLength, mostCounted, freshDay, runBufferOf, endedOf};
-ghost use Rattle.quadro.specs.Days.{Counted, Grown, CountsWithin};
+ghost use Rattle.quadro.specs.Days.{Counted, Grown, EndsBelow};
+ghost use Rattle.quadro.specs.Turns.{moreUnlessRefused, hasMore, TurnOf};
 use answer::Answer;
 use libc::STDERR_FILENO;
 use libc::STDIN_FILENO;
@@ -27,7 +28,7 @@ pub enum BufferRead {
 
 // Reads until the buffer is full, the input ends or a read fails.
 fn read_buffer(buf: &mut [u8]) -> BufferRead
-    ensures { λ r. ⌜ CountsWithin (length (now (buf .entry))) r ⌝ }
+    ensures { λ r. ⌜ EndsBelow (length (now (buf .entry))) r ⌝ }
 {
     let mut n: usize = 0;
     while n < buf.len() {
@@ -108,7 +109,9 @@ pub struct TurnResult {
     pub day: RunResult,
 }
 
-fn more_unless_refused(answer: Answer) -> TurnEnd {
+fn more_unless_refused(answer: Answer) -> TurnEnd
+    ensures { λ r. ⌜ r ≡ moreUnlessRefused answer ⌝ }
+{
     match answer {
         Answer::Accepted => TurnEnd::More,
         Answer::Refused(_, _) => TurnEnd::Over,
@@ -119,6 +122,7 @@ fn more_unless_refused(answer: Answer) -> TurnEnd {
 fn run_next_buffer(day: RunResult, buf: &mut [u8; SIZE]) -> TurnResult
     requires { ⌜ Counted mostCounted day ⌝ }
     ensures { λ r. ⌜ Grown day (r .day) ⌝ }
+    ensures turn { λ r. ⌜ TurnOf day (now (buf .exit)) r ⌝ }
 {
     match read_buffer(buf) {
         BufferRead::Full => {
@@ -140,7 +144,9 @@ fn run_next_buffer(day: RunResult, buf: &mut [u8; SIZE]) -> TurnResult
     }
 }
 
-fn has_more(end: TurnEnd) -> bool {
+fn has_more(end: TurnEnd) -> bool
+    ensures { λ r. ⌜ r ≡ hasMore end ⌝ }
+{
     match end {
         TurnEnd::More => true,
         TurnEnd::Over => false,
