@@ -123,8 +123,8 @@ reached-none e f = record { buffers = []; counted = omega arith; accepted = tt; 
 
 pub reached-more :
     {turns left : ℕ} {day : RunResult} (bytes : List ℕ) (t : TurnResult) → left + 1 ≡ turns → Reached turns day
-    → bufferLength ≤ length bytes → TurnOf day bytes t → hasMore (t .end) ≡ true → Reached left (t .day)
-reached-more {turns} {left} {day} bytes t e r l o h =
+    → TurnOf day bytes t → hasMore (t .end) ≡ true → Reached left (t .day)
+reached-more {turns} {left} {day} bytes t e r o h =
     let b = take bufferLength bytes in
     let m = more-ran day bytes t (o .read) (o .is) h in
     let same : runBufferOf day b ≡ runBufferOf (runBuffersOf freshDay (r .buffers)) b =
@@ -135,7 +135,7 @@ reached-more {turns} {left} {day} bytes t e r l o h =
       buffers = r .buffers ++ (b ∷ []);
       counted = omega arith;
       accepted =
-          accepted-on freshDay (r .buffers) b (r .accepted) (length-take-le bufferLength bytes l)
+          accepted-on freshDay (r .buffers) b (r .accepted) (length-take-le bufferLength bytes (omega (arith, o .whole)))
           (ap answerOf (sym same) ∙ m .1);
       is = m .0 ∙ same ∙ sym (buffers-on freshDay (r .buffers) b);
     }
@@ -145,7 +145,7 @@ pub reached-last :
     → TurnOf day bytes t → hasMore (t .end) ≡ false → InputRun bytes t
 reached-last {turns} {day} bytes t r o h =
     let turned : TurnOf (runBuffersOf freshDay (r .buffers)) bytes t =
-    record { read = o .read; below = o .below; is = o .is ∙ ap (λ (d : RunResult). turnOf d bytes (o .read)) (r .is) } in
+    record { whole = o .whole; read = o .read; below = o .below; is = o .is ∙ ap (λ (d : RunResult). turnOf d bytes (o .read)) (r .is) } in
     record { buffers = r .buffers; accepted = r .accepted; last = inr (h, turned) }
 
 pub reached-all :

@@ -37,8 +37,9 @@ turnOf day bytes buffer.Full = turnAfterFull (runBufferOf day (take bufferLength
 turnOf day bytes (buffer.Ended n) = turnWith turn.Over (endedOf (runBufferOf day (take n bytes)))
 turnOf day bytes buffer.Failed = turnWith turn.Failed day
 
--- a turn of the day, with these bytes in the buffer
+-- a turn of the day, with these bytes in the whole buffer
 pub record TurnOf (day : RunResult) (bytes : List ℕ) (t : TurnResult) : Type 0 where
+  pub whole : length bytes ≡ bufferLength
   pub read : BufferRead
   pub below : EndsBelow bufferLength read
   pub is : t ≡ turnOf day bytes read

@@ -6,6 +6,7 @@ ghost use lib.ListN.{length, take};
 ghost use Rattle.quadro.specs.Days.{bufferLength, mostCounted, freshDay, runBufferOf, endedOf};
 ghost use Rattle.quadro.specs.Days.{Counted, Grown, EndsBelow};
 ghost use Rattle.quadro.specs.Turns.{moreUnlessRefused, hasMore, TurnOf};
+ghost use Rattle.quadro.specs.Inputs.{InputRun};
 use answer::Answer;
 use libc::STDERR_FILENO;
 use libc::STDIN_FILENO;
@@ -154,14 +155,16 @@ fn has_more(end: TurnEnd) -> bool
     }
 }
 
-// The last turn over the input: at its end, at the first refusal or failed read, or after 2^60 bytes.
-fn run_input() -> TurnResult {
-    let mut buf = [0u8; SIZE];
+// The last turn over the input: at its end, at the first refusal or failed read, or after 2^60 bytes. The buffer is the
+// caller's, so that the contract can speak of the last bytes read.
+fn run_input(buf: &mut [u8; SIZE]) -> TurnResult
+    ensures { λ r. ⌜ InputRun (now (buf .exit)) r ⌝ }
+{
     let mut day = fresh_day();
     let mut turns: u64 = TURNS;
     while 0 < turns {
         turns -= 1;
-        let next = run_next_buffer(day, &mut buf);
+        let next = run_next_buffer(day, buf);
         let end = next.end;
         if !has_more(end) {
             return next;
@@ -195,7 +198,8 @@ fn print_page(day: RunResult) {
 }
 
 fn main() {
-    let last = run_input();
+    let mut buf = [0u8; SIZE];
+    let last = run_input(&mut buf);
     let end = last.end;
     let day = last.day;
     match end {
