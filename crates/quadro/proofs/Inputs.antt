@@ -10,10 +10,14 @@ use lib.ListN.{length, take, length-append}
 use lib.Seq.{length-take-le}
 use Rattle.answer.specs.declared.Answer.{Answer}
 use Rattle.answer.specs.declared.Answer.the-variants.{Accepted, Refused}
+use Rattle.answer.specs.Refusals.{answerNumber, answerPlace}
 use Rattle.answer.specs.Orders.{Each}
 use Rattle.answer.proofs.Orders.{not-both}
 use Rattle.layout.specs.Layouts.{recordLength}
 use Rattle.session.specs.declared.RunResult.{RunResult}
+use Rattle.page.specs.declared.PrintResult.{PrintResult}
+use Rattle.page.specs.Pages.{pageOf, pageLength, printResultOf, bytesWith}
+use Rattle.page.proofs.Pages.{printed-holds}
 use Rattle.quadro.specs.declared.BufferRead.{BufferRead}
 use Rattle.quadro.specs.declared.BufferRead.the-variants as buffer
 use Rattle.quadro.specs.declared.TurnEnd.{TurnEnd}
@@ -234,3 +238,16 @@ until-refused day (b ∷ bs) last w =
 pub buffers-print-one-page : BuffersPrintOnePage
 buffers-print-one-page buffers last w =
     ap (λ (d : RunResult). pageOfDay (endedOf d)) (until-refused freshDay buffers last w)
+
+-- The page of a day, as it is put into a buffer.
+pub page-put :
+    (day : RunResult) (old new : List ℕ) {number place : ℕ} {r : PrintResult}
+    → number ≡ answerNumber (day .answer) → place ≡ answerPlace (day .answer) → length old ≡ pageLength
+    → r ≡ printResultOf (pageOf number place (day .records) (day .files) (day .session .shown)) old
+    → new ≡ bytesWith (pageOf number place (day .records) (day .files) (day .session .shown)) old
+    → take (r .length) new ≡ pageOfDay day
+page-put day old new {number} {place} {r} n p l is bytes =
+    let page = pageOf number place (day .records) (day .files) (day .session .shown) in
+    let same : page ≡ pageOfDay day = rw (n, p) in
+    let starts : take (r .length) new ≡ page = rw (is, bytes) (printed-holds page old l .1) in
+    starts ∙ same

@@ -6,7 +6,8 @@ ghost use lib.ListN.{length, take};
 ghost use Rattle.quadro.specs.Days.{bufferLength, mostCounted, freshDay, runBufferOf, endedOf};
 ghost use Rattle.quadro.specs.Days.{Counted, Grown, EndsBelow};
 ghost use Rattle.quadro.specs.Turns.{moreUnlessRefused, hasMore, TurnOf};
-ghost use Rattle.quadro.specs.Inputs.{InputRun};
+ghost use Rattle.quadro.specs.Inputs.{pageOfDay, InputRun};
+ghost use Rattle.page.specs.Pages.{pageLength};
 use answer::Answer;
 use libc::STDERR_FILENO;
 use libc::STDIN_FILENO;
@@ -177,21 +178,24 @@ fn run_input(buf: &mut [u8; SIZE]) -> TurnResult
     }
 }
 
-fn print_page(day: RunResult) {
-    let mut page = [0u8; page::PAGE];
+// Writes the page of a day from the buffer's start and returns its length.
+fn put_page(day: RunResult, out: &mut [u8; page::PAGE]) -> usize
+    ensures { λ r. ⌜ take r (now (out .exit)) ≡ pageOfDay day ⌝ }
+    ensures bounded { λ r. ⌜ (r ≤ pageLength) × (length (now (out .exit)) ≡ pageLength) ⌝ }
+{
     let answer = day.answer;
     let session = day.session;
     let board = session.shown;
     let number = answer.number() as u64;
-    let printed = page::print(
-        number,
-        answer.place(),
-        day.records,
-        day.files,
-        board,
-        &mut page,
-    );
-    let length = printed.length;
+    let printed = page::print(number, answer.place(), day.records, day.files, board, out);
+    printed.length
+}
+
+// No contract of the libraries says which bytes a write takes, so none can be stated here; the bytes handed to it are
+// those of `put_page`.
+fn print_page(day: RunResult) {
+    let mut page = [0u8; page::PAGE];
+    let length = put_page(day, &mut page);
     if !io::write_all(STDOUT_FILENO, &page[..length]) {
         os::fail(b"quadro: standard output");
     }
