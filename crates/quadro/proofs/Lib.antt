@@ -1,3 +1,4 @@
 pub mod Days
 pub mod Buffers
 pub mod Inputs
+pub mod Samples
