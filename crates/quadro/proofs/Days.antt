@@ -1,5 +1,5 @@
 -- A run counts no more records and files than it has bytes. Assumes nothing.
-use Prim.Native.Nat.{ℕ, zero, suc, _≤_}
+use Prim.Native.Nat.{ℕ, zero, suc, _≤_, _<_}
 use mathlib.Core.List.{List, [], _∷_}
 use mathlib.Core.Path.{_≡_, ap}
 use native.Mathlib.Omega.{arith}
@@ -21,7 +21,7 @@ use Rattle.session.specs.Sessions.{takeAnswer, sessionWith, finishOf}
 use Rattle.session.specs.Runs.{piecesUpTo, piecesOf, filesClosed, addCounts, stoppedIfRefused, runAll, runOf}
 use Rattle.quadro.specs.declared.BufferRead.{BufferRead}
 use Rattle.quadro.specs.declared.BufferRead.the-variants.{Ended}
-use Rattle.quadro.specs.Days.{runBufferOf, endedOf, Counted, CountsWithin}
+use Rattle.quadro.specs.Days.{runBufferOf, endedOf, Counted, EndsBelow}
 
 closed-few : (n : MaybeRecord) → filesClosed n ≤ 1
 closed-few (Is Header) = omega arith
@@ -82,6 +82,6 @@ pub ended-accepted :
     → answered day (took .answer) ≡ endedOf day
 ended-accepted day e f = rw (e, f)
 
--- if the input ended, the bytes read fit into the buffer
-pub ended : {r : BufferRead} {k n : ℕ} → r ≡ Ended k → CountsWithin n r → k ≤ n
+-- if the input ended, the buffer is not full
+pub ended : {r : BufferRead} {k n : ℕ} → r ≡ Ended k → EndsBelow n r → k < n
 ended e w = rw e at w

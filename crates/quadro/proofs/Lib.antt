@@ -1,2 +1,4 @@
 pub mod Days
 pub mod Buffers
+pub mod Inputs
+pub mod Samples

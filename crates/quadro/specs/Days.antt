@@ -1,5 +1,5 @@
 -- A day (SPEC.md, "The program quadro"): the run over the input, buffer by buffer, and its end. Assumes nothing.
-use Prim.Native.Nat.{ℕ, _+_, _*_, _≤_}
+use Prim.Native.Nat.{ℕ, _+_, _*_, _≤_, _<_}
 use mathlib.Core.List.{List, _++_}
 use mathlib.Core.Path.{_≡_}
 use lib.ListN.{length}
@@ -60,8 +60,8 @@ Counted n day = (day .records ≤ n) × (day .files ≤ n)
 abbrev pub Grown : RunResult → RunResult → Type 0
 Grown day next = (next .records ≤ day .records + bufferLength) × (next .files ≤ day .files + bufferLength)
 
--- if the input ended, at most n bytes were read
-abbrev pub CountsWithin : ℕ → BufferRead → Type 0
-CountsWithin n Full = Unit {0}
-CountsWithin n (Ended k) = k ≤ n
-CountsWithin n Failed = Unit {0}
+-- if the input ended, fewer than n bytes were read: a full buffer is not its end
+abbrev pub EndsBelow : ℕ → BufferRead → Type 0
+EndsBelow n Full = Unit {0}
+EndsBelow n (Ended k) = k < n
+EndsBelow n Failed = Unit {0}

@@ -1,1 +1,4 @@
 pub mod Days
+pub mod Turns
+pub mod Inputs
+pub mod Samples

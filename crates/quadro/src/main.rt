@@ -4,7 +4,10 @@ ghost use mathlib.Core.Path.{_≡_};
 ghost use Prim.Native.Nat.{_≤_};
 ghost use lib.ListN.{length, take};
 ghost use Rattle.quadro.specs.Days.{bufferLength, mostCounted, freshDay, runBufferOf, endedOf};
-ghost use Rattle.quadro.specs.Days.{Counted, Grown, CountsWithin};
+ghost use Rattle.quadro.specs.Days.{Counted, Grown, EndsBelow};
+ghost use Rattle.quadro.specs.Turns.{moreUnlessRefused, hasMore, TurnOf};
+ghost use Rattle.quadro.specs.Inputs.{pageOfDay, InputRun};
+ghost use Rattle.page.specs.Pages.{pageLength};
 use answer::Answer;
 use libc::STDERR_FILENO;
 use libc::STDIN_FILENO;
@@ -27,7 +30,7 @@ pub enum BufferRead {
 
 // Reads until the buffer is full, the input ends or a read fails.
 fn read_buffer(buf: &mut [u8]) -> BufferRead
-    ensures { λ r. ⌜ CountsWithin (length (now (buf .entry))) r ⌝ }
+    ensures { λ r. ⌜ EndsBelow (length (now (buf .entry))) r ⌝ }
 {
     let mut n: usize = 0;
     while n < buf.len() {
@@ -108,7 +111,9 @@ pub struct TurnResult {
     pub day: RunResult,
 }
 
-fn more_unless_refused(answer: Answer) -> TurnEnd {
+fn more_unless_refused(answer: Answer) -> TurnEnd
+    ensures { λ r. ⌜ r ≡ moreUnlessRefused answer ⌝ }
+{
     match answer {
         Answer::Accepted => TurnEnd::More,
         Answer::Refused(_, _) => TurnEnd::Over,
@@ -119,6 +124,7 @@ fn more_unless_refused(answer: Answer) -> TurnEnd {
 fn run_next_buffer(day: RunResult, buf: &mut [u8; SIZE]) -> TurnResult
     requires { ⌜ Counted mostCounted day ⌝ }
     ensures { λ r. ⌜ Grown day (r .day) ⌝ }
+    ensures turn { λ r. ⌜ TurnOf day (now (buf .exit)) r ⌝ }
 {
     match read_buffer(buf) {
         BufferRead::Full => {
@@ -140,7 +146,9 @@ fn run_next_buffer(day: RunResult, buf: &mut [u8; SIZE]) -> TurnResult
     }
 }
 
-fn has_more(end: TurnEnd) -> bool {
+fn has_more(end: TurnEnd) -> bool
+    ensures { λ r. ⌜ r ≡ hasMore end ⌝ }
+{
     match end {
         TurnEnd::More => true,
         TurnEnd::Over => false,
@@ -148,14 +156,16 @@ fn has_more(end: TurnEnd) -> bool {
     }
 }
 
-// The last turn over the input: at its end, at the first refusal or failed read, or after 2^60 bytes.
-fn run_input() -> TurnResult {
-    let mut buf = [0u8; SIZE];
+// The last turn over the input: at its end, at the first refusal or failed read, or after 2^60 bytes. The buffer is the
+// caller's, so that the contract can speak of the last bytes read.
+fn run_input(buf: &mut [u8; SIZE]) -> TurnResult
+    ensures { λ r. ⌜ InputRun (now (buf .exit)) r ⌝ }
+{
     let mut day = fresh_day();
     let mut turns: u64 = TURNS;
     while 0 < turns {
         turns -= 1;
-        let next = run_next_buffer(day, &mut buf);
+        let next = run_next_buffer(day, buf);
         let end = next.end;
         if !has_more(end) {
             return next;
@@ -168,28 +178,32 @@ fn run_input() -> TurnResult {
     }
 }
 
-fn print_page(day: RunResult) {
-    let mut page = [0u8; page::PAGE];
+// Writes the page of a day from the buffer's start and returns its length.
+fn put_page(day: RunResult, out: &mut [u8; page::PAGE]) -> usize
+    ensures { λ r. ⌜ take r (now (out .exit)) ≡ pageOfDay day ⌝ }
+    ensures bounded { λ r. ⌜ (r ≤ pageLength) × (length (now (out .exit)) ≡ pageLength) ⌝ }
+{
     let answer = day.answer;
     let session = day.session;
     let board = session.shown;
     let number = answer.number() as u64;
-    let printed = page::print(
-        number,
-        answer.place(),
-        day.records,
-        day.files,
-        board,
-        &mut page,
-    );
-    let length = printed.length;
+    let printed = page::print(number, answer.place(), day.records, day.files, board, out);
+    printed.length
+}
+
+// No contract of the libraries says which bytes a write takes, so none can be stated here; the bytes handed to it are
+// those of `put_page`.
+fn print_page(day: RunResult) {
+    let mut page = [0u8; page::PAGE];
+    let length = put_page(day, &mut page);
     if !io::write_all(STDOUT_FILENO, &page[..length]) {
         os::fail(b"quadro: standard output");
     }
 }
 
 fn main() {
-    let last = run_input();
+    let mut buf = [0u8; SIZE];
+    let last = run_input(&mut buf);
     let end = last.end;
     let day = last.day;
     match end {

@@ -6,28 +6,16 @@ use lib.Seq.{length-take-le}
 use Rattle.quadro.proofs.print_page.Statement.{statement}
 use Rattle.quadro.proofs.print_page.Tie as tie
 
-number-requires : tie.Need-number-requires
-number-requires c κs = search needs
-
-cast-number : tie.Need-cast-number
-cast-number c = search needs
-
-place-requires : tie.Need-place-requires
-place-requires c κs = search needs
-
-slice-aggregate-print : tie.Need-slice-aggregate-print
-slice-aggregate-print c = search needs
-
-print-requires : tie.Need-print-requires
-print-requires c κs = search needs
+put-page-requires : tie.Need-put-page-requires
+put-page-requires c κs = search needs
 
 array-share-prefix-page : tie.Need-array-share-prefix-page
-array-share-prefix-page c = search needs
+array-share-prefix-page c = omega (arith, c .put-page .ensures .1)
 
 slice-aggregate-write-all : tie.Need-slice-aggregate-write-all
 slice-aggregate-write-all c =
-    let printed = c .before .before .print in
-    sym (length-take-le (printed .result .length) (printed .last .1 .1 .1 .1 .1 .0) (omega arith))
+    let put = c .before .put-page in
+    sym (length-take-le (put .result) (put .last .1 .0) (omega (arith, put .ensures .1)))
 
 write-all-requires : tie.Need-write-all-requires
 write-all-requires c κs = search needs
@@ -48,11 +36,7 @@ pub print-page-spec : {M : Type 1} → statement M
 print-page-spec =
     tie.close
     (tie.spec
-    number-requires
-    cast-number
-    place-requires
-    slice-aggregate-print
-    print-requires
+    put-page-requires
     array-share-prefix-page
     slice-aggregate-write-all
     write-all-requires

@@ -1,0 +1,23 @@
+-- The worked input, by computation. Assumes nothing.
+use mathlib.Core.Path.{refl}
+use Rattle.decimal.specs.Bytes.{isOf}
+use Rattle.decimal.specs.Numbers.{valueOf, digitsOf}
+use Rattle.calendar.specs.Dates.{isLeap, daysIn, isDate, dateOf}
+use Rattle.modulus.specs.Checks.{addedBy, termOf, digitOfRemainder}
+use Rattle.barcode.specs.Codes.{firstThreeAnswer, generalRight}
+use Rattle.layout.specs.Layouts.{namedBy, layoutOf, table, rowAt}
+use Rattle.kinds.specs.Kinds.{isService, isCapture, isForm, kindAnswer}
+use Rattle.record.specs.Records.{fieldAnswer, recordAnswer}
+use Rattle.file.specs.Files.{fileAnswer, figuresAnswer}
+use Rattle.board.specs.Lanes.{fits}
+use Rattle.board.specs.Boards.{ownOf, usedAfter, slotAnswer}
+use Rattle.page.specs.Plain.{neededIn}
+use Rattle.page.specs.Pages.{numberLine, issuerLine, tallyLines, laneLines, headLines}
+use Rattle.quadro.specs.Samples.{WorkedInput}
+
+pub worked-input : WorkedInput
+unfolding recordAnswer fieldAnswer kindAnswer isService isCapture isForm namedBy layoutOf table rowAt
+    figuresAnswer fileAnswer fits ownOf usedAfter slotAnswer firstThreeAnswer generalRight
+    termOf addedBy digitOfRemainder dateOf isDate daysIn isLeap digitsOf valueOf isOf
+    neededIn numberLine issuerLine tallyLines laneLines headLines
+worked-input = refl
