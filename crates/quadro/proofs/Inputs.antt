@@ -139,8 +139,8 @@ reached-more {turns} {left} {day} bytes t e r o h =
       buffers = r .buffers ++ (b ∷ []);
       counted = omega arith;
       accepted =
-          accepted-on freshDay (r .buffers) b (r .accepted) (length-take-le bufferLength bytes (omega (arith, o .whole)))
-          (ap answerOf (sym same) ∙ m .1);
+          accepted-on freshDay (r .buffers) b (r .accepted)
+          (length-take-le bufferLength bytes (omega (arith, o .whole))) (ap answerOf (sym same) ∙ m .1);
       is = m .0 ∙ same ∙ sym (buffers-on freshDay (r .buffers) b);
     }
 
@@ -148,8 +148,9 @@ pub reached-last :
     {turns : ℕ} {day : RunResult} (bytes : List ℕ) (t : TurnResult) → Reached turns day
     → TurnOf day bytes t → hasMore (t .end) ≡ false → InputRun bytes t
 reached-last {turns} {day} bytes t r o h =
+    let same = ap (λ (d : RunResult). turnOf d bytes (o .read)) (r .is) in
     let turned : TurnOf (runBuffersOf freshDay (r .buffers)) bytes t =
-    record { whole = o .whole; read = o .read; below = o .below; is = o .is ∙ ap (λ (d : RunResult). turnOf d bytes (o .read)) (r .is) } in
+    record { whole = o .whole; read = o .read; below = o .below; is = o .is ∙ same } in
     record { buffers = r .buffers; accepted = r .accepted; last = inr (h, turned) }
 
 pub reached-all :
@@ -195,7 +196,8 @@ module _ (bytes : List ℕ) (t : TurnResult) (bs : List (List ℕ)) (f : FullAnd
       absurd (omega arith)
 
   over-last :
-      ((length bs ≡ mostBuffers) × (t ≡ turnWith turn.More before)) ⊎ ((hasMore (t .end) ≡ false) × TurnOf before bytes t)
+      ((length bs ≡ mostBuffers) × (t ≡ turnWith turn.More before))
+      ⊎ ((hasMore (t .end) ≡ false) × TurnOf before bytes t)
       → DayOfInput bs bytes (t .day)
   over-last (inl m) =
       let e : turn.More ≡ turn.Over = ap endOf (sym (m .1)) ∙ o in

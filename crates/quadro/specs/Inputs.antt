@@ -1,5 +1,5 @@
--- A whole input and its page (SPEC.md, "The program quadro"): the buffers that were filled, one after the other, are the
--- input. Assumes nothing.
+-- A whole input and its page (SPEC.md, "The program quadro"). The input is the buffers that were filled, in order.
+-- Assumes nothing.
 use Prim.Native.Nat.{ℕ, _+_, _≤_, _%_}
 use mathlib.Core.Bool.{false}
 use mathlib.Core.List.{List, [], _∷_, _++_}
@@ -53,8 +53,9 @@ FullAndAccepted day (b ∷ bs) =
 abbrev pub mostBuffers : ℕ
 mostBuffers = 17_628_769_183_591
 
--- The last turn over an input, with these bytes in the buffer: full buffers were run and accepted, then came a turn that
--- has no more, or all buffers that may be read were full.
+-- The last turn over an input, with these bytes in the buffer: full buffers were run and accepted, then came a turn
+-- that has no more, or all buffers that may be read were full. No contract can say that these buffers are what standard
+-- input gave; that each turn runs the bytes in its buffer is `TurnOf`.
 pub record InputRun (bytes : List ℕ) (t : TurnResult) : Type 0 where
   pub buffers : List (List ℕ)
   pub accepted : FullAndAccepted freshDay buffers

@@ -38,7 +38,8 @@ returns c =
     let turned = c .before .before in
     let next = turned .run-next-buffer in
     let none = sym (c .before .has-more .ensures) ∙ not-true _ (c .if1 .taken) in
-    reached-last (next .last .1 .0) (next .result) (turned .before .before .before .loop .inv .2) (next .ensures .1) none
+    let loop = turned .before .before .before .loop in
+    reached-last (next .last .1 .0) (next .result) (loop .inv .2) (next .ensures .1) none
 
 loop-less : tie.Need-loop-less Inv-loop μ-loop
 loop-less c = search needs

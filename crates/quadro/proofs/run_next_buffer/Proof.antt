@@ -37,7 +37,12 @@ enum-told-2 c = search needs
 returns : tie.Need-returns
 returns c = (
   search needs,
-  record { whole = omega arith; read = Full; below = tt; is = rw (c .more-unless-refused .ensures, c .before .run-buffer .ensures .0) },
+  record {
+    whole = omega arith;
+    read = Full;
+    below = tt;
+    is = rw (c .more-unless-refused .ensures, c .before .run-buffer .ensures .0);
+  },
 )
 
 returns-2 : tie.Need-returns-2
@@ -46,7 +51,12 @@ returns-2 c =
     let told = c .before .before .before .before .before in
     let below = ended (told .n .given .1) (told .before .before .read-buffer .ensures) in (
       rw (c .finish-day .ensures) (ran .1),
-      record { whole = omega arith; read = Ended (told .n .given .0 .0); below = omega (arith, below); is = rw (c .finish-day .ensures, ran .0) },
+      record {
+        whole = omega arith;
+        read = Ended (told .n .given .0 .0);
+        below = omega (arith, below);
+        is = rw (c .finish-day .ensures, ran .0);
+      },
     )
 
 returns-3 : tie.Need-returns-3
