@@ -22,17 +22,17 @@ use Rattle.layout.specs.Layouts.{recordLength, namedBy}
 use Rattle.record.specs.Records.{recordAnswer}
 use Rattle.record.specs.Values.{paymentShown, trailerShown, recordShown, shownUnlessRefused, decodedRecord}
 use Rattle.file.specs.Files.{mostPayments, mostCentavos, freshFile, fileAnswer, figuresAnswer}
-use Rattle.board.specs.declared.Lane.{Lane}
 use Rattle.board.specs.declared.Board.{Board}
 use Rattle.board.specs.Lanes.{placed, lanesFrom}
-use Rattle.board.specs.Boards.{lanesOf, postAnswer, answerAfter, SoundBoard}
+use Rattle.board.specs.Boards.{lanesOf, postAnswer, SoundBoard}
 use Rattle.board.proofs.Lanes.{one-payment-more}
 use Rattle.board.proofs.Posting.{fit, with-sound, post-places, stays-sound}
 use Rattle.board.proofs.Boards.{answers-as-payments}
 use Rattle.session.specs.declared.Session.{Session}
 use Rattle.session.specs.Sessions.{freshSession, openedAt, closedAt, sessionExpects, figuresIn, payAnswer, sessionWithPayment, sessionAnswer, sessionWith, takeAnswer, takeOf, abandonOf}
-use Rattle.ledger.specs.Ledgers.{Filed, Ledger, freshLedger, paymentRecords, openRecords, laneOfRecord, lanesOfRecords, receivedIn, ledgerExpects, paymentStateAnswer, trailerStateAnswer, stateAnswer, ledgerAnswer, withRecord, Step, taking, abandoning, ledgerStep, ledgerAfter, ledgerAnswers}
+use Rattle.ledger.specs.Ledgers.{Filed, Ledger, freshLedger, paymentRecords, openRecords, laneOfRecord, lanesOfRecords, receivedIn, limitsAnswer, ledgerExpects, paymentStateAnswer, trailerStateAnswer, stateAnswer, ledgerAnswer, withRecord, Step, taking, abandoning, ledgerStep, ledgerAfter, ledgerAnswers}
 use Rattle.ledger.specs.Promises.{sessionStep, sessionAfter, answersOf, isOpen, allRecords, Agrees, SessionAgrees, AnswersAreTheLedgers, NextAnswerIsTheLedgers}
+use Rattle.ledger.proofs.Records.{lanes-joined, limits-are-the-boards}
 
 -- The answers.
 
@@ -42,10 +42,14 @@ module _ (s : Session) (files : List Filed) (rec : List ℕ) where
       → payAnswer s (laneOfRecord rec) ≡ paymentStateAnswer files f rec
   unfolding fileAnswer
   payment-answer f h =
-      rw (answers-as-payments (s .work) (lanesOfRecords (paymentRecords files ++ f .payments)) (laneOfRecord rec) (h .soundWork) (h .work), h .taken, h .total)
+      let before = paymentRecords files ++ f .payments in
+      let limits =
+      answers-as-payments (s .work) (lanesOfRecords before) (laneOfRecord rec) (h .soundWork) (h .work)
+      ∙ limits-are-the-boards before rec in
+      rw (limits, h .taken, h .total)
       (then-groups (require (ltb (length (f .payments)) mostPayments) FileFull 1)
       (require (leb (receivedIn (f .payments) + paymentShown rec .received) mostCentavos) FileTotalPassed receivedPlace)
-      (answerAfter (lanesOfRecords (paymentRecords files ++ f .payments)) (laneOfRecord rec)))
+      (limitsAnswer (before ++ (rec ∷ []))))
 
   trailer-answer : (f : Filed) → Agrees s (record { accepted = files; opened = some f })
       → figuresAnswer (s .file) (figuresIn (trailerShown rec)) ≡ trailerStateAnswer f rec
@@ -80,11 +84,6 @@ records-joined [] f = append-nil (f .payments)
 records-joined (g ∷ files) f =
     ap (λ (recs : List (List ℕ)). g .payments ++ recs) (records-joined files f) ∙
     sym (append-assoc (g .payments) (paymentRecords files) (f .payments))
-
-lanes-joined : (recs : List (List ℕ)) (rec : List ℕ)
-    → lanesOfRecords (recs ++ (rec ∷ [])) ≡ lanesOfRecords recs ++ (laneOfRecord rec ∷ [])
-lanes-joined [] rec = refl
-lanes-joined (r ∷ recs) rec = ap (λ (ps : List Lane). laneOfRecord r ∷ ps) (lanes-joined recs rec)
 
 received-joined : (recs : List (List ℕ)) (rec : List ℕ)
     → receivedIn (recs ++ (rec ∷ [])) ≡ receivedIn recs + paymentShown rec .received

@@ -1,3 +1,4 @@
+pub mod Records
 pub mod Agreement
 pub mod Shown
 pub mod Sessions

@@ -1,14 +1,14 @@
--- The ledger: a second meaning of the records, from their bytes, with no session and no board (SPEC.md, "Sessions").
--- Assumes nothing.
+-- The ledger: a second meaning of the records, from their bytes, with no session and no board (SPEC.md, "Sessions"). Of
+-- the board it has the type of a lane, as plain data, and the two limits as numbers. Assumes nothing.
 use Prim.Native.Nat.{ℕ, _+_}
-use mathlib.Core.Bool.{Bool, true, false, cond}
+use mathlib.Core.Bool.{Bool, true, false, cond, _&&_}
 use mathlib.Core.List.{List, [], _∷_, _++_, map}
 use mathlib.Core.Option.{Option, none, some}
 use lib.Dec.{eqb, ltb, leb}
 use lib.ListN.{length, getD}
-use Rattle.answer.specs.Refusals.{receivedPlace}
+use Rattle.answer.specs.Refusals.{receivedPlace, issuerPlace}
 use Rattle.answer.specs.declared.Reason.the-variants.{WrongLength, NotExpected, CountDiffers, TotalDiffers, FileFull}
-use Rattle.answer.specs.declared.Reason.the-variants.{FileTotalPassed}
+use Rattle.answer.specs.declared.Reason.the-variants.{FileTotalPassed, BoardFull, BoardTotalPassed}
 use Rattle.answer.specs.declared.Answer.{Answer}
 use Rattle.answer.specs.declared.Answer.the-variants.{Accepted}
 use Rattle.answer.specs.Orders.{require, _then_, ifAccepted}
@@ -21,9 +21,7 @@ use Rattle.record.specs.Records.{recordAnswer}
 use Rattle.record.specs.Values.{paymentShown, trailerShown}
 use Rattle.file.specs.Files.{mostPayments, mostCentavos, countPlace, totalPlace}
 use Rattle.board.specs.declared.Lane.{Lane}
-use Rattle.board.specs.Lanes.{sameIssuer}
-use Rattle.board.specs.Boards.{answerAfter}
-use Rattle.session.specs.Sessions.{laneOfPayment}
+use Rattle.board.specs.Lanes.{mostLanes, limit}
 
 -- a file as received: the bytes of its header and of its payment records, the latest last
 pub record Filed : Type 0 where
@@ -49,9 +47,14 @@ abbrev pub openRecords : Option Filed → List (List ℕ)
 openRecords none = []
 openRecords (some f) = f .payments
 
+-- the issuer that a payment record names, in its barcode
+abbrev pub issuerNamed : List ℕ → Issuer
+issuerNamed rec = paymentShown rec .barcode .issuer
+
 -- each payment record as a lane of one
 abbrev pub laneOfRecord : List ℕ → Lane
-laneOfRecord rec = laneOfPayment (paymentShown rec)
+laneOfRecord rec =
+    record { issuer = issuerNamed rec; tally = record { payments = 1; centavos = paymentShown rec .received } }
 
 abbrev pub lanesOfRecords : List (List ℕ) → List Lane
 lanesOfRecords recs = map laneOfRecord recs
@@ -61,11 +64,25 @@ abbrev pub receivedIn : List (List ℕ) → ℕ
 receivedIn [] = 0
 receivedIn (rec ∷ recs) = paymentShown rec .received + receivedIn recs
 
+-- two issuers are the same if their segments and their numbers are
+abbrev pub equalIssuers : Issuer → Issuer → Bool
+equalIssuers i j = eqb (i .segment) (j .segment) && eqb (i .number) (j .number)
+
 -- those that name this issuer
 abbrev pub ofIssuer : Issuer → List (List ℕ) → List (List ℕ)
 ofIssuer i [] = []
-ofIssuer i (rec ∷ recs) =
-    cond (sameIssuer (paymentShown rec .barcode .issuer) i) (rec ∷ ofIssuer i recs) (ofIssuer i recs)
+ofIssuer i (rec ∷ recs) = cond (equalIssuers (issuerNamed rec) i) (rec ∷ ofIssuer i recs) (ofIssuer i recs)
+
+-- the issuers that they name, each at its first appearance, without those seen before
+abbrev pub isSeen : Issuer → List Issuer → Bool
+isSeen i [] = false
+isSeen i (j ∷ js) = cond (equalIssuers j i) true (isSeen i js)
+
+abbrev pub issuersNamed : List Issuer → List (List ℕ) → List Issuer
+issuersNamed seen [] = []
+issuersNamed seen (rec ∷ recs) =
+    cond (isSeen (issuerNamed rec) seen) (issuersNamed seen recs)
+    (issuerNamed rec ∷ issuersNamed (seen ++ (issuerNamed rec ∷ [])) recs)
 
 -- The answer to a record.
 
@@ -80,12 +97,18 @@ ledgerExpects (some f) (Is Payment) = true
 ledgerExpects (some f) (Is Trailer) = true
 ledgerExpects (some f) Other = false
 
--- a G: 15, 16 from the open file's payments; 17, 18 from those of all accepted files and the open one
+-- 17: these payments name more issuers than a board has lanes; 18: their number or what they received passes the limit
+abbrev pub limitsAnswer : List (List ℕ) → Answer
+limitsAnswer recs =
+    require (leb (length (issuersNamed [] recs)) mostLanes) BoardFull issuerPlace
+    then require (leb (length recs) limit && leb (receivedIn recs) limit) BoardTotalPassed receivedPlace
+
+-- a G: 15, 16 from the open file's payments; 17, 18 from those of all accepted files, the open one and it
 abbrev pub paymentStateAnswer : List Filed → Filed → List ℕ → Answer
 paymentStateAnswer files f r =
     require (ltb (length (f .payments)) mostPayments) FileFull 1
     then require (leb (receivedIn (f .payments) + paymentShown r .received) mostCentavos) FileTotalPassed receivedPlace
-    then answerAfter (lanesOfRecords (paymentRecords files ++ f .payments)) (laneOfRecord r)
+    then limitsAnswer ((paymentRecords files ++ f .payments) ++ (r ∷ []))
 
 -- a Z: 13, the number of the file's records, A and Z included; 14, what its payments received
 abbrev pub trailerStateAnswer : Filed → List ℕ → Answer

@@ -16,12 +16,12 @@ use Rattle.layout.specs.Layouts.{namedBy}
 use Rattle.record.specs.Records.{recordAnswer}
 use Rattle.record.specs.Values.{trailerShown}
 use Rattle.board.specs.declared.Lane.{Lane}
-use Rattle.board.specs.Lanes.{mostLanes, limit, lanesFrom, sumBy, each, issuersOf, appearing, Distinct}
+use Rattle.board.specs.Lanes.{mostLanes, limit, lanesFrom, sumBy, each, issuersOf, Distinct}
 use Rattle.board.specs.Boards.{lanesOf, SoundBoard}
 use Rattle.session.specs.declared.Session.{Session}
 use Rattle.session.specs.Sessions.{freshSession, takeAnswer, takeOf, abandonOf, finishOf}
 use Rattle.ledger.specs.Ledgers.{Filed, Ledger, freshLedger, paymentRecords, openRecords, lanesOfRecords}
-use Rattle.ledger.specs.Ledgers.{receivedIn, ofIssuer, ledgerAnswer, Step, taking, abandoning, ledgerAfter}
+use Rattle.ledger.specs.Ledgers.{receivedIn, ofIssuer, issuersNamed, ledgerAnswer, Step, taking, abandoning, ledgerAfter}
 use Rattle.ledger.specs.Ledgers.{ledgerAnswers}
 
 -- The same steps through a session.
@@ -90,7 +90,7 @@ LanesAreThePayments = (steps : List Step) → shownLanes steps ≡ lanesFrom (la
 
 abbrev pub LanesInOrder : Type 0
 LanesInOrder =
-    (steps : List Step) → issuersOf (shownLanes steps) ≡ appearing [] (lanesOfRecords (acceptedRecords steps))
+    (steps : List Step) → issuersOf (shownLanes steps) ≡ issuersNamed [] (acceptedRecords steps)
 
 -- each lane shows exactly the payments of its issuer: their number and the centavos received, at full size
 abbrev pub EachLaneIsExact : Type 0
