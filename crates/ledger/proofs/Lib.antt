@@ -3,6 +3,7 @@ pub mod Agreement
 pub mod Shown
 pub mod Sessions
 pub mod WholeFiles
+pub mod LedgerFiles
 pub mod WrittenFiles
 pub mod Runs
 pub mod Samples

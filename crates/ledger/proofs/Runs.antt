@@ -21,7 +21,7 @@ use Rattle.session.specs.declared.Session.{Session}
 use Rattle.session.specs.declared.RunResult.{RunResult}
 use Rattle.session.specs.Sessions.{freshSession, sessionWith, takeAnswer, takeOf}
 use Rattle.session.specs.Runs.{piecesOf, filesClosed, addCounts, stoppedIfRefused, runAll}
-use Rattle.ledger.specs.Ledgers.{Filed, Ledger, freshLedger, ledgerExpects, ledgerAnswer, withRecord, Step, taking, ledgerStep, ledgerAfter, ledgerAnswers}
+use Rattle.ledger.specs.Ledgers.{Opened, Filed, Ledger, freshLedger, ledgerExpects, ledgerAnswer, filedWith, withRecord, Step, taking, ledgerStep, ledgerAfter, ledgerAnswers}
 use Rattle.ledger.specs.Promises.{sessionAfter, Agrees}
 use Rattle.ledger.specs.WholeFiles.{AllAccepted}
 use Rattle.ledger.specs.Runs.{stepsOf, nextLedgerAnswer, RunIsTheLedgers}
@@ -36,7 +36,7 @@ record RunOn (s : Session) (k : Ledger) (recs : List (List ℕ)) (r : RunResult)
   whole : r .answer ≡ Accepted → r .records ≡ length recs
 
 -- an accepted Z adds a file to the ledger, and no other record does
-files-after : (files : List Filed) (o : Option Filed) (n : MaybeRecord) (rec : List ℕ) → ledgerExpects o n ≡ true
+files-after : (files : List Filed) (o : Option Opened) (n : MaybeRecord) (rec : List ℕ) → ledgerExpects o n ≡ true
     → length (withRecord files o n rec .accepted) ≡ length files + filesClosed n
 files-after files none (Is Header) rec e = omega arith
 files-after files none (Is Payment) rec e = absurd (false≢true e)
@@ -44,7 +44,7 @@ files-after files none (Is Trailer) rec e = absurd (false≢true e)
 files-after files none Other rec e = absurd (false≢true e)
 files-after files (some f) (Is Header) rec e = absurd (false≢true e)
 files-after files (some f) (Is Payment) rec e = omega arith
-files-after files (some f) (Is Trailer) rec e = length-append files (f ∷ [])
+files-after files (some f) (Is Trailer) rec e = length-append files (filedWith f rec ∷ [])
 files-after files (some f) Other rec e = absurd (false≢true e)
 
 -- one more record in front

@@ -23,15 +23,21 @@ use Rattle.file.specs.Files.{mostPayments, mostCentavos, countPlace, totalPlace
 use Rattle.board.specs.declared.Lane.{Lane}
 use Rattle.board.specs.Lanes.{mostLanes, limit}
 
--- a file as received: the bytes of its header and of its payment records, the latest last
+-- an open file as received: the bytes of its header and of its payment records, the latest last
+pub record Opened : Type 0 where
+  pub header : List ℕ
+  pub payments : List (List ℕ)
+
+-- an accepted file: its trailer's bytes too
 pub record Filed : Type 0 where
   pub header : List ℕ
   pub payments : List (List ℕ)
+  pub trailer : List ℕ
 
 -- the accepted files, the latest last, and the open file if there is one
 pub record Ledger : Type 0 where
   pub accepted : List Filed
-  pub opened : Option Filed
+  pub opened : Option Opened
 
 abbrev pub freshLedger : Ledger
 freshLedger = record { accepted = []; opened = none }
@@ -43,7 +49,7 @@ abbrev pub paymentRecords : List Filed → List (List ℕ)
 paymentRecords [] = []
 paymentRecords (f ∷ fs) = f .payments ++ paymentRecords fs
 
-abbrev pub openRecords : Option Filed → List (List ℕ)
+abbrev pub openRecords : Option Opened → List (List ℕ)
 openRecords none = []
 openRecords (some f) = f .payments
 
@@ -87,7 +93,7 @@ issuersNamed seen (rec ∷ recs) =
 -- The answer to a record.
 
 -- with no file open A is expected; in an open file G or Z
-abbrev pub ledgerExpects : Option Filed → MaybeRecord → Bool
+abbrev pub ledgerExpects : Option Opened → MaybeRecord → Bool
 ledgerExpects none (Is Header) = true
 ledgerExpects none (Is Payment) = false
 ledgerExpects none (Is Trailer) = false
@@ -104,20 +110,20 @@ limitsAnswer recs =
     then require (leb (length recs) limit && leb (receivedIn recs) limit) BoardTotalPassed receivedPlace
 
 -- a G: 15, 16 from the open file's payments; 17, 18 from those of all accepted files, the open one and it
-abbrev pub paymentStateAnswer : List Filed → Filed → List ℕ → Answer
+abbrev pub paymentStateAnswer : List Filed → Opened → List ℕ → Answer
 paymentStateAnswer files f r =
     require (ltb (length (f .payments)) mostPayments) FileFull 1
     then require (leb (receivedIn (f .payments) + paymentShown r .received) mostCentavos) FileTotalPassed receivedPlace
     then limitsAnswer ((paymentRecords files ++ f .payments) ++ (r ∷ []))
 
 -- a Z: 13, the number of the file's records, A and Z included; 14, what its payments received
-abbrev pub trailerStateAnswer : Filed → List ℕ → Answer
+abbrev pub trailerStateAnswer : Opened → List ℕ → Answer
 trailerStateAnswer f rec =
     require (eqb (trailerShown rec .count) (length (f .payments) + 2)) CountDiffers countPlace
     then require (eqb (trailerShown rec .total) (receivedIn (f .payments))) TotalDiffers totalPlace
 
 -- with no file open only an A gets this far, and nothing more is checked
-abbrev pub stateAnswer : List Filed → Option Filed → MaybeRecord → List ℕ → Answer
+abbrev pub stateAnswer : List Filed → Option Opened → MaybeRecord → List ℕ → Answer
 stateAnswer files none named rec = Accepted
 stateAnswer files (some f) (Is Header) rec = Accepted
 stateAnswer files (some f) (Is Payment) rec = paymentStateAnswer files f rec
@@ -134,13 +140,17 @@ ledgerAnswer k rec =
 
 -- The ledger that follows.
 
+-- an open file with its trailer
+abbrev pub filedWith : Opened → List ℕ → Filed
+filedWith f z = record { header = f .header; payments = f .payments; trailer = z }
+
 -- an accepted A opens a file, a G is added to it, a Z closes it: it is then an accepted file
-abbrev pub withRecord : List Filed → Option Filed → MaybeRecord → List ℕ → Ledger
+abbrev pub withRecord : List Filed → Option Opened → MaybeRecord → List ℕ → Ledger
 withRecord files none named rec = record { accepted = files; opened = some (record { header = rec; payments = [] }) }
 withRecord files (some f) (Is Header) rec = record { accepted = files; opened = some f }
 withRecord files (some f) (Is Payment) rec =
     record { accepted = files; opened = some (record { header = f .header; payments = f .payments ++ (rec ∷ []) }) }
-withRecord files (some f) (Is Trailer) rec = record { accepted = files ++ (f ∷ []); opened = none }
+withRecord files (some f) (Is Trailer) rec = record { accepted = files ++ (filedWith f rec ∷ []); opened = none }
 withRecord files (some f) Other rec = record { accepted = files; opened = some f }
 
 -- taking a record of any bytes, or abandoning the open file

@@ -20,7 +20,7 @@ use Rattle.board.specs.Lanes.{mostLanes, limit, lanesFrom, sumBy, each, issuers
 use Rattle.board.specs.Boards.{lanesOf, SoundBoard}
 use Rattle.session.specs.declared.Session.{Session}
 use Rattle.session.specs.Sessions.{freshSession, takeAnswer, takeOf, abandonOf, finishOf}
-use Rattle.ledger.specs.Ledgers.{Filed, Ledger, freshLedger, paymentRecords, openRecords, lanesOfRecords}
+use Rattle.ledger.specs.Ledgers.{Opened, Ledger, freshLedger, paymentRecords, openRecords, lanesOfRecords}
 use Rattle.ledger.specs.Ledgers.{receivedIn, ofIssuer, issuersNamed, ledgerAnswer, Step, taking, abandoning, ledgerAfter}
 use Rattle.ledger.specs.Ledgers.{ledgerAnswers}
 
@@ -55,7 +55,7 @@ acceptedRecords steps = paymentRecords (ledgerOf steps .accepted)
 
 -- The invariant: the board shown has the payments of the accepted files, the working board those of the open file too.
 
-abbrev pub isOpen : Option Filed → Bool
+abbrev pub isOpen : Option Opened → Bool
 isOpen none = false
 isOpen (some f) = true
 
@@ -127,7 +127,7 @@ WithinLimits =
 -- in an open file, a Z with right fields is accepted exactly if its count and total are the true ones
 abbrev pub TrueTrailersOnly : Type 0
 TrueTrailersOnly =
-    (steps : List Step) (f : Filed) (rec : List ℕ)
+    (steps : List Step) (f : Opened) (rec : List ℕ)
     → ledgerOf steps .opened ≡ some f → recordAnswer rec ≡ Accepted → namedBy (getD rec 0 0) ≡ Is Trailer
     → (takeAnswer (reached steps) rec ≡ Accepted)
     ↔ ((trailerShown rec .count ≡ length (f .payments) + 2) × (trailerShown rec .total ≡ receivedIn (f .payments)))
