@@ -185,7 +185,7 @@ step-agrees s k abandoning h = abandoned s (k .accepted) [] (k .opened) h
 
 -- Any list of steps.
 
-steps-agree : (steps : List Step) (s : Session) (k : Ledger) → Agrees s k
+pub steps-agree : (steps : List Step) (s : Session) (k : Ledger) → Agrees s k
     → Agrees (sessionAfter s steps) (ledgerAfter k steps)
 steps-agree [] s k h = h
 steps-agree (step ∷ steps) s k h = steps-agree steps (sessionStep s step) (ledgerStep k step) (step-agrees s k step h)

@@ -6,4 +6,5 @@ pub mod WholeFiles
 pub mod LedgerFiles
 pub mod WrittenFiles
 pub mod Runs
+pub mod Calls
 pub mod Samples

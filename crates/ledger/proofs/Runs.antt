@@ -28,12 +28,12 @@ use Rattle.ledger.specs.Runs.{stepsOf, nextLedgerAnswer, RunIsTheLedgers
 use Rattle.ledger.proofs.Agreement.{answer-agrees, take-agrees, fresh-agrees}
 
 -- what is known of a run, from any session and a ledger that agrees with it
-record RunOn (s : Session) (k : Ledger) (recs : List (List ℕ)) (r : RunResult) : Type 0 where
-  session : r .session ≡ sessionAfter s (stepsOf recs r)
-  files : length (k .accepted) + r .files ≡ length (ledgerAfter k (stepsOf recs r) .accepted)
-  accepted : AllAccepted (ledgerAnswers k (stepsOf recs r))
-  answer : r .answer ≡ nextLedgerAnswer (ledgerAfter k (stepsOf recs r)) (drop (r .records) recs)
-  whole : r .answer ≡ Accepted → r .records ≡ length recs
+pub record RunOn (s : Session) (k : Ledger) (recs : List (List ℕ)) (r : RunResult) : Type 0 where
+  pub session : r .session ≡ sessionAfter s (stepsOf recs r)
+  pub files : length (k .accepted) + r .files ≡ length (ledgerAfter k (stepsOf recs r) .accepted)
+  pub accepted : AllAccepted (ledgerAnswers k (stepsOf recs r))
+  pub answer : r .answer ≡ nextLedgerAnswer (ledgerAfter k (stepsOf recs r)) (drop (r .records) recs)
+  pub whole : r .answer ≡ Accepted → r .records ≡ length recs
 
 -- an accepted Z adds a file to the ledger, and no other record does
 files-after : (files : List Filed) (o : Option Opened) (n : MaybeRecord) (rec : List ℕ) → ledgerExpects o n ≡ true
@@ -74,7 +74,7 @@ module _ (rec : List ℕ) (recs : List (List ℕ)) (s next : Session) (k after :
         whole = λ x. omega (arith, t .whole x);
       }
 
-run-on : (recs : List (List ℕ)) (s : Session) (k : Ledger) → Agrees s k → RunOn s k recs (runAll s recs)
+pub run-on : (recs : List (List ℕ)) (s : Session) (k : Ledger) → Agrees s k → RunOn s k recs (runAll s recs)
 run-on [] s k h = record { session = refl; files = omega arith; accepted = tt; answer = refl; whole = λ e. refl }
 run-on (rec ∷ recs) s k h = go (takeAnswer s rec) refl (run-on recs)
   where

@@ -3,4 +3,5 @@ pub mod Promises
 pub mod WholeFiles
 pub mod WrittenFiles
 pub mod Runs
+pub mod Calls
 pub mod Samples
