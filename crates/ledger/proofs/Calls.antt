@@ -17,7 +17,7 @@ use Rattle.ledger.specs.Ledgers.{Ledger, freshLedger, ledgerAnswer, Step
 use Rattle.ledger.specs.Promises.{sessionStep, sessionAfter, Agrees}
 use Rattle.ledger.specs.WholeFiles.{AllAccepted}
 use Rattle.ledger.specs.Runs.{nextLedgerAnswer}
-use Rattle.ledger.specs.Calls.{Call, stepping, running, finishing, Reply, answered, ran, silent, sessionCall, sessionReply, sessionAfterCalls, sessionReplies, recordsTaken, runAnswer, stepsOfCall, ledgerCall, ledgerReply, ledgerAfterCalls, ledgerReplies, stepsOfCalls, CallsAgree, RepliesAreTheLedgers, CallsAreSteps}
+use Rattle.ledger.specs.Calls.{Call, stepping, running, finishing, Reply, answered, sessionCall, sessionReply, sessionAfterCalls, sessionReplies, recordsTaken, runAnswer, stepsOfCall, ledgerCall, ledgerReply, ledgerAfterCalls, ledgerReplies, stepsOfCalls, CallsAgree, RepliesAreTheLedgers, CallsAreSteps}
 use Rattle.ledger.proofs.Agreement.{answer-agrees, steps-agree, fresh-agrees}
 use Rattle.ledger.proofs.Runs.{run-on}
 

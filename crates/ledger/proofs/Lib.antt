@@ -4,7 +4,8 @@ pub mod Shown
 pub mod Sessions
 pub mod WholeFiles
 pub mod LedgerFiles
-pub mod WrittenFiles
 pub mod Runs
+pub mod FileBytes
+pub mod WrittenFiles
 pub mod Calls
 pub mod Samples

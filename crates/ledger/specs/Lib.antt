@@ -1,7 +1,7 @@
 pub mod Ledgers
 pub mod Promises
 pub mod WholeFiles
-pub mod WrittenFiles
 pub mod Runs
+pub mod WrittenFiles
 pub mod Calls
 pub mod Samples
