@@ -9,23 +9,21 @@ use lib.ListN.{length, length-map}
 use Rattle.answer.specs.Refusals.{receivedPlace, issuerPlace}
 use Rattle.answer.specs.declared.Reason.the-variants.{BoardFull, BoardTotalPassed}
 use Rattle.answer.specs.Orders.{require, _then_}
-use Rattle.record.specs.Values.{paymentShown}
 use Rattle.barcode.specs.declared.Issuer.{Issuer}
 use Rattle.board.specs.declared.Tally.{Tally}
 use Rattle.board.specs.declared.Lane.{Lane}
-use Rattle.board.specs.Lanes.{mostLanes, limit, fits, sameIssuer, lanesFrom, tallySum, sumBy, each, issuersOf, isAmong, appearing}
-use Rattle.board.specs.Boards.{answerAfter}
+use Rattle.board.specs.Lanes.{mostLanes, limit, fits, lanesFrom, tallySum, sumBy, each, issuersOf, isAmong, appearing}
 use Rattle.board.proofs.Tallies.{alike}
 use Rattle.board.proofs.Lanes.{payments-add, centavos-add, sum-read, in-order-of-appearance}
-use Rattle.session.specs.Sessions.{laneOfPayment}
-use Rattle.ledger.specs.Ledgers.{laneOfRecord, lanesOfRecords, receivedIn, equalIssuers, isSeen, issuersNamed, limitsAnswer}
+use Rattle.ledger.specs.Ledgers.{laneOfRecord, lanesOfRecords, receivedIn, isSeen, issuersNamed}
+use Rattle.ledger.specs.Records.{LaneIsTheSessions, EqualIsTheBoards, IssuersAreTheLanes, LimitsAreTheBoards}
 
 -- Its lanes are the session's, its issuers the board's.
 
-pub lane-is-the-sessions : (rec : List ℕ) → laneOfRecord rec ≡ laneOfPayment (paymentShown rec)
+pub lane-is-the-sessions : LaneIsTheSessions
 lane-is-the-sessions rec = refl
 
-pub equal-is-the-boards : (i j : Issuer) → equalIssuers i j ≡ sameIssuer i j
+pub equal-is-the-boards : EqualIsTheBoards
 equal-is-the-boards i j = refl
 
 seen-is : (i : Issuer) (is : List Issuer) → isSeen i is ≡ isAmong i is
@@ -38,7 +36,7 @@ named-appear seen (rec ∷ recs) =
     let i = laneOfRecord rec .issuer in
     rw (seen-is i seen, named-appear seen recs, named-appear (seen ++ (i ∷ [])) recs)
 
-pub issuers-are-the-lanes : (recs : List (List ℕ)) → issuersOf (lanesFrom (lanesOfRecords recs)) ≡ issuersNamed [] recs
+pub issuers-are-the-lanes : IssuersAreTheLanes
 issuers-are-the-lanes recs = in-order-of-appearance (lanesOfRecords recs) ∙ sym (named-appear [] recs)
 
 -- The sums.
@@ -75,8 +73,7 @@ sums-fit : (recs : List (List ℕ))
 unfolding fits
 sums-fit recs = ap (λ (t : Tally). leb (t .payments) limit && leb (t .centavos) limit) (lanes-tally recs)
 
-pub limits-are-the-boards : (recs : List (List ℕ)) (rec : List ℕ)
-    → answerAfter (lanesOfRecords recs) (laneOfRecord rec) ≡ limitsAnswer (recs ++ (rec ∷ []))
+pub limits-are-the-boards : LimitsAreTheBoards
 limits-are-the-boards recs rec =
     let all = recs ++ (rec ∷ []) in
     rw (← lanes-joined recs rec)

@@ -1,4 +1,5 @@
 pub mod Ledgers
+pub mod Records
 pub mod Promises
 pub mod WholeFiles
 pub mod Runs
