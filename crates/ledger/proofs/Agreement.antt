@@ -22,37 +22,41 @@ use Rattle.layout.specs.Layouts.{recordLength, namedBy}
 use Rattle.record.specs.Records.{recordAnswer}
 use Rattle.record.specs.Values.{paymentShown, trailerShown, recordShown, shownUnlessRefused, decodedRecord}
 use Rattle.file.specs.Files.{mostPayments, mostCentavos, freshFile, fileAnswer, figuresAnswer}
-use Rattle.board.specs.declared.Lane.{Lane}
 use Rattle.board.specs.declared.Board.{Board}
 use Rattle.board.specs.Lanes.{placed, lanesFrom}
-use Rattle.board.specs.Boards.{lanesOf, postAnswer, answerAfter, SoundBoard}
+use Rattle.board.specs.Boards.{lanesOf, postAnswer, SoundBoard}
 use Rattle.board.proofs.Lanes.{one-payment-more}
 use Rattle.board.proofs.Posting.{fit, with-sound, post-places, stays-sound}
 use Rattle.board.proofs.Boards.{answers-as-payments}
 use Rattle.session.specs.declared.Session.{Session}
 use Rattle.session.specs.Sessions.{freshSession, openedAt, closedAt, sessionExpects, figuresIn, payAnswer, sessionWithPayment, sessionAnswer, sessionWith, takeAnswer, takeOf, abandonOf}
-use Rattle.ledger.specs.Ledgers.{Filed, Ledger, freshLedger, paymentRecords, openRecords, laneOfRecord, lanesOfRecords, receivedIn, ledgerExpects, paymentStateAnswer, trailerStateAnswer, stateAnswer, ledgerAnswer, withRecord, Step, taking, abandoning, ledgerStep, ledgerAfter, ledgerAnswers}
+use Rattle.ledger.specs.Ledgers.{Opened, Filed, Ledger, freshLedger, paymentRecords, openRecords, laneOfRecord, lanesOfRecords, receivedIn, limitsAnswer, ledgerExpects, filedWith, paymentStateAnswer, trailerStateAnswer, stateAnswer, ledgerAnswer, withRecord, Step, taking, abandoning, ledgerStep, ledgerAfter, ledgerAnswers}
 use Rattle.ledger.specs.Promises.{sessionStep, sessionAfter, answersOf, isOpen, allRecords, Agrees, SessionAgrees, AnswersAreTheLedgers, NextAnswerIsTheLedgers}
+use Rattle.ledger.proofs.Records.{lanes-joined, limits-are-the-boards}
 
 -- The answers.
 
 -- a session, and a ledger by its parts
 module _ (s : Session) (files : List Filed) (rec : List ℕ) where
-  payment-answer : (f : Filed) → Agrees s (record { accepted = files; opened = some f })
+  payment-answer : (f : Opened) → Agrees s (record { accepted = files; opened = some f })
       → payAnswer s (laneOfRecord rec) ≡ paymentStateAnswer files f rec
   unfolding fileAnswer
   payment-answer f h =
-      rw (answers-as-payments (s .work) (lanesOfRecords (paymentRecords files ++ f .payments)) (laneOfRecord rec) (h .soundWork) (h .work), h .taken, h .total)
+      let before = paymentRecords files ++ f .payments in
+      let limits =
+      answers-as-payments (s .work) (lanesOfRecords before) (laneOfRecord rec) (h .soundWork) (h .work)
+      ∙ limits-are-the-boards before rec in
+      rw (limits, h .taken, h .total)
       (then-groups (require (ltb (length (f .payments)) mostPayments) FileFull 1)
       (require (leb (receivedIn (f .payments) + paymentShown rec .received) mostCentavos) FileTotalPassed receivedPlace)
-      (answerAfter (lanesOfRecords (paymentRecords files ++ f .payments)) (laneOfRecord rec)))
+      (limitsAnswer (before ++ (rec ∷ []))))
 
-  trailer-answer : (f : Filed) → Agrees s (record { accepted = files; opened = some f })
+  trailer-answer : (f : Opened) → Agrees s (record { accepted = files; opened = some f })
       → figuresAnswer (s .file) (figuresIn (trailerShown rec)) ≡ trailerStateAnswer f rec
   unfolding figuresAnswer
   trailer-answer f h = rw (h .taken, h .total)
 
-  record-answer : (o : Option Filed) (n : MaybeRecord) (a : Answer) → Agrees s (record { accepted = files; opened = o })
+  record-answer : (o : Option Opened) (n : MaybeRecord) (a : Answer) → Agrees s (record { accepted = files; opened = o })
       → require (sessionExpects (s .opened) n) NotExpected 1 then sessionAnswer s (shownUnlessRefused a (recordShown n rec))
       ≡ require (ledgerExpects o n) NotExpected 1 then a then stateAnswer files o n rec
   record-answer none (Is Header) Accepted h = rw (h .opened)
@@ -81,12 +85,7 @@ records-joined (g ∷ files) f =
     ap (λ (recs : List (List ℕ)). g .payments ++ recs) (records-joined files f) ∙
     sym (append-assoc (g .payments) (paymentRecords files) (f .payments))
 
-lanes-joined : (recs : List (List ℕ)) (rec : List ℕ)
-    → lanesOfRecords (recs ++ (rec ∷ [])) ≡ lanesOfRecords recs ++ (laneOfRecord rec ∷ [])
-lanes-joined [] rec = refl
-lanes-joined (r ∷ recs) rec = ap (λ (ps : List Lane). laneOfRecord r ∷ ps) (lanes-joined recs rec)
-
-received-joined : (recs : List (List ℕ)) (rec : List ℕ)
+pub received-joined : (recs : List (List ℕ)) (rec : List ℕ)
     → receivedIn (recs ++ (rec ∷ [])) ≡ receivedIn recs + paymentShown rec .received
 received-joined [] rec = omega arith
 received-joined (r ∷ recs) rec = omega (arith, received-joined recs rec)
@@ -94,7 +93,7 @@ received-joined (r ∷ recs) rec = omega (arith, received-joined recs rec)
 -- The session that follows.
 
 -- both boards are those of the accepted files
-at-rest : (b : Board) (files : List Filed) (o : Option Filed)
+at-rest : (b : Board) (files : List Filed) (o : Option Opened)
     → lanesOf b ≡ lanesFrom (lanesOfRecords (paymentRecords files)) → SoundBoard b → openRecords o ≡ []
     → Agrees (record { shown = b; work = b; opened = isOpen o; file = freshFile }) (record { accepted = files; opened = o })
 at-rest b files o e sound none-yet =
@@ -109,17 +108,17 @@ at-rest b files o e sound none-yet =
     }
 
 module _ (s : Session) (files : List Filed) (rec : List ℕ) where
-  opens : (o : Option Filed) → Agrees s (record { accepted = files; opened = o })
+  opens : (o : Option Opened) → Agrees s (record { accepted = files; opened = o })
       → Agrees (openedAt (s .shown)) (withRecord files none (Is Header) rec)
   opens o h = at-rest (s .shown) files (some (record { header = rec; payments = [] })) (h .shown) (h .soundShown) refl
 
-  drops : (o : Option Filed) → Agrees s (record { accepted = files; opened = o })
+  drops : (o : Option Opened) → Agrees s (record { accepted = files; opened = o })
       → Agrees (closedAt (s .shown)) (record { accepted = files; opened = none })
   drops o h = at-rest (s .shown) files none (h .shown) (h .soundShown) refl
 
-  module _ (f : Filed) (h : Agrees s (record { accepted = files; opened = some f })) where
+  module _ (f : Opened) (h : Agrees s (record { accepted = files; opened = some f })) where
     closes : Agrees (closedAt (s .work)) (withRecord files (some f) (Is Trailer) rec)
-    closes = at-rest (s .work) (files ++ (f ∷ [])) none (rw (records-joined files f) (h .work)) (h .soundWork) refl
+    closes = at-rest (s .work) (files ++ (filedWith f rec ∷ [])) none (rw (records-joined files (filedWith f rec)) (h .work)) (h .soundWork) refl
 
     more : allRecords (withRecord files (some f) (Is Payment) rec) ≡ (paymentRecords files ++ f .payments) ++ (rec ∷ [])
     more = sym (append-assoc (paymentRecords files) (f .payments) (rec ∷ []))
@@ -147,7 +146,7 @@ module _ (s : Session) (files : List Filed) (rec : List ℕ) where
               with-sound (s .work) (laneOfRecord rec) (h .soundWork) (fit (s .work) (laneOfRecord rec) .0 posted);
         }
 
-  followed : (o : Option Filed) (n : MaybeRecord) (a : Answer) → Agrees s (record { accepted = files; opened = o })
+  followed : (o : Option Opened) (n : MaybeRecord) (a : Answer) → Agrees s (record { accepted = files; opened = o })
       → sessionExpects (s .opened) n ≡ true
       → sessionAnswer s (shownUnlessRefused a (recordShown n rec)) ≡ Accepted
       → Agrees (sessionWith s (shownUnlessRefused a (recordShown n rec))) (withRecord files o n rec)
@@ -160,7 +159,7 @@ module _ (s : Session) (files : List Filed) (rec : List ℕ) where
   followed (some f) (Is Payment) Accepted h x e = pays f h e
   followed (some f) (Is Trailer) Accepted h x e = closes f h
 
-  abandoned : (o : Option Filed) → Agrees s (record { accepted = files; opened = o })
+  abandoned : (o : Option Opened) → Agrees s (record { accepted = files; opened = o })
       → Agrees (abandonOf s) (record { accepted = files; opened = none })
   abandoned none h =
       split (λ (r : Session). Agrees r (record { accepted = files; opened = none })) (s .opened) (λ t. drops none h) (λ t. h)
@@ -186,7 +185,7 @@ step-agrees s k abandoning h = abandoned s (k .accepted) [] (k .opened) h
 
 -- Any list of steps.
 
-steps-agree : (steps : List Step) (s : Session) (k : Ledger) → Agrees s k
+pub steps-agree : (steps : List Step) (s : Session) (k : Ledger) → Agrees s k
     → Agrees (sessionAfter s steps) (ledgerAfter k steps)
 steps-agree [] s k h = h
 steps-agree (step ∷ steps) s k h = steps-agree steps (sessionStep s step) (ledgerStep k step) (step-agrees s k step h)

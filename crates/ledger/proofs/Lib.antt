@@ -1,7 +1,11 @@
+pub mod Records
 pub mod Agreement
 pub mod Shown
 pub mod Sessions
 pub mod WholeFiles
-pub mod WrittenFiles
+pub mod LedgerFiles
 pub mod Runs
+pub mod FileBytes
+pub mod WrittenFiles
+pub mod Calls
 pub mod Samples

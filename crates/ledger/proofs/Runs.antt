@@ -21,22 +21,22 @@ use Rattle.session.specs.declared.Session.{Session}
 use Rattle.session.specs.declared.RunResult.{RunResult}
 use Rattle.session.specs.Sessions.{freshSession, sessionWith, takeAnswer, takeOf}
 use Rattle.session.specs.Runs.{piecesOf, filesClosed, addCounts, stoppedIfRefused, runAll}
-use Rattle.ledger.specs.Ledgers.{Filed, Ledger, freshLedger, ledgerExpects, ledgerAnswer, withRecord, Step, taking, ledgerStep, ledgerAfter, ledgerAnswers}
+use Rattle.ledger.specs.Ledgers.{Opened, Filed, Ledger, freshLedger, ledgerExpects, ledgerAnswer, filedWith, withRecord, Step, taking, ledgerStep, ledgerAfter, ledgerAnswers}
 use Rattle.ledger.specs.Promises.{sessionAfter, Agrees}
 use Rattle.ledger.specs.WholeFiles.{AllAccepted}
 use Rattle.ledger.specs.Runs.{stepsOf, nextLedgerAnswer, RunIsTheLedgers}
 use Rattle.ledger.proofs.Agreement.{answer-agrees, take-agrees, fresh-agrees}
 
 -- what is known of a run, from any session and a ledger that agrees with it
-record RunOn (s : Session) (k : Ledger) (recs : List (List ℕ)) (r : RunResult) : Type 0 where
-  session : r .session ≡ sessionAfter s (stepsOf recs r)
-  files : length (k .accepted) + r .files ≡ length (ledgerAfter k (stepsOf recs r) .accepted)
-  accepted : AllAccepted (ledgerAnswers k (stepsOf recs r))
-  answer : r .answer ≡ nextLedgerAnswer (ledgerAfter k (stepsOf recs r)) (drop (r .records) recs)
-  whole : r .answer ≡ Accepted → r .records ≡ length recs
+pub record RunOn (s : Session) (k : Ledger) (recs : List (List ℕ)) (r : RunResult) : Type 0 where
+  pub session : r .session ≡ sessionAfter s (stepsOf recs r)
+  pub files : length (k .accepted) + r .files ≡ length (ledgerAfter k (stepsOf recs r) .accepted)
+  pub accepted : AllAccepted (ledgerAnswers k (stepsOf recs r))
+  pub answer : r .answer ≡ nextLedgerAnswer (ledgerAfter k (stepsOf recs r)) (drop (r .records) recs)
+  pub whole : r .answer ≡ Accepted → r .records ≡ length recs
 
 -- an accepted Z adds a file to the ledger, and no other record does
-files-after : (files : List Filed) (o : Option Filed) (n : MaybeRecord) (rec : List ℕ) → ledgerExpects o n ≡ true
+files-after : (files : List Filed) (o : Option Opened) (n : MaybeRecord) (rec : List ℕ) → ledgerExpects o n ≡ true
     → length (withRecord files o n rec .accepted) ≡ length files + filesClosed n
 files-after files none (Is Header) rec e = omega arith
 files-after files none (Is Payment) rec e = absurd (false≢true e)
@@ -44,7 +44,7 @@ files-after files none (Is Trailer) rec e = absurd (false≢true e)
 files-after files none Other rec e = absurd (false≢true e)
 files-after files (some f) (Is Header) rec e = absurd (false≢true e)
 files-after files (some f) (Is Payment) rec e = omega arith
-files-after files (some f) (Is Trailer) rec e = length-append files (f ∷ [])
+files-after files (some f) (Is Trailer) rec e = length-append files (filedWith f rec ∷ [])
 files-after files (some f) Other rec e = absurd (false≢true e)
 
 -- one more record in front
@@ -74,7 +74,7 @@ module _ (rec : List ℕ) (recs : List (List ℕ)) (s next : Session) (k after :
         whole = λ x. omega (arith, t .whole x);
       }
 
-run-on : (recs : List (List ℕ)) (s : Session) (k : Ledger) → Agrees s k → RunOn s k recs (runAll s recs)
+pub run-on : (recs : List (List ℕ)) (s : Session) (k : Ledger) → Agrees s k → RunOn s k recs (runAll s recs)
 run-on [] s k h = record { session = refl; files = omega arith; accepted = tt; answer = refl; whole = λ e. refl }
 run-on (rec ∷ recs) s k h = go (takeAnswer s rec) refl (run-on recs)
   where

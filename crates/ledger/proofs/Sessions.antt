@@ -27,14 +27,14 @@ use Rattle.record.proofs.Shown.{accepted-is}
 use Rattle.file.specs.Files.{countPlace, totalPlace}
 use Rattle.session.specs.declared.Session.{Session}
 use Rattle.session.specs.Sessions.{closedAt, sessionExpects, sessionAnswer, sessionWith, takeAnswer, takeOf, abandonOf}
-use Rattle.ledger.specs.Ledgers.{Filed, Ledger, receivedIn, trailerStateAnswer, ledgerAnswer, taking, abandoning}
+use Rattle.ledger.specs.Ledgers.{Opened, Ledger, receivedIn, trailerStateAnswer, ledgerAnswer, taking, abandoning}
 use Rattle.ledger.specs.Promises.{ledgerOf, TrueTrailersOnly, RefusalKeepsSession, OnlyTrailersShow, TrailersShowAll, NothingShowsBefore, AbandonKeepsBoard, AbandonDropsFile, AbandonNothing, FinishKeepsSession, FinishAnswers}
 use Rattle.ledger.proofs.Agreement.{next-answer-is-the-ledgers}
 
 -- The trailer.
 
 -- both figures are checked
-figures-accept : (f : Filed) (rec : List ℕ)
+pub figures-accept : (f : Opened) (rec : List ℕ)
     → (trailerStateAnswer f rec ≡ Accepted)
     ↔ ((trailerShown rec .count ≡ length (f .payments) + 2) × (trailerShown rec .total ≡ receivedIn (f .payments)))
 figures-accept f rec =
@@ -48,7 +48,7 @@ figures-accept f rec =
     )
 
 -- of a Z with right fields only the figures are checked
-trailer-answer : (k : Ledger) (f : Filed) (rec : List ℕ) → k .opened ≡ some f → recordAnswer rec ≡ Accepted
+trailer-answer : (k : Ledger) (f : Opened) (rec : List ℕ) → k .opened ≡ some f → recordAnswer rec ≡ Accepted
     → namedBy (getD rec 0 0) ≡ Is Trailer
     → ledgerAnswer k rec ≡ trailerStateAnswer f rec
 trailer-answer k f rec o e n = rw (o, e, n, eq-eqb (length rec) recordLength (accepted-is rec e .0))

@@ -14,10 +14,11 @@ use Rattle.board.specs.declared.Tally.{Tally}
 use Rattle.board.specs.declared.Lane.{Lane}
 use Rattle.board.specs.Lanes.{sameIssuer, isLaneOf, lanesFrom, sumBy, each, only, issuersOf, isAmong, Distinct}
 use Rattle.board.proofs.Tallies.{low, alike}
-use Rattle.board.proofs.Lanes.{same-is, payments-add, centavos-add, sum-read, sums-agree, own-sums-agree, in-order-of-appearance, no-issuer-twice}
+use Rattle.board.proofs.Lanes.{same-is, payments-add, centavos-add, sum-read, sums-agree, own-sums-agree, no-issuer-twice}
 use Rattle.board.proofs.Posting.{length-lanes}
 use Rattle.ledger.specs.Ledgers.{laneOfRecord, lanesOfRecords, receivedIn, ofIssuer}
 use Rattle.ledger.specs.Promises.{reached, shownLanes, acceptedRecords, LanesAreThePayments, LanesInOrder, EachLaneIsExact, SumsAreTheRecords, TotalsAreTheRecords, NoIssuerHasTwoLanes, WithinLimits}
+use Rattle.ledger.proofs.Records.{issuers-are-the-lanes, lanes-count, lanes-sum}
 use Rattle.ledger.proofs.Agreement.{session-agrees}
 
 pub lanes-are-the-payments : LanesAreThePayments
@@ -25,21 +26,13 @@ lanes-are-the-payments steps = session-agrees steps .shown
 
 pub lanes-in-order : LanesInOrder
 lanes-in-order steps =
-    ap issuersOf (lanes-are-the-payments steps) ∙ in-order-of-appearance (lanesOfRecords (acceptedRecords steps))
+    ap issuersOf (lanes-are-the-payments steps) ∙ issuers-are-the-lanes (acceptedRecords steps)
 
 pub no-issuer-has-two-lanes : NoIssuerHasTwoLanes
 no-issuer-has-two-lanes steps =
     rw (lanes-are-the-payments steps) (no-issuer-twice (lanesOfRecords (acceptedRecords steps)))
 
 -- The sums.
-
-pub lanes-count : (recs : List (List ℕ)) → sumBy (each (λ t. t .payments)) (lanesOfRecords recs) ≡ length recs
-lanes-count [] = refl
-lanes-count (rec ∷ recs) = omega (arith, lanes-count recs)
-
-pub lanes-sum : (recs : List (List ℕ)) → sumBy (each (λ t. t .centavos)) (lanesOfRecords recs) ≡ receivedIn recs
-lanes-sum [] = refl
-lanes-sum (rec ∷ recs) = omega (arith, lanes-sum recs)
 
 pub sums-are-the-records : SumsAreTheRecords
 sums-are-the-records steps =

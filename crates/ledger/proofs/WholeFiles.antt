@@ -23,8 +23,7 @@ use Rattle.file.proofs.Files.{fresh-file-takes, fresh-file-holds, one-right-tra
 use Rattle.board.specs.declared.Board.{Board}
 use Rattle.board.specs.Lanes.{tallySum}
 use Rattle.board.specs.Boards.{freshBoard, lanesOf, postAnswer, postAnswers, boardWith, boardWithAll}
-use Rattle.board.proofs.Tallies.{low-fits, alike}
-use Rattle.board.proofs.Lanes.{payments-add, centavos-add, sum-read}
+use Rattle.board.proofs.Tallies.{low-fits}
 use Rattle.board.proofs.Boards.{fresh-board-takes, fresh-board-holds}
 use Rattle.session.specs.declared.Session.{Session}
 use Rattle.session.specs.declared.TakeResult.{TakeResult}
@@ -32,7 +31,7 @@ use Rattle.session.specs.Sessions.{closedAt, openedAt, sessionExpects, figuresI
 use Rattle.ledger.specs.Ledgers.{laneOfRecord, lanesOfRecords, receivedIn, Step, taking}
 use Rattle.ledger.specs.Promises.{sessionAfter, answersOf}
 use Rattle.ledger.specs.WholeFiles.{IsRight, Whole, receivedEach, TrueFigures, AllAccepted, FileAccepted, FilePosted, FreshSessionAccepts, FreshSessionShows}
-use Rattle.ledger.proofs.Shown.{lanes-count, lanes-sum}
+use Rattle.ledger.proofs.Records.{lanes-tally}
 
 -- taking a record that is accepted by itself and expected
 taken : (s : Session) (r : Record) (rec : List ℕ) → IsRight r rec → sessionExpects (s .opened) (Is r) ≡ true
@@ -159,12 +158,6 @@ file-posted b a recs z whole e =
     left-rest b z (whole .trailer) recs (whole .payments) b freshFile (rw next at (e .1))
 
 -- A fresh session.
-
-lanes-tally : (recs : List (List ℕ))
-    → tallySum (lanesOfRecords recs) ≡ record { payments = length recs; centavos = receivedIn recs }
-lanes-tally recs =
-    alike (sum-read (λ t. t .payments) payments-add (lanesOfRecords recs) ∙ lanes-count recs)
-    (sum-read (λ t. t .centavos) centavos-add (lanesOfRecords recs) ∙ lanes-sum recs)
 
 pub fresh-session-accepts : FreshSessionAccepts
 fresh-session-accepts a recs z whole =

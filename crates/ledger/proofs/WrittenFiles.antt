@@ -22,13 +22,16 @@ use Rattle.writer.proofs.Written.{first-byte, written-is-accepted, fields-write
 use Rattle.writer.proofs.Trailers.{fields-write-the-trailer}
 use Rattle.writer.proofs.Amounts.{written-amounts-are-read, trailer-shows-the-figures}
 use Rattle.board.specs.declared.Board.{Board}
-use Rattle.board.specs.Boards.{postAnswers}
+use Rattle.board.specs.Boards.{freshBoard, lanesOf, postAnswers}
+use Rattle.board.proofs.Boards.{fresh-board-holds}
+use Rattle.session.specs.declared.RunResult.{RunResult}
 use Rattle.session.specs.Sessions.{closedAt}
 use Rattle.ledger.specs.Promises.{answersOf}
 use Rattle.ledger.specs.Ledgers.{receivedIn, lanesOfRecords}
 use Rattle.ledger.specs.WholeFiles.{IsRight, Whole, fileOf, receivedEach, TrueFigures, AllAccepted}
-use Rattle.ledger.specs.WrittenFiles.{Given, recordOf, writtenRecords, writerAfterPayments, PaymentsWritten, openedBy, Closed, trailerAfter, givenBy, ClosedFileIsWhole, ClosedFileIsAccepted, FieldsWriteTheFile}
+use Rattle.ledger.specs.WrittenFiles.{Given, recordOf, writtenRecords, writerAfterPayments, PaymentsWritten, openedBy, Closed, trailerAfter, givenBy, ClosedFileIsWhole, ClosedFileIsAccepted, ClosedFileBytesRun, FieldsWriteTheFile}
 use Rattle.ledger.proofs.WholeFiles.{received-each, file-accepted, fresh-session-accepts, fresh-session-shows}
+use Rattle.ledger.proofs.FileBytes.{file-bytes-run}
 
 -- a writer whose file is open
 abbrev opened : File → Writer
@@ -138,6 +141,21 @@ closed-file-is-accepted header gs c few =
     fresh-session-accepts (headerBytes header) recs (trailerAfter header gs) (whole header gs c) .1
     (limits header gs c .0, limits header gs c .1, few, figures header gs c) in
     (all, fresh-session-shows (headerBytes header) recs (trailerAfter header gs) (whole header gs c) all .0)
+
+pub closed-file-bytes-run : ClosedFileBytesRun
+closed-file-bytes-run header gs c few =
+    let recs = writtenRecords gs in
+    let all = closed-file-is-accepted header gs c few .0 in
+    let a = headerBytes header in
+    let z = trailerAfter header gs in
+    let run = file-bytes-run freshBoard a recs z (whole header gs c) all in
+    let given : length recs ≡ length gs = simp length-map in
+    let shows = fresh-board-holds (lanesOfRecords recs) (file-accepted freshBoard a recs z (whole header gs c) .0 all .1) in (
+      ap (λ (r : RunResult). r .answer) run,
+      ap (λ (r : RunResult). r .records) run ∙ ap (λ (n : ℕ). n + 2) given,
+      ap (λ (r : RunResult). r .files) run,
+      ap (λ (r : RunResult). lanesOf (r .session .shown)) run ∙ shows .0,
+    )
 
 -- The converse: the fields of right payments that an open file has room for write them again.
 record Rewritten (f : File) (recs : List (List ℕ)) : Type 0 where

@@ -1,14 +1,14 @@
--- The ledger: a second meaning of the records, from their bytes, with no session and no board (SPEC.md, "Sessions").
--- Assumes nothing.
+-- The ledger: a second meaning of the records, from their bytes, with no session and no board (SPEC.md, "Sessions"). Of
+-- the board it has the type of a lane, as plain data, and the two limits as numbers. Assumes nothing.
 use Prim.Native.Nat.{ℕ, _+_}
-use mathlib.Core.Bool.{Bool, true, false, cond}
+use mathlib.Core.Bool.{Bool, true, false, cond, _&&_}
 use mathlib.Core.List.{List, [], _∷_, _++_, map}
 use mathlib.Core.Option.{Option, none, some}
 use lib.Dec.{eqb, ltb, leb}
 use lib.ListN.{length, getD}
-use Rattle.answer.specs.Refusals.{receivedPlace}
+use Rattle.answer.specs.Refusals.{receivedPlace, issuerPlace}
 use Rattle.answer.specs.declared.Reason.the-variants.{WrongLength, NotExpected, CountDiffers, TotalDiffers, FileFull}
-use Rattle.answer.specs.declared.Reason.the-variants.{FileTotalPassed}
+use Rattle.answer.specs.declared.Reason.the-variants.{FileTotalPassed, BoardFull, BoardTotalPassed}
 use Rattle.answer.specs.declared.Answer.{Answer}
 use Rattle.answer.specs.declared.Answer.the-variants.{Accepted}
 use Rattle.answer.specs.Orders.{require, _then_, ifAccepted}
@@ -21,19 +21,23 @@ use Rattle.record.specs.Records.{recordAnswer}
 use Rattle.record.specs.Values.{paymentShown, trailerShown}
 use Rattle.file.specs.Files.{mostPayments, mostCentavos, countPlace, totalPlace}
 use Rattle.board.specs.declared.Lane.{Lane}
-use Rattle.board.specs.Lanes.{sameIssuer}
-use Rattle.board.specs.Boards.{answerAfter}
-use Rattle.session.specs.Sessions.{laneOfPayment}
+use Rattle.board.specs.Lanes.{mostLanes, limit}
 
--- a file as received: the bytes of its header and of its payment records, the latest last
+-- an open file as received: the bytes of its header and of its payment records, the latest last
+pub record Opened : Type 0 where
+  pub header : List ℕ
+  pub payments : List (List ℕ)
+
+-- an accepted file: its trailer's bytes too
 pub record Filed : Type 0 where
   pub header : List ℕ
   pub payments : List (List ℕ)
+  pub trailer : List ℕ
 
 -- the accepted files, the latest last, and the open file if there is one
 pub record Ledger : Type 0 where
   pub accepted : List Filed
-  pub opened : Option Filed
+  pub opened : Option Opened
 
 abbrev pub freshLedger : Ledger
 freshLedger = record { accepted = []; opened = none }
@@ -45,13 +49,18 @@ abbrev pub paymentRecords : List Filed → List (List ℕ)
 paymentRecords [] = []
 paymentRecords (f ∷ fs) = f .payments ++ paymentRecords fs
 
-abbrev pub openRecords : Option Filed → List (List ℕ)
+abbrev pub openRecords : Option Opened → List (List ℕ)
 openRecords none = []
 openRecords (some f) = f .payments
 
+-- the issuer that a payment record names, in its barcode
+abbrev pub issuerNamed : List ℕ → Issuer
+issuerNamed rec = paymentShown rec .barcode .issuer
+
 -- each payment record as a lane of one
 abbrev pub laneOfRecord : List ℕ → Lane
-laneOfRecord rec = laneOfPayment (paymentShown rec)
+laneOfRecord rec =
+    record { issuer = issuerNamed rec; tally = record { payments = 1; centavos = paymentShown rec .received } }
 
 abbrev pub lanesOfRecords : List (List ℕ) → List Lane
 lanesOfRecords recs = map laneOfRecord recs
@@ -61,16 +70,30 @@ abbrev pub receivedIn : List (List ℕ) → ℕ
 receivedIn [] = 0
 receivedIn (rec ∷ recs) = paymentShown rec .received + receivedIn recs
 
+-- two issuers are the same if their segments and their numbers are
+abbrev pub equalIssuers : Issuer → Issuer → Bool
+equalIssuers i j = eqb (i .segment) (j .segment) && eqb (i .number) (j .number)
+
 -- those that name this issuer
 abbrev pub ofIssuer : Issuer → List (List ℕ) → List (List ℕ)
 ofIssuer i [] = []
-ofIssuer i (rec ∷ recs) =
-    cond (sameIssuer (paymentShown rec .barcode .issuer) i) (rec ∷ ofIssuer i recs) (ofIssuer i recs)
+ofIssuer i (rec ∷ recs) = cond (equalIssuers (issuerNamed rec) i) (rec ∷ ofIssuer i recs) (ofIssuer i recs)
+
+-- the issuers that they name, each at its first appearance, without those seen before
+abbrev pub isSeen : Issuer → List Issuer → Bool
+isSeen i [] = false
+isSeen i (j ∷ js) = cond (equalIssuers j i) true (isSeen i js)
+
+abbrev pub issuersNamed : List Issuer → List (List ℕ) → List Issuer
+issuersNamed seen [] = []
+issuersNamed seen (rec ∷ recs) =
+    cond (isSeen (issuerNamed rec) seen) (issuersNamed seen recs)
+    (issuerNamed rec ∷ issuersNamed (seen ++ (issuerNamed rec ∷ [])) recs)
 
 -- The answer to a record.
 
 -- with no file open A is expected; in an open file G or Z
-abbrev pub ledgerExpects : Option Filed → MaybeRecord → Bool
+abbrev pub ledgerExpects : Option Opened → MaybeRecord → Bool
 ledgerExpects none (Is Header) = true
 ledgerExpects none (Is Payment) = false
 ledgerExpects none (Is Trailer) = false
@@ -80,21 +103,27 @@ ledgerExpects (some f) (Is Payment) = true
 ledgerExpects (some f) (Is Trailer) = true
 ledgerExpects (some f) Other = false
 
--- a G: 15, 16 from the open file's payments; 17, 18 from those of all accepted files and the open one
-abbrev pub paymentStateAnswer : List Filed → Filed → List ℕ → Answer
+-- 17: these payments name more issuers than a board has lanes; 18: their number or what they received passes the limit
+abbrev pub limitsAnswer : List (List ℕ) → Answer
+limitsAnswer recs =
+    require (leb (length (issuersNamed [] recs)) mostLanes) BoardFull issuerPlace
+    then require (leb (length recs) limit && leb (receivedIn recs) limit) BoardTotalPassed receivedPlace
+
+-- a G: 15, 16 from the open file's payments; 17, 18 from those of all accepted files, the open one and it
+abbrev pub paymentStateAnswer : List Filed → Opened → List ℕ → Answer
 paymentStateAnswer files f r =
     require (ltb (length (f .payments)) mostPayments) FileFull 1
     then require (leb (receivedIn (f .payments) + paymentShown r .received) mostCentavos) FileTotalPassed receivedPlace
-    then answerAfter (lanesOfRecords (paymentRecords files ++ f .payments)) (laneOfRecord r)
+    then limitsAnswer ((paymentRecords files ++ f .payments) ++ (r ∷ []))
 
 -- a Z: 13, the number of the file's records, A and Z included; 14, what its payments received
-abbrev pub trailerStateAnswer : Filed → List ℕ → Answer
+abbrev pub trailerStateAnswer : Opened → List ℕ → Answer
 trailerStateAnswer f rec =
     require (eqb (trailerShown rec .count) (length (f .payments) + 2)) CountDiffers countPlace
     then require (eqb (trailerShown rec .total) (receivedIn (f .payments))) TotalDiffers totalPlace
 
 -- with no file open only an A gets this far, and nothing more is checked
-abbrev pub stateAnswer : List Filed → Option Filed → MaybeRecord → List ℕ → Answer
+abbrev pub stateAnswer : List Filed → Option Opened → MaybeRecord → List ℕ → Answer
 stateAnswer files none named rec = Accepted
 stateAnswer files (some f) (Is Header) rec = Accepted
 stateAnswer files (some f) (Is Payment) rec = paymentStateAnswer files f rec
@@ -111,13 +140,17 @@ ledgerAnswer k rec =
 
 -- The ledger that follows.
 
+-- an open file with its trailer
+abbrev pub filedWith : Opened → List ℕ → Filed
+filedWith f z = record { header = f .header; payments = f .payments; trailer = z }
+
 -- an accepted A opens a file, a G is added to it, a Z closes it: it is then an accepted file
-abbrev pub withRecord : List Filed → Option Filed → MaybeRecord → List ℕ → Ledger
+abbrev pub withRecord : List Filed → Option Opened → MaybeRecord → List ℕ → Ledger
 withRecord files none named rec = record { accepted = files; opened = some (record { header = rec; payments = [] }) }
 withRecord files (some f) (Is Header) rec = record { accepted = files; opened = some f }
 withRecord files (some f) (Is Payment) rec =
     record { accepted = files; opened = some (record { header = f .header; payments = f .payments ++ (rec ∷ []) }) }
-withRecord files (some f) (Is Trailer) rec = record { accepted = files ++ (f ∷ []); opened = none }
+withRecord files (some f) (Is Trailer) rec = record { accepted = files ++ (filedWith f rec ∷ []); opened = none }
 withRecord files (some f) Other rec = record { accepted = files; opened = some f }
 
 -- taking a record of any bytes, or abandoning the open file

@@ -16,12 +16,12 @@ use Rattle.layout.specs.Layouts.{namedBy}
 use Rattle.record.specs.Records.{recordAnswer}
 use Rattle.record.specs.Values.{trailerShown}
 use Rattle.board.specs.declared.Lane.{Lane}
-use Rattle.board.specs.Lanes.{mostLanes, limit, lanesFrom, sumBy, each, issuersOf, appearing, Distinct}
+use Rattle.board.specs.Lanes.{mostLanes, limit, lanesFrom, sumBy, each, issuersOf, Distinct}
 use Rattle.board.specs.Boards.{lanesOf, SoundBoard}
 use Rattle.session.specs.declared.Session.{Session}
 use Rattle.session.specs.Sessions.{freshSession, takeAnswer, takeOf, abandonOf, finishOf}
-use Rattle.ledger.specs.Ledgers.{Filed, Ledger, freshLedger, paymentRecords, openRecords, lanesOfRecords}
-use Rattle.ledger.specs.Ledgers.{receivedIn, ofIssuer, ledgerAnswer, Step, taking, abandoning, ledgerAfter}
+use Rattle.ledger.specs.Ledgers.{Opened, Ledger, freshLedger, paymentRecords, openRecords, lanesOfRecords}
+use Rattle.ledger.specs.Ledgers.{receivedIn, ofIssuer, issuersNamed, ledgerAnswer, Step, taking, abandoning, ledgerAfter}
 use Rattle.ledger.specs.Ledgers.{ledgerAnswers}
 
 -- The same steps through a session.
@@ -55,7 +55,7 @@ acceptedRecords steps = paymentRecords (ledgerOf steps .accepted)
 
 -- The invariant: the board shown has the payments of the accepted files, the working board those of the open file too.
 
-abbrev pub isOpen : Option Filed → Bool
+abbrev pub isOpen : Option Opened → Bool
 isOpen none = false
 isOpen (some f) = true
 
@@ -90,7 +90,7 @@ LanesAreThePayments = (steps : List Step) → shownLanes steps ≡ lanesFrom (la
 
 abbrev pub LanesInOrder : Type 0
 LanesInOrder =
-    (steps : List Step) → issuersOf (shownLanes steps) ≡ appearing [] (lanesOfRecords (acceptedRecords steps))
+    (steps : List Step) → issuersOf (shownLanes steps) ≡ issuersNamed [] (acceptedRecords steps)
 
 -- each lane shows exactly the payments of its issuer: their number and the centavos received, at full size
 abbrev pub EachLaneIsExact : Type 0
@@ -127,7 +127,7 @@ WithinLimits =
 -- in an open file, a Z with right fields is accepted exactly if its count and total are the true ones
 abbrev pub TrueTrailersOnly : Type 0
 TrueTrailersOnly =
-    (steps : List Step) (f : Filed) (rec : List ℕ)
+    (steps : List Step) (f : Opened) (rec : List ℕ)
     → ledgerOf steps .opened ≡ some f → recordAnswer rec ≡ Accepted → namedBy (getD rec 0 0) ≡ Is Trailer
     → (takeAnswer (reached steps) rec ≡ Accepted)
     ↔ ((trailerShown rec .count ≡ length (f .payments) + 2) × (trailerShown rec .total ≡ receivedIn (f .payments)))

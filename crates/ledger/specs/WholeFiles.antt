@@ -19,8 +19,8 @@ use Rattle.board.specs.declared.Board.{Board}
 use Rattle.board.specs.Lanes.{mostLanes, lanesFrom}
 use Rattle.board.specs.Boards.{postAnswers, boardWithAll}
 use Rattle.session.specs.Sessions.{freshSession, closedAt}
-use Rattle.ledger.specs.Ledgers.{lanesOfRecords, receivedIn, Step, taking}
-use Rattle.ledger.specs.Promises.{sessionAfter, answersOf, reached, shownLanes}
+use Rattle.ledger.specs.Ledgers.{Filed, lanesOfRecords, receivedIn, Step, taking}
+use Rattle.ledger.specs.Promises.{sessionAfter, answersOf, reached, ledgerOf, shownLanes}
 
 -- a record of this kind that is accepted by itself
 abbrev pub IsRight : Record → List ℕ → Type 0
@@ -78,3 +78,14 @@ FreshSessionShows =
     → (shownLanes (fileOf a recs z) ≡ lanesFrom (lanesOfRecords recs))
     × (reached (fileOf a recs z) .shown .total ≡ record { payments = length recs; centavos = receivedIn recs })
     × (reached (fileOf a recs z) .opened ≡ false)
+
+-- an accepted file of a ledger: whole, within a file's limits, its trailer true
+pub record SoundFile (f : Filed) : Type 0 where
+  pub whole : Whole (f .header) (f .payments) (f .trailer)
+  pub few : length (f .payments) ≤ mostPayments
+  pub low : receivedIn (f .payments) ≤ mostCentavos
+  pub figures : TrueFigures (f .payments) (f .trailer)
+
+-- so is each accepted file, after any list of steps
+abbrev pub LedgerFilesAreWhole : Type 0
+LedgerFilesAreWhole = (steps : List Step) → Each SoundFile (ledgerOf steps .accepted)

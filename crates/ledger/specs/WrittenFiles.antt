@@ -1,5 +1,5 @@
 -- A file that the writer closed, as a fresh session takes it. Assumes nothing.
-use Prim.Native.Nat.{ℕ, _≤_}
+use Prim.Native.Nat.{ℕ, _+_, _≤_}
 use mathlib.Core.List.{List, [], _∷_, map}
 use mathlib.Core.Path.{_≡_}
 use lib.ListN.{length}
@@ -9,13 +9,16 @@ use Rattle.layout.specs.Layouts.{recordLength, joinedOf}
 use Rattle.record.specs.Values as values
 use Rattle.board.specs.declared.Board.{Board}
 use Rattle.board.specs.Lanes.{mostLanes, lanesFrom}
+use Rattle.board.specs.Boards.{lanesOf}
 use Rattle.session.specs.Sessions.{freshSession, closedAt}
+use Rattle.session.specs.Runs.{runOf}
 use Rattle.writer.specs.declared.Writer.{Writer}
 use Rattle.writer.specs.Writers.{freshWriter, headerAnswer, headerWritten, headerBytes, paymentAnswer, paymentWritten}
 use Rattle.writer.specs.Writers.{paymentBytes, trailerAnswer, trailerBytes}
 use Rattle.ledger.specs.Ledgers.{Step, lanesOfRecords}
 use Rattle.ledger.specs.Promises.{answersOf, shownLanes}
 use Rattle.ledger.specs.WholeFiles.{Whole, fileOf, TrueFigures, AllAccepted}
+use Rattle.ledger.specs.Runs.{recordsOf, bytesOf}
 
 -- a payment as the writer is given it, and the record that it writes
 pub record Given : Type 0 where
@@ -56,6 +59,9 @@ trailerAfter header gs = trailerBytes (writerAfterPayments (openedBy header) gs)
 abbrev pub writtenFile : List ℕ → List Given → List Step
 writtenFile header gs = fileOf (headerBytes header) (writtenRecords gs) (trailerAfter header gs)
 
+abbrev pub writtenBytes : List ℕ → List Given → List ℕ
+writtenBytes header gs = bytesOf (recordsOf (headerBytes header) (writtenRecords gs) (trailerAfter header gs))
+
 -- what the writer is given for a payment record: its fields, joined, and its two amounts
 abbrev pub givenBy : List ℕ → Given
 givenBy rec =
@@ -64,6 +70,10 @@ givenBy rec =
       received = values.paymentShown rec .received;
       tariff = values.paymentShown rec .tariff;
     }
+
+-- its payments name at most 64 issuers
+abbrev pub FewIssuers : List Given → Type 0
+FewIssuers gs = length (lanesFrom (lanesOfRecords (writtenRecords gs))) ≤ mostLanes
 
 -- Promises.
 
@@ -78,9 +88,18 @@ ClosedFileIsWhole =
 abbrev pub ClosedFileIsAccepted : Type 0
 ClosedFileIsAccepted =
     (header : List ℕ) (gs : List Given)
-    → Closed header gs → length (lanesFrom (lanesOfRecords (writtenRecords gs))) ≤ mostLanes
+    → Closed header gs → FewIssuers gs
     → AllAccepted (answersOf freshSession (writtenFile header gs))
     × (shownLanes (writtenFile header gs) ≡ lanesFrom (lanesOfRecords (writtenRecords gs)))
+
+-- and so is a run over its bytes: it takes all its records, and one file
+abbrev pub ClosedFileBytesRun : Type 0
+ClosedFileBytesRun =
+    (header : List ℕ) (gs : List Given)
+    → Closed header gs → FewIssuers gs
+    → let r = runOf freshSession (writtenBytes header gs) in
+    (r .answer ≡ Accepted) × (r .records ≡ length gs + 2) × (r .files ≡ 1)
+    × (lanesOf (r .session .shown) ≡ lanesFrom (lanesOfRecords (writtenRecords gs)))
 
 -- the fields of a file that a session accepted, given to a fresh writer, are that file again, its trailer too
 abbrev pub FieldsWriteTheFile : Type 0

@@ -1,0 +1,122 @@
+-- Every accepted file of a ledger is whole: what holds of the open file, and of the accepted ones, is kept by each step.
+-- Assumes nothing.
+use Prim.Native.Nat.{ℕ, _+_, _≤_}
+use mathlib.Core.Bool.{true, false≢true}
+use mathlib.Core.List.{List, [], _∷_, _++_}
+use mathlib.Core.Option.{Option, none, some}
+use mathlib.Core.Path.{_≡_, refl}
+use native.Mathlib.Omega.{arith}
+use borrow.Author.Tests.{ltb-true, leb-true}
+use lib.Dec.{eqb, ltb, leb}
+use lib.ListN.{length, getD, length-append}
+use Rattle.answer.specs.Refusals.{receivedPlace}
+use Rattle.answer.specs.declared.Reason.the-variants.{WrongLength, NotExpected, FileFull, FileTotalPassed}
+use Rattle.answer.specs.declared.Answer.{Answer}
+use Rattle.answer.specs.declared.Answer.the-variants.{Accepted, Refused}
+use Rattle.answer.specs.Orders.{ifAccepted, Each}
+use Rattle.answer.proofs.Orders.{then-accepts}
+use Rattle.answer.proofs.Steps.{passed}
+use Rattle.layout.specs.declared.MaybeRecord.{MaybeRecord}
+use Rattle.layout.specs.declared.MaybeRecord.the-variants.{Is, Other}
+use Rattle.layout.specs.declared.Record.the-variants.{Header, Payment, Trailer}
+use Rattle.layout.specs.Layouts.{recordLength, namedBy}
+use Rattle.record.specs.Records.{recordAnswer}
+use Rattle.record.specs.Values.{paymentShown}
+use Rattle.file.specs.Files.{mostPayments, mostCentavos}
+use Rattle.ledger.specs.Ledgers.{Opened, Filed, Ledger, freshLedger, receivedIn, ledgerExpects, stateAnswer, ledgerAnswer, filedWith, withRecord, Step, taking, abandoning, ledgerStep, ledgerAfter}
+use Rattle.ledger.specs.WholeFiles.{IsRight, SoundFile, LedgerFilesAreWhole}
+use Rattle.ledger.proofs.Agreement.{received-joined}
+use Rattle.ledger.proofs.Sessions.{figures-accept}
+
+-- what holds of the open file
+record Right (f : Opened) : Type 0 where
+  header : IsRight Header (f .header)
+  payments : Each (IsRight Payment) (f .payments)
+  few : length (f .payments) ≤ mostPayments
+  low : receivedIn (f .payments) ≤ mostCentavos
+
+abbrev RightIfOpen : Option Opened → Type 0
+RightIfOpen none = Unit {0}
+RightIfOpen (some f) = Right f
+
+record Kept (k : Ledger) : Type 0 where
+  files : Each SoundFile (k .accepted)
+  opened : RightIfOpen (k .opened)
+
+each-last : {A : Type 0} (P : A → Type 0) (xs : List A) (x : A) → Each P xs → P x → Each P (xs ++ (x ∷ []))
+each-last P [] x h p = (p, tt)
+each-last P (y ∷ xs) x h p = (h .0, each-last P xs x (h .1) p)
+
+module _ (files : List Filed) (rec : List ℕ) (own : recordAnswer rec ≡ Accepted) (all : Each SoundFile files) where
+  with-payment : (f : Opened) → Right f → namedBy (getD rec 0 0) ≡ Is Payment
+      → stateAnswer files (some f) (Is Payment) rec ≡ Accepted
+      → Kept (withRecord files (some f) (Is Payment) rec)
+  with-payment f h n e =
+      let room = passed (ltb (length (f .payments)) mostPayments) FileFull 1 e in
+      let less =
+      passed (leb (receivedIn (f .payments) + paymentShown rec .received) mostCentavos) FileTotalPassed receivedPlace
+      (room .1) in
+      let few = ltb-true (length (f .payments)) mostPayments (room .0) in
+      let low = leb-true (receivedIn (f .payments) + paymentShown rec .received) mostCentavos (less .0) in
+      record {
+        files = all;
+        opened =
+            record {
+              header = h .header;
+              payments = each-last (IsRight Payment) (f .payments) rec (h .payments) (own, n);
+              few = omega (arith, few, length-append (f .payments) (rec ∷ []));
+              low = omega (arith, low, received-joined (f .payments) rec);
+            };
+      }
+
+  with-trailer : (f : Opened) → Right f → namedBy (getD rec 0 0) ≡ Is Trailer
+      → stateAnswer files (some f) (Is Trailer) rec ≡ Accepted
+      → Kept (withRecord files (some f) (Is Trailer) rec)
+  with-trailer f h n e =
+      record {
+        files =
+            each-last SoundFile files (filedWith f rec) all
+            (record {
+              whole = record { header = h .header; payments = h .payments; trailer = (own, n) };
+              few = h .few;
+              low = h .low;
+              figures = figures-accept f rec .0 e;
+            });
+        opened = tt;
+      }
+
+  with-record : (o : Option Opened) (n : MaybeRecord) → RightIfOpen o → namedBy (getD rec 0 0) ≡ n
+      → ledgerExpects o n ≡ true → stateAnswer files o n rec ≡ Accepted → Kept (withRecord files o n rec)
+  with-record none (Is Header) h is x e =
+      record {
+        files = all;
+        opened = record { header = (own, is); payments = tt; few = omega arith; low = omega arith };
+      }
+  with-record none (Is Payment) h is x e = absurd (false≢true x)
+  with-record none (Is Trailer) h is x e = absurd (false≢true x)
+  with-record none Other h is x e = absurd (false≢true x)
+  with-record (some f) (Is Header) h is x e = absurd (false≢true x)
+  with-record (some f) (Is Payment) h is x e = with-payment f h is e
+  with-record (some f) (Is Trailer) h is x e = with-trailer f h is e
+  with-record (some f) Other h is x e = absurd (false≢true x)
+
+keeps : (k : Ledger) (step : Step) → Kept k → Kept (ledgerStep k step)
+keeps k abandoning h = record { files = h .files; opened = tt }
+keeps k (taking rec) h = go (ledgerAnswer k rec) refl
+  where
+    go : (a : Answer) → ledgerAnswer k rec ≡ a
+        → Kept (ifAccepted a (withRecord (k .accepted) (k .opened) (namedBy (getD rec 0 0)) rec) k)
+    go (Refused why p) e = h
+    go Accepted e =
+        let n = namedBy (getD rec 0 0) in
+        let long = passed (eqb (length rec) recordLength) WrongLength 0 e in
+        let met = passed (ledgerExpects (k .opened) n) NotExpected 1 (long .1) in
+        let own = then-accepts (recordAnswer rec) (stateAnswer (k .accepted) (k .opened) n rec) .0 (met .1) in
+        with-record (k .accepted) rec (own .0) (h .files) (k .opened) n (h .opened) refl (met .0) (own .1)
+
+all-keep : (k : Ledger) (steps : List Step) → Kept k → Kept (ledgerAfter k steps)
+all-keep k [] h = h
+all-keep k (step ∷ steps) h = all-keep (ledgerStep k step) steps (keeps k step h)
+
+pub ledger-files-are-whole : LedgerFilesAreWhole
+ledger-files-are-whole steps = all-keep freshLedger steps (record { files = tt; opened = tt }) .files

@@ -1,0 +1,81 @@
+-- What the ledger reads off payment records is what the session and the board make of them. Assumes nothing.
+use Prim.Native.Nat.{ℕ}
+use mathlib.Core.Bool.{Bool, _&&_}
+use mathlib.Core.List.{List, [], _∷_, _++_}
+use mathlib.Core.Path.{_≡_, refl, sym, ap, ap₂, _∙_}
+use native.Mathlib.Omega.{arith}
+use lib.Dec.{leb}
+use lib.ListN.{length, length-map}
+use Rattle.answer.specs.Refusals.{receivedPlace, issuerPlace}
+use Rattle.answer.specs.declared.Reason.the-variants.{BoardFull, BoardTotalPassed}
+use Rattle.answer.specs.Orders.{require, _then_}
+use Rattle.barcode.specs.declared.Issuer.{Issuer}
+use Rattle.board.specs.declared.Tally.{Tally}
+use Rattle.board.specs.declared.Lane.{Lane}
+use Rattle.board.specs.Lanes.{mostLanes, limit, fits, lanesFrom, tallySum, sumBy, each, issuersOf, isAmong, appearing}
+use Rattle.board.proofs.Tallies.{alike}
+use Rattle.board.proofs.Lanes.{payments-add, centavos-add, sum-read, in-order-of-appearance}
+use Rattle.ledger.specs.Ledgers.{laneOfRecord, lanesOfRecords, receivedIn, isSeen, issuersNamed}
+use Rattle.ledger.specs.Records.{LaneIsTheSessions, EqualIsTheBoards, IssuersAreTheLanes, LimitsAreTheBoards}
+
+-- Its lanes are the session's, its issuers the board's.
+
+pub lane-is-the-sessions : LaneIsTheSessions
+lane-is-the-sessions rec = refl
+
+pub equal-is-the-boards : EqualIsTheBoards
+equal-is-the-boards i j = refl
+
+seen-is : (i : Issuer) (is : List Issuer) → isSeen i is ≡ isAmong i is
+seen-is i [] = refl
+seen-is i (j ∷ is) = rw (seen-is i is)
+
+named-appear : (seen : List Issuer) (recs : List (List ℕ)) → issuersNamed seen recs ≡ appearing seen (lanesOfRecords recs)
+named-appear seen [] = refl
+named-appear seen (rec ∷ recs) =
+    let i = laneOfRecord rec .issuer in
+    rw (seen-is i seen, named-appear seen recs, named-appear (seen ++ (i ∷ [])) recs)
+
+pub issuers-are-the-lanes : IssuersAreTheLanes
+issuers-are-the-lanes recs = in-order-of-appearance (lanesOfRecords recs) ∙ sym (named-appear [] recs)
+
+-- The sums.
+
+pub lanes-count : (recs : List (List ℕ)) → sumBy (each (λ t. t .payments)) (lanesOfRecords recs) ≡ length recs
+lanes-count [] = refl
+lanes-count (rec ∷ recs) = omega (arith, lanes-count recs)
+
+pub lanes-sum : (recs : List (List ℕ)) → sumBy (each (λ t. t .centavos)) (lanesOfRecords recs) ≡ receivedIn recs
+lanes-sum [] = refl
+lanes-sum (rec ∷ recs) = omega (arith, lanes-sum recs)
+
+pub lanes-tally : (recs : List (List ℕ))
+    → tallySum (lanesOfRecords recs) ≡ record { payments = length recs; centavos = receivedIn recs }
+lanes-tally recs =
+    alike (sum-read (λ t. t .payments) payments-add (lanesOfRecords recs) ∙ lanes-count recs)
+    (sum-read (λ t. t .centavos) centavos-add (lanesOfRecords recs) ∙ lanes-sum recs)
+
+-- 17 and 18.
+
+pub lanes-joined : (recs : List (List ℕ)) (rec : List ℕ)
+    → lanesOfRecords (recs ++ (rec ∷ [])) ≡ lanesOfRecords recs ++ (laneOfRecord rec ∷ [])
+lanes-joined [] rec = refl
+lanes-joined (r ∷ recs) rec = ap (λ (ps : List Lane). laneOfRecord r ∷ ps) (lanes-joined recs rec)
+
+few-issuers : (recs : List (List ℕ)) → length (lanesFrom (lanesOfRecords recs)) ≡ length (issuersNamed [] recs)
+few-issuers recs =
+    let lanes = lanesFrom (lanesOfRecords recs) in
+    let as-many : length (issuersOf lanes) ≡ length lanes = simp length-map in
+    sym as-many ∙ ap length (issuers-are-the-lanes recs)
+
+sums-fit : (recs : List (List ℕ))
+    → fits (tallySum (lanesOfRecords recs)) ≡ (leb (length recs) limit && leb (receivedIn recs) limit)
+unfolding fits
+sums-fit recs = ap (λ (t : Tally). leb (t .payments) limit && leb (t .centavos) limit) (lanes-tally recs)
+
+pub limits-are-the-boards : LimitsAreTheBoards
+limits-are-the-boards recs rec =
+    let all = recs ++ (rec ∷ []) in
+    rw (← lanes-joined recs rec)
+    (ap₂ (λ (t u : Bool). require t BoardFull issuerPlace then require u BoardTotalPassed receivedPlace)
+    (ap (λ (n : ℕ). leb n mostLanes) (few-issuers all)) (sums-fit all))

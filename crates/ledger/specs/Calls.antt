@@ -1,0 +1,106 @@
+-- Any calls on a session, runs over many records and finishing among them, against the ledger (SPEC.md, "Sessions").
+-- Assumes nothing.
+use Prim.Native.Nat.{ℕ, _-_}
+use mathlib.Core.Bool.{not}
+use mathlib.Core.List.{List, [], _∷_, _++_, map}
+use mathlib.Core.Path.{_≡_}
+use lib.ListN.{length}
+use Rattle.answer.specs.declared.Reason.the-variants.{FileOpen}
+use Rattle.answer.specs.declared.Answer.{Answer}
+use Rattle.answer.specs.declared.Answer.the-variants.{Accepted}
+use Rattle.answer.specs.Orders.{require, _then_, ifAccepted}
+use Rattle.session.specs.declared.Session.{Session}
+use Rattle.session.specs.Sessions.{freshSession, takeOf, finishOf}
+use Rattle.session.specs.Runs.{piecesOf, runOf}
+use Rattle.ledger.specs.Ledgers.{Ledger, freshLedger, ledgerAnswer, Step, taking, abandoning, ledgerStep, ledgerAfter}
+use Rattle.ledger.specs.Promises.{sessionStep, isOpen, reached, ledgerOf, Agrees}
+
+-- taking a record or abandoning, a run over bytes, finishing
+pub data Call : Type 0 where
+  stepping : Step → Call
+  running : List ℕ → Call
+  finishing : Call
+
+-- what the caller gets: an answer, for a run its records and files too; abandoning returns nothing
+pub data Reply : Type 0 where
+  answered : Answer → Reply
+  ran : Answer → ℕ → ℕ → Reply
+  silent : Reply
+
+-- Calls on a session.
+
+abbrev pub sessionCall : Session → Call → Session
+sessionCall s (stepping step) = sessionStep s step
+sessionCall s (running bytes) = runOf s bytes .session
+sessionCall s finishing = finishOf s .session
+
+abbrev pub sessionReply : Session → Call → Reply
+sessionReply s (stepping (taking rec)) = answered (takeOf s rec .answer)
+sessionReply s (stepping abandoning) = silent
+sessionReply s (running bytes) = ran (runOf s bytes .answer) (runOf s bytes .records) (runOf s bytes .files)
+sessionReply s finishing = answered (finishOf s .answer)
+
+abbrev pub sessionAfterCalls : Session → List Call → Session
+sessionAfterCalls s [] = s
+sessionAfterCalls s (call ∷ calls) = sessionAfterCalls (sessionCall s call) calls
+
+abbrev pub sessionReplies : Session → List Call → List Reply
+sessionReplies s [] = []
+sessionReplies s (call ∷ calls) = sessionReply s call ∷ sessionReplies (sessionCall s call) calls
+
+-- The same calls on a ledger: a run is the taking of its records up to the first that is refused.
+
+abbrev pub recordsTaken : Ledger → List (List ℕ) → List (List ℕ)
+recordsTaken k [] = []
+recordsTaken k (rec ∷ recs) =
+    ifAccepted (ledgerAnswer k rec) (rec ∷ recordsTaken (ledgerStep k (taking rec)) recs) []
+
+abbrev pub runAnswer : Ledger → List (List ℕ) → Answer
+runAnswer k [] = Accepted
+runAnswer k (rec ∷ recs) = ledgerAnswer k rec then runAnswer (ledgerStep k (taking rec)) recs
+
+abbrev pub stepsOfCall : Ledger → Call → List Step
+stepsOfCall k (stepping step) = step ∷ []
+stepsOfCall k (running bytes) = map taking (recordsTaken k (piecesOf bytes))
+stepsOfCall k finishing = []
+
+abbrev pub ledgerCall : Ledger → Call → Ledger
+ledgerCall k call = ledgerAfter k (stepsOfCall k call)
+
+-- a run's files are those that the ledger has more of
+abbrev pub ledgerReply : Ledger → Call → Reply
+ledgerReply k (stepping (taking rec)) = answered (ledgerAnswer k rec)
+ledgerReply k (stepping abandoning) = silent
+ledgerReply k (running bytes) =
+    ran (runAnswer k (piecesOf bytes)) (length (recordsTaken k (piecesOf bytes)))
+    (length (ledgerCall k (running bytes) .accepted) - length (k .accepted))
+ledgerReply k finishing = answered (require (not (isOpen (k .opened))) FileOpen 0)
+
+abbrev pub ledgerAfterCalls : Ledger → List Call → Ledger
+ledgerAfterCalls k [] = k
+ledgerAfterCalls k (call ∷ calls) = ledgerAfterCalls (ledgerCall k call) calls
+
+abbrev pub ledgerReplies : Ledger → List Call → List Reply
+ledgerReplies k [] = []
+ledgerReplies k (call ∷ calls) = ledgerReply k call ∷ ledgerReplies (ledgerCall k call) calls
+
+abbrev pub stepsOfCalls : Ledger → List Call → List Step
+stepsOfCalls k [] = []
+stepsOfCalls k (call ∷ calls) = stepsOfCall k call ++ stepsOfCalls (ledgerCall k call) calls
+
+-- Promises, of any list of calls from a fresh session.
+
+-- the session agrees with the ledger, and every reply is the ledger's
+abbrev pub CallsAgree : Type 0
+CallsAgree = (calls : List Call) → Agrees (sessionAfterCalls freshSession calls) (ledgerAfterCalls freshLedger calls)
+
+abbrev pub RepliesAreTheLedgers : Type 0
+RepliesAreTheLedgers =
+    (calls : List Call) → sessionReplies freshSession calls ≡ ledgerReplies freshLedger calls
+
+-- they reach what steps reach, so whatever holds after any steps holds after any calls
+abbrev pub CallsAreSteps : Type 0
+CallsAreSteps =
+    (calls : List Call)
+    → let steps = stepsOfCalls freshLedger calls in
+    (sessionAfterCalls freshSession calls ≡ reached steps) × (ledgerAfterCalls freshLedger calls ≡ ledgerOf steps)
