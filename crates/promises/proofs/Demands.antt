@@ -33,6 +33,10 @@ use Rattle.ledger.proofs.Shown.{lanes-are-the-payments, lanes-in-order, each-la
 use Rattle.ledger.proofs.Shown.{sums-are-the-records, totals-are-the-records, within-limits}
 use Rattle.session.proofs.Runs.{run-is-its-takes}
 use Rattle.ledger.proofs.Runs.{run-is-the-ledgers}
+use Rattle.ledger.proofs.Calls.{calls-agree, replies-are-the-ledgers, calls-are-steps}
+use Rattle.ledger.proofs.LedgerFiles.{ledger-files-are-whole}
+use Rattle.ledger.proofs.FileBytes.{file-bytes-run}
+use Rattle.ledger.proofs.WrittenFiles.{closed-file-bytes-run}
 use Rattle.ledger.proofs.WholeFiles.{file-accepted, file-posted, fresh-session-accepts, fresh-session-shows}
 use Rattle.ledger.proofs.WrittenFiles.{closed-file-is-whole, closed-file-is-accepted, fields-write-the-file}
 use Rattle.promises.specs.Demands.{Demand1, Demand2, Demand3, Promised}
@@ -83,7 +87,7 @@ demand-2 =
         fields-write-the-trailer,
       );
       filesBack = fields-write-the-file;
-      trailers = (one-right-trailer, true-trailers-only);
+      trailers = (one-right-trailer, true-trailers-only, ledger-files-are-whole);
       files = (file-accepted, file-posted, fresh-session-accepts, fresh-session-shows);
       written = (
         closed-file-is-whole,
@@ -92,7 +96,9 @@ demand-2 =
         written-is-accepted,
         trailer-shows-the-figures,
       );
+      bytesRun = (file-bytes-run, closed-file-bytes-run);
       answers = (session-agrees, answers-are-the-ledgers, next-answer-is-the-ledgers, run-is-the-ledgers);
+      calls = (calls-agree, replies-are-the-ledgers, calls-are-steps);
       lanes = (lanes-are-the-payments, lanes-in-order, each-lane-is-exact, no-issuer-has-two-lanes);
       sums = (sums-are-the-records, totals-are-the-records);
       together = (only-trailers-show, nothing-shows-before, trailers-show-all);

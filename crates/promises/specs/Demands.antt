@@ -30,9 +30,11 @@ use Rattle.ledger.specs.Promises.{OnlyTrailersShow, NothingShowsBefore, Trailer
 use Rattle.ledger.specs.Promises.{AbandonKeepsBoard, AbandonDropsFile, AbandonNothing}
 use Rattle.ledger.specs.Promises.{FinishAnswers, FinishKeepsSession}
 use Rattle.session.specs.Runs.{RunIsItsTakes}
-use Rattle.ledger.specs.Runs.{RunIsTheLedgers}
+use Rattle.ledger.specs.Runs.{RunIsTheLedgers, FileBytesRun}
+use Rattle.ledger.specs.Calls.{CallsAgree, RepliesAreTheLedgers, CallsAreSteps}
+use Rattle.ledger.specs.WholeFiles.{LedgerFilesAreWhole}
 use Rattle.ledger.specs.WholeFiles.{FileAccepted, FilePosted, FreshSessionAccepts, FreshSessionShows}
-use Rattle.ledger.specs.WrittenFiles.{ClosedFileIsWhole, ClosedFileIsAccepted, FieldsWriteTheFile}
+use Rattle.ledger.specs.WrittenFiles.{ClosedFileIsWhole, ClosedFileIsAccepted, ClosedFileBytesRun, FieldsWriteTheFile}
 use Rattle.promises.specs.Calls.{CallsMakeOneFile}
 use Rattle.promises.specs.OneOutcome.{OneOutcome}
 use Rattle.promises.specs.Refusals.{RefusalsChangeNothing}
@@ -76,12 +78,15 @@ pub record Demand2 : Type 0 where
   pub recordsBack : FieldsMakeTheRecord × FieldsWriteTheHeader × FieldsWriteThePayment × FieldsWriteTheTrailer
   pub filesBack : FieldsWriteTheFile
   -- "A file is accepted only if its trailer's count and total are the true ones,"
-  pub trailers : OneRightTrailer × TrueTrailersOnly
+  pub trailers : OneRightTrailer × TrueTrailersOnly × LedgerFilesAreWhole
   pub files : FileAccepted × FilePosted × FreshSessionAccepts × FreshSessionShows
   pub written :
       ClosedFileIsWhole × ClosedFileIsAccepted × CallsMakeOneFile × WrittenIsAccepted × TrailerShowsTheFigures
+  -- also as bytes, run at once,
+  pub bytesRun : FileBytesRun × ClosedFileBytesRun
   -- "and each lane shows exactly the payments of accepted files,"
   pub answers : SessionAgrees × AnswersAreTheLedgers × NextAnswerIsTheLedgers × RunIsTheLedgers
+  pub calls : CallsAgree × RepliesAreTheLedgers × CallsAreSteps
   pub lanes : LanesAreThePayments × LanesInOrder × EachLaneIsExact × NoIssuerHasTwoLanes
   pub sums : SumsAreTheRecords × TotalsAreTheRecords
   pub together : OnlyTrailersShow × NothingShowsBefore × TrailersShowAll
