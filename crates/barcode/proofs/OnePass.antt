@@ -30,12 +30,6 @@ use Rattle.barcode.specs.declared.MaybeIssuer.the-variants.{Is, NoIssuer
 use Rattle.barcode.proofs.Codes.{general-as, first-three-accepts, good, accepted}
 use Rattle.barcode.specs.Codes.{digitAt, product, isSegment, isKind, modulusOf, firstThreeAnswer, generalCheck, generalRight, barcodeAnswer, issuerOf, issuerIfAccepted, acceptedIssuer, fieldsOf, decoded, decodedBarcode}
 
-pub never : {a : Answer} {why : Reason} {p : ℕ} → a ≡ Refused why p → a ≡ Accepted → ⊥
-never e f = let z : _≡_ {A = ℕ} 0 1 = cc in omega arith
-
-pub unequal : {r : Bool} → r ≡ true → r ≡ false → ⊥
-unequal e f = let z : _≡_ {A = ℕ} 0 1 = cc in omega arith
-
 -- a byte whose value passes a test that 0 fails is a digit
 shows : (ok : ℕ → Bool) → ok 0 ≡ false → (b : ℕ) → ok (valueOf b) ≡ true → isOf Digit b ≡ true
 shows ok z b h = go (isOf Digit b) refl

@@ -13,30 +13,23 @@ use Rattle.answer.specs.declared.Answer.{Answer}
 use Rattle.answer.specs.declared.Answer.the-variants.{Accepted, Refused}
 use Rattle.answer.specs.Refusals.{answerPlace}
 use Rattle.answer.specs.Orders.{_then_, ifAccepted}
-use Rattle.answer.proofs.Orders.{accepted-takes, require-place, then-place}
+use Rattle.answer.proofs.Orders.{accepted-takes, require-place, then-place, then-accepted}
 use Rattle.decimal.specs.declared.Class.the-variants.{Digit}
 use Rattle.decimal.specs.Bytes.{isOf}
 use Rattle.decimal.specs.Numbers.{digitsOf, widthAnswer}
 use Rattle.decimal.proofs.Bytes.{each-accepts}
 use Rattle.decimal.proofs.Numbers.{digits-fill}
 use Rattle.decimal.specs.Places.{putAt}
-use Rattle.decimal.proofs.Places.{put-whole}
+use Rattle.decimal.proofs.Places.{put-whole, copied-whole}
 use Rattle.layout.specs.declared.Kind.{Kind}
 use Rattle.layout.specs.declared.Kind.the-variants as kind
 use Rattle.kinds.specs.Kinds.{kindAnswer}
 use Rattle.kinds.proofs.KindLaws.{kind-place}
 use Rattle.fields.specs.Making.{writtenOf, isMoney, writtenAnswer}
 
--- bytes that are copied into as many
-pub copied : (src out : List ℕ) {l : List ℕ} → length src ≡ length out → l ≡ take (length src) src ++ drop (length src) out → l ≡ src
-copied src out n e =
-    let a : take (length src) src ≡ src = take-all (length src) src (omega arith) in
-    let b : drop (length src) out ≡ [] = rw n (drop-length out) in
-    e ∙ rw (a, b) (append-nil src)
-
 pub made-copied : (made out : List ℕ) {l x : List ℕ} {a : Answer} → length made ≡ length out → a ≡ Accepted → made ≡ x
     → l ≡ take (length made) made ++ drop (length made) out → l ≡ ifAccepted a x out
-made-copied made out n e f q = rw e (copied made out n q ∙ f)
+made-copied made out n e f q = rw e (copied-whole made out n q ∙ f)
 
 -- one blank more
 pub blank-step : (out : List ℕ) (i : ℕ) → i < length out → take i out ≡ replicate i 32 → take (i + 1) (set out i 32) ≡ replicate (i + 1) 32
@@ -82,14 +75,10 @@ digits-accepted : (w n : ℕ) → kindAnswer kind.Money (digitsOf w n) ≡ Accep
 unfolding kindAnswer
 digits-accepted w n = each-accepts (isOf Digit) NoDigit 1 (digitsOf w n) .1 (digits-fill w n .1)
 
-then-none : (a : Answer) → a then Accepted ≡ a
-then-none Accepted = refl
-then-none (Refused why p) = refl
-
 module _ (k : Kind) (w : ℕ) (given : List ℕ) (n : ℕ) where
   pub put-money : {r : Answer} → isMoney k ≡ true → r ≡ widthAnswer w n → r ≡ writtenAnswer k w given n
   unfolding writtenAnswer
-  put-money e q = rw (money-is k e, digits-accepted w n, then-none (widthAnswer w n)) q
+  put-money e q = rw (money-is k e, digits-accepted w n, then-accepted (widthAnswer w n)) q
 
   pub put-money-bytes : (r : Answer) (old : List ℕ) {new : List ℕ} → isMoney k ≡ true → length old ≡ w → new ≡ ifAccepted r (putAt 0 (digitsOf w n) old) old → r ≡ Accepted
       → new ≡ writtenOf k w given n

@@ -7,6 +7,8 @@ use mathlib.Core.Path.{_≡_, refl, ap, _∙_}
 use native.Mathlib.Omega.{arith}
 use lib.ListN.{length, getD, take, drop, length-drop}
 use lib.Seq.{length-take-le}
+use Rattle.decimal.proofs.Places.{all-inner, all-side-by-side}
+use Rattle.answer.proofs.Tests.{unequal}
 use Rattle.answer.specs.declared.Reason.{Reason}
 use Rattle.answer.specs.declared.Answer.{Answer}
 use Rattle.answer.specs.declared.Answer.the-variants.{Accepted, Refused}
@@ -26,7 +28,6 @@ use Rattle.barcode.specs.declared.MaybeIssuer.the-variants.{NoIssuer}
 use Rattle.barcode.specs.declared.Decoded.the-variants as read
 use Rattle.barcode.specs.Codes as codes
 use Rattle.barcode.specs.Codes.{barcodeAnswer, issuerOf, acceptedIssuer, fieldsOf}
-use Rattle.barcode.proofs.OnePass.{unequal}
 use Rattle.layout.specs.declared.MaybeRecord.{MaybeRecord}
 use Rattle.layout.specs.declared.MaybeRecord.the-variants.{Is, Other}
 use Rattle.layout.specs.declared.Record.the-variants.{Header, Payment, Trailer}
@@ -43,7 +44,7 @@ use Rattle.record.specs.Values.{recordShown, shownUnlessRefused, decoded
 use Rattle.record.proofs.Shown.{accepted-is, right-fields-are-accepted}
 use Rattle.record.proofs.FieldBytes.{places-length}
 use Rattle.record.proofs.KindRules.{text, money, digits, blank, capture, form, code, date, captured, mark}
-use Rattle.record.proofs.FastPath.{inner, named-payment, joined, one-byte}
+use Rattle.record.proofs.FastPath.{named-payment, one-byte}
 
 infixr 20 _and_
 _and_ : {A B : Type 0} → A → B → A × B
@@ -91,12 +92,12 @@ module _ (rec : List ℕ) where
         and date _ .1 (d .0)
         and date _ .1 (d .1)
         and code _ .1 (right .3)
-        and money _ .1 (inner (isOf Digit) rec 81 27 0 12 (omega arith) (p .2))
-        and money _ .1 (inner (isOf Digit) rec 81 27 12 7 (omega arith) (p .2))
-        and digits _ .1 (inner (isOf Digit) rec 81 27 19 8 (omega arith) (p .2))
-        and text _ .1 (inner (isOf Text) rec 108 32 0 8 (omega arith) (p .1))
+        and money _ .1 (all-inner (isOf Digit) rec 81 27 0 12 (omega arith) (p .2))
+        and money _ .1 (all-inner (isOf Digit) rec 81 27 12 7 (omega arith) (p .2))
+        and digits _ .1 (all-inner (isOf Digit) rec 81 27 19 8 (omega arith) (p .2))
+        and text _ .1 (all-inner (isOf Text) rec 108 32 0 8 (omega arith) (p .1))
         and capture _ .1 (c .0)
-        and text _ .1 (inner (isOf Text) rec 108 32 9 23 (omega arith) (p .1))
+        and text _ .1 (all-inner (isOf Text) rec 108 32 9 23 (omega arith) (p .1))
         and form _ .1 (c .1)
         and blank _ .1 (p .3)
         and tt)
@@ -118,8 +119,8 @@ module _ (rec : List ℕ) where
         let form = form _ .0 (each .1 .1 .1 .1 .1 .1 .1 .1 .1 .1 .1 .0) in
         let rest = blank _ .0 (each .1 .1 .1 .1 .1 .1 .1 .1 .1 .1 .1 .1 .0) in
         let between = one-byte (take 1 (drop 116 rec)) (places-length rec n 117 117 (omega arith)) (captured _ taken) in
-        let texts = joined (isOf Text) rec 108 9 23 (joined (isOf Text) rec 108 8 1 branch between) authentication in
-        let numbers = joined (isOf Digit) rec 81 19 8 (joined (isOf Digit) rec 81 12 7 received tariff) number in
+        let texts = all-side-by-side (isOf Text) rec 108 9 23 (all-side-by-side (isOf Text) rec 108 8 1 branch between) authentication in
+        let numbers = all-side-by-side (isOf Digit) rec 81 19 8 (all-side-by-side (isOf Digit) rec 81 12 7 received tariff) number in
         (plain .1 (account, texts, numbers, rest), coded .1 (taken, form), dated .1 (paid, credited), code)
 
 -- An accepted payment, or anything else.
@@ -187,7 +188,7 @@ module _ (rec : List ℕ) (n : length rec ≡ recordLength) where
     low : (j m : ℕ) → j + m ≤ 27 → m ≤ 19 → {c : ℕ} → c ≡ lowNumberOf (take m (drop (81 + j) rec)) → c ≡ numberOf (take m (drop (81 + j) rec))
     low j m h w e =
         let l : length (take m (drop (81 + j) rec)) ≡ m = length-take-le m (drop (81 + j) rec) (omega (arith, length-drop (81 + j) rec)) in
-        e ∙ low-of-digits (take m (drop (81 + j) rec)) (inner (isOf Digit) rec 81 27 j m (omega arith) (plain rec .0 (looked .1) .2)) (omega arith)
+        e ∙ low-of-digits (take m (drop (81 + j) rec)) (all-inner (isOf Digit) rec 81 27 j m (omega arith) (plain rec .0 (looked .1) .2)) (omega arith)
 
     pub pays-it : {i : Issuer} {c : ℕ} → i ≡ issuerOf (fieldBytes (rowAt barcodeRow) rec) → c ≡ lowNumberOf (fieldBytes (rowAt receivedRow) rec) → To i c ≡ paymentDueOf (decodedRecord rec)
     unfolding rowAt table layoutOf

@@ -105,17 +105,6 @@ module _ (rec : List ℕ) where
   unfolding isCoded
   form-is e f g = rw (sym e ∙ f, g)
 
--- a part of a part
-pub inner : (ok : ℕ → Bool) (rec : List ℕ) (k n j m : ℕ) → j + m ≤ n → all ok (take n (drop k rec)) ≡ true → all ok (take m (drop (k + j) rec)) ≡ true
-inner ok rec k n j m h t =
-    let xs = drop k rec in
-    let s : j + (n - j) ≡ n = omega arith in
-    let split : take n xs ≡ take j xs ++ take (n - j) (drop j xs) = ap (λ (c : ℕ). take c xs) (sym s) ∙ take-add j (n - j) xs in
-    let both =
-    and-eq-true-iff (all ok (take j xs)) (all ok (take (n - j) (drop j xs))) .0 (sym (all-joins ok (take j xs) (take (n - j) (drop j xs))) ∙ ap (all ok) (sym split) ∙ t) in
-    let right : all ok (take (n - j) (drop (k + j) rec)) ≡ true = rw (drop-drop j k rec) at (both .1) in
-    ap (all ok) (sym (take-take m (n - j) (drop (k + j) rec) (omega arith))) ∙ all-of-part ok 0 m (take (n - j) (drop (k + j) rec)) right
-
 pub named-payment : (b : ℕ) → namedBy b ≡ Is Payment → b ≡ 71
 unfolding namedBy
 named-payment b e = go (eqb b 65) (eqb b 71) (eqb b 90) refl e
@@ -125,11 +114,6 @@ named-payment b e = go (eqb b 65) (eqb b 71) (eqb b 90) refl e
     go false true v f q = eqb-true b 71 f
     go false false true f q = let z : _≡_ {A = ℕ} 0 1 = cc in absurd (omega arith)
     go false false false f q = let z : _≡_ {A = ℕ} 0 1 = cc in absurd (omega arith)
-
--- neighbouring parts
-pub joined : (ok : ℕ → Bool) (rec : List ℕ) (k i j : ℕ) → all ok (take i (drop k rec)) ≡ true → all ok (take j (drop (k + i) rec)) ≡ true
-    → all ok (take (i + j) (drop k rec)) ≡ true
-joined ok rec k i j t u = row-passes ok (drop k rec) i j refl (rw (drop-drop i k rec) u) t
 
 pub one-byte : (bs : List ℕ) → length bs ≡ 1 → isOf Text (getD bs 0 0) ≡ true → all (isOf Text) bs ≡ true
 one-byte [] n t = absurd (omega arith)

@@ -11,7 +11,7 @@ use Rattle.answer.specs.declared.Reason.the-variants.{WrongLength}
 use Rattle.answer.specs.declared.Answer.{Answer}
 use Rattle.answer.specs.declared.Answer.the-variants.{Accepted, Refused}
 use Rattle.answer.specs.Orders.{require, Each, behind}
-use Rattle.answer.proofs.Orders.{not-both, require-accepts, then-accepts, first-accepts, moved-accepts}
+use Rattle.answer.proofs.Orders.{not-both, require-accepts, then-accepts, first-accepts, moved-accepts, each-map}
 use Rattle.decimal.specs.LowHalves.{lowNumberOf}
 use Rattle.answer.proofs.Tests.{never}
 use Rattle.calendar.specs.declared.Date.{Date}
@@ -75,16 +75,12 @@ field-accepts : (rec : List ℕ) (f : Field) → (fieldAnswer rec f ≡ Accepted
 unfolding fieldAnswer
 field-accepts rec f = moved-accepts (behind (f .first - 1)) (kindAnswer (f .kind) (fieldBytes f rec))
 
-each-of : {P Q : Field → Type 0} → ((f : Field) → P f → Q f) → (fs : List Field) → Each P fs → Each Q fs
-each-of h [] e = tt
-each-of h (f ∷ fs) e = (h f (e .0), each-of h fs (e .1))
-
 pub layout-accepts : (r : Record) (rec : List ℕ)
     → (layoutAnswer r rec ≡ Accepted) ↔ Each (λ (f : Field). kindAnswer (f .kind) (fieldBytes f rec) ≡ Accepted) (layoutOf r)
 layout-accepts r rec =
     let each = first-accepts (fieldAnswer rec) (layoutOf r) in (
-      λ a. each-of (λ f. field-accepts rec f .0) (layoutOf r) (each .0 a),
-      λ fs. each .1 (each-of (λ f. field-accepts rec f .1) (layoutOf r) fs),
+      λ a. each-map (λ f. field-accepts rec f .0) (layoutOf r) (each .0 a),
+      λ fs. each .1 (each-map (λ f. field-accepts rec f .1) (layoutOf r) fs),
     )
 
 pub right-fields-are-accepted : RightFieldsAreAccepted

@@ -1,8 +1,9 @@
 -- `barcode::accepted_issuer` meets its contract. Assumes nothing.
 use borrow.Author.Needs.{needs}
 use borrow.Author.Tests.{not-true, not-false}
+use Rattle.answer.proofs.Tests.{unequal}
 use Rattle.barcode.proofs.Codes.{good}
-use Rattle.barcode.proofs.OnePass.{unequal, is-issuer, no-issuer}
+use Rattle.barcode.proofs.OnePass.{is-issuer, no-issuer}
 use Rattle.barcode.proofs.accepted_issuer.Statement.{statement}
 use Rattle.barcode.proofs.accepted_issuer.Tie as tie
 

@@ -1,7 +1,7 @@
 -- `barcode::check` meets its contract. Assumes nothing.
 use mathlib.Core.Path.{sym}
 use borrow.Author.Needs.{needs}
-use Rattle.barcode.proofs.OnePass.{unequal}
+use Rattle.answer.proofs.Tests.{unequal}
 use Rattle.barcode.proofs.check.Statement.{statement}
 use Rattle.barcode.proofs.check.Tie as tie
 

@@ -1,7 +1,7 @@
 -- `barcode::decode` meets its contract. Assumes nothing.
 use borrow.Author.Needs.{needs}
+use Rattle.answer.proofs.Tests.{unequal}
 use Rattle.barcode.proofs.Codes.{good, as-refused, as-read}
-use Rattle.barcode.proofs.OnePass.{unequal}
 use Rattle.barcode.proofs.decode.Statement.{statement}
 use Rattle.barcode.proofs.decode.Tie as tie
 

@@ -1,8 +1,8 @@
 -- `barcode::free_field` meets its contract. Assumes nothing.
 use borrow.Author.Needs.{needs}
 use borrow.Author.Tests.{not-true, not-false}
+use Rattle.answer.proofs.Tests.{unequal}
 use Rattle.barcode.proofs.Codes.{accepted-length, no-free, as-free}
-use Rattle.barcode.proofs.OnePass.{unequal}
 use Rattle.barcode.proofs.free_field.Statement.{statement}
 use Rattle.barcode.proofs.free_field.Tie as tie
 

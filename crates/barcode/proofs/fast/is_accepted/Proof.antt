@@ -2,10 +2,11 @@
 use mathlib.Core.Path.{sym, ap, _∙_}
 use borrow.Author.Needs.{needs}
 use lib.ListN.{take, drop}
+use Rattle.answer.proofs.Orders.{not-both}
 use Rattle.modulus.proofs.Columns.{sums-tell}
 use Rattle.barcode.specs.Codes.{modulusOf}
 use Rattle.barcode.proofs.Codes.{good}
-use Rattle.barcode.proofs.OnePass.{never, not-accepted, has-sums, as-right}
+use Rattle.barcode.proofs.OnePass.{not-accepted, has-sums, as-right}
 use Rattle.barcode.proofs.fast.is_accepted.Statement.{statement}
 use Rattle.barcode.proofs.fast.is_accepted.Tie as tie
 
@@ -28,7 +29,7 @@ returns-2 c =
     let three = c .before .before in
     let code = three .before .before .before .args .code .now in
     let refused = sym (three .check-first-three .ensures) ∙ c .enum-told2 .given .1 in
-    not-accepted code (λ e. never refused (good code e .first-three))
+    not-accepted code (λ e. not-both _ refused (good code e .first-three))
 
 sub-sums-of-forty : tie.Need-sub-sums-of-forty
 sub-sums-of-forty c = search needs

@@ -1,6 +1,6 @@
 -- `fields::given::copy_all` meets its contract. Assumes nothing.
 use borrow.Author.Needs.{needs}
-use Rattle.fields.proofs.Writes.{copied}
+use Rattle.decimal.proofs.Places.{copied-whole}
 use Rattle.fields.proofs.given.copy_all.Statement.{statement}
 use Rattle.fields.proofs.given.copy_all.Tie as tie
 
@@ -13,7 +13,7 @@ same-length c = search needs
 returns : tie.Need-returns
 returns c =
     let start = c .before .before .before .before .before .before in
-    copied (start .args .src .now) (start .args .out .now) (start .pre) (c .before .before .copy .ensures .1)
+    copied-whole (start .args .src .now) (start .args .out .now) (start .pre) (c .before .before .copy .ensures .1)
 
 pub copy-all-spec : {M : Type 1} → statement M
 copy-all-spec = tie.close (tie.spec copy-requires same-length returns)
