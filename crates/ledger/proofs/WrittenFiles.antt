@@ -29,7 +29,7 @@ use Rattle.session.specs.Sessions.{closedAt}
 use Rattle.ledger.specs.Promises.{answersOf}
 use Rattle.ledger.specs.Ledgers.{receivedIn, lanesOfRecords}
 use Rattle.ledger.specs.WholeFiles.{IsRight, Whole, fileOf, receivedEach, TrueFigures, AllAccepted}
-use Rattle.ledger.specs.WrittenFiles.{Given, recordOf, writtenRecords, writerAfterPayments, PaymentsWritten, openedBy, Closed, trailerAfter, givenBy, ClosedFileIsWhole, ClosedFileIsAccepted, ClosedFileBytesRun, FieldsWriteTheFile}
+use Rattle.ledger.specs.WrittenFiles.{GivenPayment, recordOf, writtenRecords, writerAfterPayments, PaymentsWritten, openedBy, Closed, trailerAfter, givenBy, ClosedFileIsWhole, ClosedFileIsAccepted, ClosedFileBytesRun, FieldsWriteTheFile}
 use Rattle.ledger.proofs.WholeFiles.{received-each, file-accepted, fresh-session-accepts, fresh-session-shows}
 use Rattle.ledger.proofs.FileBytes.{file-bytes-run}
 
@@ -43,12 +43,12 @@ right r given amounts e =
     (written-is-accepted r given amounts recordLength e .0, ap namedBy (first-byte r given amounts) ∙ mark-names r .0)
 
 -- payments that were written to an open file
-record AllWritten (f : File) (gs : List Given) : Type 0 where
+record AllWritten (f : File) (gs : List GivenPayment) : Type 0 where
   each : Each (IsRight Payment) (writtenRecords gs)
   fits : fileAnswers f (receivedEach (writtenRecords gs)) ≡ Accepted
   leaves : writerAfterPayments (opened f) gs ≡ opened (fileWithAll f (receivedEach (writtenRecords gs)))
 
-write-all : (f : File) (gs : List Given) → PaymentsWritten (opened f) gs → AllWritten f gs
+write-all : (f : File) (gs : List GivenPayment) → PaymentsWritten (opened f) gs → AllWritten f gs
 write-all f [] p = record { each = tt; fits = refl; leaves = refl }
 write-all f (g ∷ gs) p =
     let amounts = g .received ∷ g .tariff ∷ [] in
@@ -85,7 +85,7 @@ holds-all recs =
     fresh-file-holds (receivedEach recs) ∙ ap (λ (n : ℕ). record { taken = length (receivedEach recs); total = n }) (received-each recs)
     ∙ ap (λ (n : ℕ). record { taken = n; total = receivedIn recs }) (counted recs)
 
-module _ (header : List ℕ) (gs : List Given) (c : Closed header gs) where
+module _ (header : List ℕ) (gs : List GivenPayment) (c : Closed header gs) where
   opens : openedBy header ≡ opened freshFile
   opens = accepted-takes (headerAnswer freshWriter header recordLength) (opened freshFile) freshWriter (c .opens)
 
@@ -186,7 +186,7 @@ module _ (b : Board) (a : List ℕ) (recs : List (List ℕ)) (z : List ℕ) (w :
   abbrev header : List ℕ
   header = joinedOf Header a
 
-  abbrev gs : List Given
+  abbrev gs : List GivenPayment
   gs = map givenBy recs
 
   accepted : (fileAnswers freshFile (receivedEach recs) ≡ Accepted) × (postAnswers b (lanesOfRecords recs) ≡ Accepted)

@@ -21,24 +21,24 @@ use Rattle.ledger.specs.WholeFiles.{Whole, fileOf, TrueFigures, AllAccep
 use Rattle.ledger.specs.Runs.{recordsOf, bytesOf}
 
 -- a payment as the writer is given it, and the record that it writes
-pub record Given : Type 0 where
+pub record GivenPayment : Type 0 where
   pub fields : List ℕ
   pub received : ℕ
   pub tariff : ℕ
 
-abbrev pub recordOf : Given → List ℕ
+abbrev pub recordOf : GivenPayment → List ℕ
 recordOf g = paymentBytes (g .fields) (g .received) (g .tariff)
 
-abbrev pub writtenRecords : List Given → List (List ℕ)
+abbrev pub writtenRecords : List GivenPayment → List (List ℕ)
 writtenRecords gs = map recordOf gs
 
 -- payments written one after the other: the writer that follows, and that each is accepted
-abbrev pub writerAfterPayments : Writer → List Given → Writer
+abbrev pub writerAfterPayments : Writer → List GivenPayment → Writer
 writerAfterPayments w [] = w
 writerAfterPayments w (g ∷ gs) =
     writerAfterPayments (paymentWritten w (g .fields) (g .received) (g .tariff) recordLength .writer) gs
 
-abbrev pub PaymentsWritten : Writer → List Given → Type 0
+abbrev pub PaymentsWritten : Writer → List GivenPayment → Type 0
 PaymentsWritten w [] = Unit {0}
 PaymentsWritten w (g ∷ gs) =
     (paymentAnswer w (g .fields) (g .received) (g .tariff) recordLength ≡ Accepted)
@@ -48,22 +48,22 @@ abbrev pub openedBy : List ℕ → Writer
 openedBy header = headerWritten freshWriter header recordLength .writer
 
 -- a fresh writer accepted a header, payments and its trailer
-pub record Closed (header : List ℕ) (gs : List Given) : Type 0 where
+pub record Closed (header : List ℕ) (gs : List GivenPayment) : Type 0 where
   pub opens : headerAnswer freshWriter header recordLength ≡ Accepted
   pub pays : PaymentsWritten (openedBy header) gs
   pub closes : trailerAnswer (writerAfterPayments (openedBy header) gs) recordLength ≡ Accepted
 
-abbrev pub trailerAfter : List ℕ → List Given → List ℕ
+abbrev pub trailerAfter : List ℕ → List GivenPayment → List ℕ
 trailerAfter header gs = trailerBytes (writerAfterPayments (openedBy header) gs)
 
-abbrev pub writtenFile : List ℕ → List Given → List Step
+abbrev pub writtenFile : List ℕ → List GivenPayment → List Step
 writtenFile header gs = fileOf (headerBytes header) (writtenRecords gs) (trailerAfter header gs)
 
-abbrev pub writtenBytes : List ℕ → List Given → List ℕ
+abbrev pub writtenBytes : List ℕ → List GivenPayment → List ℕ
 writtenBytes header gs = bytesOf (recordsOf (headerBytes header) (writtenRecords gs) (trailerAfter header gs))
 
 -- what the writer is given for a payment record: its fields, joined, and its two amounts
-abbrev pub givenBy : List ℕ → Given
+abbrev pub givenBy : List ℕ → GivenPayment
 givenBy rec =
     record {
       fields = joinedOf Payment rec;
@@ -72,7 +72,7 @@ givenBy rec =
     }
 
 -- its payments name at most 64 issuers
-abbrev pub FewIssuers : List Given → Type 0
+abbrev pub FewIssuers : List GivenPayment → Type 0
 FewIssuers gs = length (lanesFrom (lanesOfRecords (writtenRecords gs))) ≤ mostLanes
 
 -- Promises.
@@ -80,14 +80,14 @@ FewIssuers gs = length (lanesFrom (lanesOfRecords (writtenRecords gs))) ≤ most
 -- it is one A, its Gs and one Z, each accepted by itself, with the true count and total
 abbrev pub ClosedFileIsWhole : Type 0
 ClosedFileIsWhole =
-    (header : List ℕ) (gs : List Given) → Closed header gs
+    (header : List ℕ) (gs : List GivenPayment) → Closed header gs
     → Whole (headerBytes header) (writtenRecords gs) (trailerAfter header gs)
     × TrueFigures (writtenRecords gs) (trailerAfter header gs)
 
 -- a fresh session accepts it, unless it names over 64 issuers, and then shows its payments
 abbrev pub ClosedFileIsAccepted : Type 0
 ClosedFileIsAccepted =
-    (header : List ℕ) (gs : List Given)
+    (header : List ℕ) (gs : List GivenPayment)
     → Closed header gs → FewIssuers gs
     → AllAccepted (answersOf freshSession (writtenFile header gs))
     × (shownLanes (writtenFile header gs) ≡ lanesFrom (lanesOfRecords (writtenRecords gs)))
@@ -95,7 +95,7 @@ ClosedFileIsAccepted =
 -- and so is a run over its bytes: it takes all its records, and one file
 abbrev pub ClosedFileBytesRun : Type 0
 ClosedFileBytesRun =
-    (header : List ℕ) (gs : List Given)
+    (header : List ℕ) (gs : List GivenPayment)
     → Closed header gs → FewIssuers gs
     → let r = runOf freshSession (writtenBytes header gs) in
     (r .answer ≡ Accepted) × (r .records ≡ length gs + 2) × (r .files ≡ 1)

@@ -27,9 +27,9 @@ use Rattle.ledger.specs.Ledgers.{Step, taking}
 use Rattle.ledger.specs.Promises.{answersOf}
 use Rattle.ledger.specs.WholeFiles.{AllAccepted}
 use Rattle.ledger.specs.WrittenFiles as files
-use Rattle.ledger.specs.WrittenFiles.{Given, recordOf, writtenRecords, PaymentsWritten, openedBy, Closed, trailerAfter}
+use Rattle.ledger.specs.WrittenFiles.{GivenPayment, recordOf, writtenRecords, PaymentsWritten, openedBy, Closed, trailerAfter}
 use Rattle.ledger.proofs.WrittenFiles.{closed-file-is-accepted}
-use Rattle.promises.specs.Calls.{Call, header, payment, trailer, answerTo, nextWriter, writes, writerAfterCalls}
+use Rattle.promises.specs.Calls.{WriterCall, header, payment, trailer, answerTo, nextWriter, writes, writerAfterCalls}
 use Rattle.promises.specs.Calls.{recordsWritten, OneFile, CallsMakeOneFile}
 
 -- An accepted call was expected, and its buffer has a record's length.
@@ -37,12 +37,12 @@ use Rattle.promises.specs.Calls.{recordsWritten, OneFile, CallsMakeOneFi
 abbrev stageOf : Writer → Stage
 stageOf w = w .stage
 
-abbrev kindOf : Call → Record
+abbrev kindOf : WriterCall → Record
 kindOf (header given size) = Header
 kindOf (payment g size) = Payment
 kindOf (trailer size) = Trailer
 
-abbrev sizeOf : Call → ℕ
+abbrev sizeOf : WriterCall → ℕ
 sizeOf (header given size) = size
 sizeOf (payment g size) = size
 sizeOf (trailer size) = size
@@ -58,7 +58,7 @@ through w r given size rest e =
     (call-size w r given size called, require-accepts (writerExpects (w .stage) r) NotExpected 1 .0 expected)
 
 expected :
-    (w : Writer) (call : Call) → answerTo w call ≡ Accepted
+    (w : Writer) (call : WriterCall) → answerTo w call ≡ Accepted
     → (sizeOf call ≡ recordLength) × (writerExpects (w .stage) (kindOf call) ≡ true)
 expected w (header given size) e = through w Header (length given) size (makeAnswer Header given (0 ∷ 0 ∷ []) size) e
 expected w (payment g size) e =
@@ -74,7 +74,7 @@ never f = let z : _≡_ {A = ℕ} 0 1 = cc in omega arith
 -- A payment more at the end of those written.
 
 pays-more :
-    (w : Writer) (gs : List Given) (g : Given) → PaymentsWritten w gs
+    (w : Writer) (gs : List GivenPayment) (g : GivenPayment) → PaymentsWritten w gs
     → paymentAnswer (files.writerAfterPayments w gs) (g .fields) (g .received) (g .tariff) recordLength ≡ Accepted
     → PaymentsWritten w (gs ++ (g ∷ []))
 pays-more w [] g p e = (e, tt)
@@ -83,7 +83,7 @@ pays-more w (h ∷ gs) g p e =
     (p .0, pays-more next gs g (p .1) e)
 
 after-more :
-    (w : Writer) (gs : List Given) (g : Given)
+    (w : Writer) (gs : List GivenPayment) (g : GivenPayment)
     → let last = files.writerAfterPayments w gs in
     files.writerAfterPayments w (gs ++ (g ∷ []))
     ≡ paymentWritten last (g .fields) (g .received) (g .tariff) recordLength .writer
@@ -95,28 +95,28 @@ after-more w (h ∷ gs) g = after-more (paymentWritten w (h .fields) (h .receive
 data State (w : Writer) (recs : List (List ℕ)) : Type 0 where
   fresh : w ≡ freshWriter → recs ≡ [] → State w recs
   writing :
-      (h : List ℕ) (gs : List Given) → w .stage ≡ stage.Open → headerAnswer freshWriter h recordLength ≡ Accepted
+      (h : List ℕ) (gs : List GivenPayment) → w .stage ≡ stage.Open → headerAnswer freshWriter h recordLength ≡ Accepted
       → PaymentsWritten (openedBy h) gs → w ≡ files.writerAfterPayments (openedBy h) gs
       → recs ≡ headerBytes h ∷ writtenRecords gs → State w recs
   ended :
-      (h : List ℕ) (gs : List Given) → w .stage ≡ stage.Closed → Closed h gs
+      (h : List ℕ) (gs : List GivenPayment) → w .stage ≡ stage.Closed → Closed h gs
       → recs ≡ headerBytes h ∷ (writtenRecords gs ++ (trailerAfter h gs ∷ [])) → State w recs
 
-abbrev next : Writer → Call → Writer
+abbrev next : Writer → WriterCall → Writer
 next w (header given size) = record { stage = stage.Open; file = freshFile }
 next w (payment g size) = record { stage = w .stage; file = fileWith (w .file) (g .received) }
 next w (trailer size) = record { stage = stage.Closed; file = w .file }
 
 -- a call that is not expected is not accepted
 astray :
-    {w : Writer} {recs : List (List ℕ)} (s : Stage) (v : Writer) (call : Call) → v .stage ≡ s
+    {w : Writer} {recs : List (List ℕ)} (s : Stage) (v : Writer) (call : WriterCall) → v .stage ≡ s
     → writerExpects s (kindOf call) ≡ false → answerTo v call ≡ Accepted → State w recs
 astray s v call p f e =
     let same = ap (λ (t : Stage). writerExpects t (kindOf call)) (sym p) in
     absurd (never (sym f ∙ same ∙ expected v call e .1))
 
 moves :
-    (w : Writer) (recs : List (List ℕ)) (call : Call) → State w recs → answerTo w call ≡ Accepted
+    (w : Writer) (recs : List (List ℕ)) (call : WriterCall) → State w recs → answerTo w call ≡ Accepted
     → State (next w call) (recs ++ (writes w call ∷ []))
 moves w recs (header given size) (fresh p q) e =
     let d = expected w (header given size) e .0 in
@@ -154,19 +154,19 @@ moves w recs (payment g size) (ended h gs o c q) e = astray stage.Closed w (paym
 moves w recs (trailer size) (ended h gs o c q) e = astray stage.Closed w (trailer size) o refl e
 
 -- a refused call changes nothing
-left : (w : Writer) (call : Call) → nextWriter w call ≡ ifAccepted (answerTo w call) (next w call) w
+left : (w : Writer) (call : WriterCall) → nextWriter w call ≡ ifAccepted (answerTo w call) (next w call) w
 left w (header given size) = refl
 left w (payment g size) = refl
 left w (trailer size) = refl
 
 answered :
-    (w : Writer) (recs : List (List ℕ)) (call : Call) (a : Answer) → answerTo w call ≡ a → State w recs
+    (w : Writer) (recs : List (List ℕ)) (call : WriterCall) (a : Answer) → answerTo w call ≡ a → State w recs
     → State (ifAccepted a (next w call) w) (recs ++ ifAccepted a (writes w call ∷ []) [])
 answered w recs call Accepted e s = moves w recs call s e
 answered w recs call (Refused why place) e s = subst (State w) (sym (append-nil recs)) s
 
 reached :
-    (w : Writer) (recs : List (List ℕ)) (calls : List Call) → State w recs
+    (w : Writer) (recs : List (List ℕ)) (calls : List WriterCall) → State w recs
     → State (writerAfterCalls w calls) (recs ++ recordsWritten w calls)
 reached w recs [] s = subst (State w) (sym (append-nil recs)) s
 reached w recs (call ∷ calls) s =
@@ -183,7 +183,7 @@ unlike : (r : Record) (s t : Stage) → t ≡ stage.Closed → t ≡ s → write
 unlike r s t p q e = never (sym (ap (λ (x : Stage). writerExpects x r) p) ∙ ap (λ (x : Stage). writerExpects x r) q ∙ e)
 
 one-file :
-    (calls : List Call) (w : Writer) → w .stage ≡ stage.Closed → State w (recordsWritten freshWriter calls)
+    (calls : List WriterCall) (w : Writer) → w .stage ≡ stage.Closed → State w (recordsWritten freshWriter calls)
     → OneFile calls
 one-file calls w p (fresh q r) = absurd (unlike Header stage.Fresh (w .stage) p (ap stageOf q) refl)
 one-file calls w p (writing h gs o a q l r) = absurd (unlike Trailer stage.Open (w .stage) p o refl)

@@ -15,45 +15,45 @@ use Rattle.writer.specs.Writers.{trailerAnswer, trailerWritten, trailerBytes}
 use Rattle.ledger.specs.Ledgers.{taking, lanesOfRecords}
 use Rattle.ledger.specs.Promises.{answersOf}
 use Rattle.ledger.specs.WholeFiles.{AllAccepted}
-use Rattle.ledger.specs.WrittenFiles.{Given, recordOf, writtenRecords, Closed, trailerAfter}
+use Rattle.ledger.specs.WrittenFiles.{GivenPayment, recordOf, writtenRecords, Closed, trailerAfter}
 
 -- a call, with its arguments and the length of the caller's buffer for its record
-pub data Call : Type 0 where
-  header : List ℕ → ℕ → Call
-  payment : Given → ℕ → Call
-  trailer : ℕ → Call
+pub data WriterCall : Type 0 where
+  header : List ℕ → ℕ → WriterCall
+  payment : GivenPayment → ℕ → WriterCall
+  trailer : ℕ → WriterCall
 
 -- its answer, the writer after it, and the record that it writes if it is accepted
-abbrev pub answerTo : Writer → Call → Answer
+abbrev pub answerTo : Writer → WriterCall → Answer
 answerTo w (header given size) = headerAnswer w given size
 answerTo w (payment g size) = paymentAnswer w (g .fields) (g .received) (g .tariff) size
 answerTo w (trailer size) = trailerAnswer w size
 
-abbrev pub nextWriter : Writer → Call → Writer
+abbrev pub nextWriter : Writer → WriterCall → Writer
 nextWriter w (header given size) = headerWritten w given size .writer
 nextWriter w (payment g size) = paymentWritten w (g .fields) (g .received) (g .tariff) size .writer
 nextWriter w (trailer size) = trailerWritten w size .writer
 
-abbrev pub writes : Writer → Call → List ℕ
+abbrev pub writes : Writer → WriterCall → List ℕ
 writes w (header given size) = headerBytes given
 writes w (payment g size) = recordOf g
 writes w (trailer size) = trailerBytes w
 
 -- calls one after the other: the writer after them, and the records that they wrote
-abbrev pub writerAfterCalls : Writer → List Call → Writer
+abbrev pub writerAfterCalls : Writer → List WriterCall → Writer
 writerAfterCalls w [] = w
 writerAfterCalls w (call ∷ calls) = writerAfterCalls (nextWriter w call) calls
 
-abbrev pub recordsWritten : Writer → List Call → List (List ℕ)
+abbrev pub recordsWritten : Writer → List WriterCall → List (List ℕ)
 recordsWritten w [] = []
 recordsWritten w (call ∷ calls) =
     ifAccepted (answerTo w call) (writes w call ∷ []) [] ++ recordsWritten (nextWriter w call) calls
 
 -- the calls wrote one file, with a header, payments and the right trailer; a fresh session accepts it, unless it has
 -- more than 64 issuers
-pub record OneFile (calls : List Call) : Type 0 where
+pub record OneFile (calls : List WriterCall) : Type 0 where
   pub heading : List ℕ
-  pub payments : List Given
+  pub payments : List GivenPayment
   pub closed : Closed heading payments
   pub records :
       recordsWritten freshWriter calls
@@ -64,4 +64,4 @@ pub record OneFile (calls : List Call) : Type 0 where
 
 -- Promise: calls after which the writer is closed wrote one file.
 abbrev pub CallsMakeOneFile : Type 0
-CallsMakeOneFile = (calls : List Call) → writerAfterCalls freshWriter calls .stage ≡ stage.Closed → OneFile calls
+CallsMakeOneFile = (calls : List WriterCall) → writerAfterCalls freshWriter calls .stage ≡ stage.Closed → OneFile calls
