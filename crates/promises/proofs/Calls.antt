@@ -10,6 +10,7 @@ use Rattle.answer.specs.declared.Reason.the-variants.{WrongLength, NotExpected}
 use Rattle.answer.specs.declared.Answer.{Answer}
 use Rattle.answer.specs.declared.Answer.the-variants.{Accepted, Refused}
 use Rattle.answer.specs.Orders.{require, _then_, ifAccepted}
+use Rattle.answer.proofs.Tests.{never}
 use Rattle.answer.proofs.Orders.{require-accepts, then-accepts, accepted-takes}
 use Rattle.layout.specs.declared.Record.{Record}
 use Rattle.layout.specs.declared.Record.the-variants.{Header, Payment, Trailer}
@@ -67,9 +68,6 @@ expected w (payment g size) e =
 expected w (trailer size) e =
     let made = makeAnswer Trailer (countBytes w) (figuresOf (w .file) .total ∷ 0 ∷ []) size in
     through w Trailer (givenLength Trailer) size (closingAnswer (w .file) then made) e
-
-never : false ≡ true → ⊥
-never f = let z : _≡_ {A = ℕ} 0 1 = cc in omega arith
 
 -- A payment more at the end of those written.
 
