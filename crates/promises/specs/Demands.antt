@@ -35,6 +35,8 @@ use Rattle.ledger.specs.Calls.{CallsAgree, RepliesAreTheLedgers, CallsAreSteps}
 use Rattle.ledger.specs.WholeFiles.{LedgerFilesAreWhole}
 use Rattle.ledger.specs.WholeFiles.{FileAccepted, FilePosted, FreshSessionAccepts, FreshSessionShows}
 use Rattle.ledger.specs.WrittenFiles.{ClosedFileIsWhole, ClosedFileIsAccepted, ClosedFileBytesRun, FieldsWriteTheFile}
+use Rattle.day.specs.Inputs.{BuffersPrintOnePage}
+use Rattle.day.specs.Samples.{WorkedInput, OpenInput}
 use Rattle.promises.specs.Calls.{CallsMakeOneFile}
 use Rattle.promises.specs.OneOutcome.{OneOutcome}
 use Rattle.promises.specs.Refusals.{RefusalsChangeNothing}
@@ -110,9 +112,12 @@ pub record Demand3 : Type 0 where
   pub real : P5IsAnExchange × P9IsAChange × DirectionsMayDiffer × BordersHold
   pub beyond : SegmentTypoPasses × KindTypoPasses
 
--- All three, with the proved samples (SPEC.md, "Samples").
+-- All three, with the proved samples (SPEC.md, "Samples") and what the program prints (SPEC.md, "The program quadro").
 pub record Promised : Type 2 where
   pub first : Demand1
   pub second : Demand2
   pub third : Demand3
   pub p1ToP12 : Hold samples
+  -- `quadro` prints `pageOfInput` of the input's bytes, in whatever buffers they come; two inputs and their pages. That
+  -- the program runs the buffers that it reads in this way is `OverIsTheInputs`, in its own crate.
+  pub program : BuffersPrintOnePage × WorkedInput × OpenInput

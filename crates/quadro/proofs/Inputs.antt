@@ -1,10 +1,9 @@
 -- The buffers that were run are one input, and its page is printed. Assumes nothing.
-use Prim.Native.Nat.{ℕ, suc, _+_, _*_, _/_, _≤_, _%_}
-use mathlib.Core.Bool.{Bool, true, false}
-use mathlib.Core.List.{List, [], _∷_, _++_, append-assoc}
+use Prim.Native.Nat.{ℕ, _+_, _%_}
+use mathlib.Core.Bool.{true, false}
+use mathlib.Core.List.{List, [], _∷_, _++_}
 use mathlib.Core.Logic.{_⊎_, inl, inr}
 use mathlib.Core.Path.{_≡_, refl, sym, ap, _∙_}
-use native.Mathlib.Nat.{add-zero}
 use native.Mathlib.Omega.{arith}
 use lib.ListN.{length, take, length-append}
 use lib.Seq.{length-take-le}
@@ -12,24 +11,26 @@ use Rattle.answer.specs.declared.Answer.{Answer}
 use Rattle.answer.specs.declared.Answer.the-variants.{Accepted, Refused}
 use Rattle.answer.specs.Refusals.{answerNumber, answerPlace}
 use Rattle.answer.specs.Orders.{Each}
-use Rattle.answer.proofs.Orders.{not-both}
+use Rattle.answer.proofs.Orders.{accepted-takes}
 use Rattle.layout.specs.Layouts.{recordLength}
 use Rattle.session.specs.declared.RunResult.{RunResult}
 use Rattle.page.specs.declared.PrintResult.{PrintResult}
 use Rattle.page.specs.Pages.{pageOf, pageLength, printResultOf, bytesWith}
 use Rattle.page.proofs.Pages.{printed-holds}
+use Rattle.ledger.specs.Runs.{bytesOf}
+use Rattle.day.specs.Days.{freshDay, runBufferOf, endedOf}
+use Rattle.day.specs.Inputs.{pageOfDay, runUntilRefused}
+use Rattle.day.proofs.Inputs.{until-refused}
 use Rattle.quadro.specs.declared.BufferRead.{BufferRead}
 use Rattle.quadro.specs.declared.BufferRead.the-variants as buffer
 use Rattle.quadro.specs.declared.TurnEnd.{TurnEnd}
 use Rattle.quadro.specs.declared.TurnEnd.the-variants as turn
 use Rattle.quadro.specs.declared.TurnResult.{TurnResult}
-use Rattle.quadro.specs.Days.{freshDay, runBufferOf, endedOf, bufferLength, EndsBelow}
+use Rattle.quadro.specs.Buffers.{bufferLength, EndsBelow}
 use Rattle.quadro.specs.Turns.{hasMore, moreUnlessRefused, turnOf, turnWith, TurnOf}
-use Rattle.quadro.specs.Inputs.{pageOfDay, dayOfInput, joined, runBuffersOf, FullAndAccepted, mostBuffers}
+use Rattle.quadro.specs.Inputs.{runBuffersOf, FullAndAccepted, mostBuffers}
 use Rattle.quadro.specs.Inputs.{InputRun, DayOfInput, OverIsTheInputs}
-use Rattle.quadro.specs.Inputs.{onlyIfAccepted, runUntilRefused, BuffersPrintOnePage}
-use Rattle.quadro.proofs.Days.{ended-refused}
-use Rattle.quadro.proofs.Buffers.{buffers-are-one-run}
+use Rattle.quadro.proofs.Buffers.{ended-refused}
 
 abbrev answerOf : RunResult → Answer
 answerOf r = r .answer
@@ -40,43 +41,27 @@ endOf t = t .end
 abbrev dayOf : TurnResult → RunResult
 dayOf t = t .day
 
--- Full buffers, each accepted, are one run.
+-- Full buffers, each accepted, and any last one are one run.
 
-run-none : (day : RunResult) → day .answer ≡ Accepted → day ≡ runBufferOf day []
-run-none day e = rw (add-zero (day .records), add-zero (day .files), e)
-
-all-accepted :
-    (day : RunResult) (bs : List (List ℕ)) → day .answer ≡ Accepted → FullAndAccepted day bs
-    → runBuffersOf day bs .answer ≡ Accepted
-all-accepted day [] a f = a
-all-accepted day (b ∷ bs) a f = all-accepted (runBufferOf day b) bs (f .1) (f .2)
-
-all-joined :
-    (day : RunResult) (bs : List (List ℕ)) → day .answer ≡ Accepted → FullAndAccepted day bs
-    → runBuffersOf day bs ≡ runBufferOf day (joined bs)
-all-joined day [] a f = run-none day a
-all-joined day (b ∷ bs) a f =
-    all-joined (runBufferOf day b) bs (f .1) (f .2) ∙ buffers-are-one-run day 436 b (joined bs) (f .0) .0 (f .1)
-
-joined-whole :
+all-whole :
     (day : RunResult) (bs : List (List ℕ)) → FullAndAccepted day bs
-    → length (joined bs) ≡ (length bs * 436) * recordLength
-joined-whole day [] f = refl
-joined-whole day (b ∷ bs) f =
-    let l = length-append b (joined bs) in
-    let m = joined-whole (runBufferOf day b) bs (f .2) in
-    let k = f .0 in
-    omega arith
+    → Each (λ (b : List ℕ). length b % recordLength ≡ 0) bs
+all-whole day [] f = tt
+all-whole day (b ∷ bs) f = (omega (arith, f .0), all-whole (runBufferOf day b) bs (f .2))
 
--- the day after full buffers and any last one
+none-refused :
+    (day : RunResult) (bs : List (List ℕ)) (last : List ℕ) → FullAndAccepted day bs
+    → runUntilRefused day bs last ≡ runBufferOf (runBuffersOf day bs) last
+none-refused day [] last f = refl
+none-refused day (b ∷ bs) last f =
+    let ran = runBufferOf day b in
+    accepted-takes (ran .answer) (runUntilRefused ran bs last) ran (f .1) ∙ none-refused ran bs last (f .2)
+
 last-joined :
     (bs : List (List ℕ)) (last : List ℕ) → FullAndAccepted freshDay bs
-    → runBufferOf (runBuffersOf freshDay bs) last ≡ runBufferOf freshDay (joined bs ++ last)
+    → runBufferOf (runBuffersOf freshDay bs) last ≡ runBufferOf freshDay (bytesOf bs ++ last)
 last-joined bs last f =
-    let j = all-joined freshDay bs refl f in
-    let a = ap answerOf (sym j) ∙ all-accepted freshDay bs refl f in
-    ap (λ (d : RunResult). runBufferOf d last) j
-    ∙ buffers-are-one-run freshDay (length bs * 436) (joined bs) last (joined-whole freshDay bs f) .0 a
+    sym (none-refused freshDay bs last f) ∙ until-refused freshDay bs last (all-whole freshDay bs f)
 
 -- One more full buffer.
 
@@ -207,39 +192,6 @@ module _ (bytes : List ℕ) (t : TurnResult) (bs : List (List ℕ)) (f : FullAnd
 
 pub over-is-the-inputs : OverIsTheInputs
 over-is-the-inputs bytes t run o = over-last bytes t (run .buffers) (run .accepted) o (run .last)
-
--- Buffers of whole records, up to the first refusal.
-
-only-same : (a : Answer) (day : RunResult) → onlyIfAccepted a day day ≡ day
-only-same Accepted day = refl
-only-same (Refused why place) day = refl
-
-module _ (day : RunResult) (b rest : List ℕ) (whole : length b % recordLength ≡ 0) (next : RunResult)
-    (is : next ≡ runBufferOf (runBufferOf day b) rest) where
-  until-buffer :
-      (a : Answer) → runBufferOf day b .answer ≡ a
-      → onlyIfAccepted (runBufferOf day b .answer) (runBufferOf day b) next ≡ runBufferOf day (b ++ rest)
-  until-buffer Accepted e =
-      let only : onlyIfAccepted (runBufferOf day b .answer) (runBufferOf day b) next ≡ next = rw e in
-      only ∙ is ∙ buffers-are-one-run day (length b / recordLength) b rest (omega arith) .0 e
-  until-buffer (Refused why place) e =
-      let only : onlyIfAccepted (runBufferOf day b .answer) (runBufferOf day b) next ≡ runBufferOf day b = rw e in
-      let one = buffers-are-one-run day (length b / recordLength) b rest (omega arith) in
-      only ∙ sym (one .1 (λ (a : runBufferOf day b .answer ≡ Accepted). not-both (runBufferOf day b .answer) e a))
-
-until-refused :
-    (day : RunResult) (bs : List (List ℕ)) (last : List ℕ) → Each (λ (b : List ℕ). length b % recordLength ≡ 0) bs
-    → runUntilRefused day (bs ++ (last ∷ [])) ≡ runBufferOf day (joined bs ++ last)
-until-refused day [] last w = only-same (runBufferOf day last .answer) (runBufferOf day last)
-until-refused day (b ∷ bs) last w =
-    let on = until-refused (runBufferOf day b) bs last (w .1) in
-    let next = runUntilRefused (runBufferOf day b) (bs ++ (last ∷ [])) in
-    until-buffer day b (joined bs ++ last) (w .0) next on (runBufferOf day b .answer) refl
-    ∙ ap (runBufferOf day) (sym (append-assoc b (joined bs) last))
-
-pub buffers-print-one-page : BuffersPrintOnePage
-buffers-print-one-page buffers last w =
-    ap (λ (d : RunResult). pageOfDay (endedOf d)) (until-refused freshDay buffers last w)
 
 -- The page of a day, as it is put into a buffer.
 pub page-put :

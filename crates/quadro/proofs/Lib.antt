@@ -1,4 +1,2 @@
-pub mod Days
 pub mod Buffers
 pub mod Inputs
-pub mod Samples

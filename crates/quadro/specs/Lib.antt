@@ -1,4 +1,3 @@
-pub mod Days
+pub mod Buffers
 pub mod Turns
 pub mod Inputs
-pub mod Samples

@@ -7,12 +7,13 @@ use lib.ListN.{length, take}
 use Rattle.answer.specs.declared.Answer.{Answer}
 use Rattle.answer.specs.declared.Answer.the-variants as answer
 use Rattle.session.specs.declared.RunResult.{RunResult}
+use Rattle.day.specs.Days.{runBufferOf, endedOf}
 use Rattle.quadro.specs.declared.BufferRead.{BufferRead}
 use Rattle.quadro.specs.declared.BufferRead.the-variants as buffer
 use Rattle.quadro.specs.declared.TurnEnd.{TurnEnd}
 use Rattle.quadro.specs.declared.TurnEnd.the-variants as turn
 use Rattle.quadro.specs.declared.TurnResult.{TurnResult}
-use Rattle.quadro.specs.Days.{runBufferOf, endedOf, bufferLength, EndsBelow}
+use Rattle.quadro.specs.Buffers.{bufferLength, EndsBelow}
 
 -- after a full buffer the day goes on, unless it is refused
 abbrev pub moreUnlessRefused : Answer → TurnEnd

@@ -3,10 +3,11 @@
 ghost use mathlib.Core.Path.{_≡_};
 ghost use Prim.Native.Nat.{_≤_};
 ghost use lib.ListN.{length, take};
-ghost use Rattle.quadro.specs.Days.{bufferLength, mostCounted, freshDay, runBufferOf, endedOf};
-ghost use Rattle.quadro.specs.Days.{Counted, Grown, EndsBelow};
+ghost use Rattle.day.specs.Days.{freshDay, runBufferOf, endedOf};
+ghost use Rattle.day.specs.Inputs.{pageOfDay};
+ghost use Rattle.quadro.specs.Buffers.{bufferLength, mostCounted, Counted, Grown, EndsBelow};
 ghost use Rattle.quadro.specs.Turns.{moreUnlessRefused, hasMore, TurnOf};
-ghost use Rattle.quadro.specs.Inputs.{pageOfDay, InputRun};
+ghost use Rattle.quadro.specs.Inputs.{InputRun};
 ghost use Rattle.page.specs.Pages.{pageLength};
 use answer::Answer;
 use libc::STDERR_FILENO;

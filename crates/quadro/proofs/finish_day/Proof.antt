@@ -1,6 +1,6 @@
 -- `quadro::finish_day` meets its contract. Assumes nothing.
 use borrow.Author.Needs.{needs}
-use Rattle.quadro.proofs.Days.{ended-refused, ended-accepted}
+use Rattle.quadro.proofs.Buffers.{ended-refused, ended-accepted}
 use Rattle.quadro.proofs.finish_day.Statement.{statement}
 use Rattle.quadro.proofs.finish_day.Tie as tie
 

@@ -4,7 +4,7 @@ use native.Mathlib.Omega.{arith}
 use borrow.Author.Needs.{needs}
 use lib.ListN.{take}
 use lib.Seq.{length-take-le}
-use Rattle.quadro.proofs.Days.{few-run, run-behind}
+use Rattle.quadro.proofs.Buffers.{few-run, run-behind}
 use Rattle.quadro.proofs.run_buffer.Statement.{statement}
 use Rattle.quadro.proofs.run_buffer.Tie as tie
 

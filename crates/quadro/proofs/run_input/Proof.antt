@@ -4,7 +4,7 @@ use mathlib.Core.Path.{refl, sym, _∙_}
 use native.Mathlib.Omega.{arith}
 use borrow.Author.Needs.{needs}
 use borrow.Author.Tests.{not-true, not-false}
-use Rattle.quadro.specs.Days.{bufferLength}
+use Rattle.quadro.specs.Buffers.{bufferLength}
 use Rattle.quadro.proofs.Inputs.{Reached, reached-none, reached-more, reached-last, reached-all}
 use Rattle.quadro.proofs.run_input.Statement.{statement}
 use Rattle.quadro.proofs.run_input.Tie as tie

@@ -3,7 +3,7 @@ use mathlib.Core.Path.{refl}
 use native.Mathlib.Omega.{arith}
 use borrow.Author.Needs.{needs}
 use Rattle.quadro.specs.declared.BufferRead.the-variants.{Full, Ended, Failed}
-use Rattle.quadro.proofs.Days.{ended}
+use Rattle.quadro.proofs.Buffers.{ended}
 use Rattle.quadro.proofs.run_next_buffer.Statement.{statement}
 use Rattle.quadro.proofs.run_next_buffer.Tie as tie
 

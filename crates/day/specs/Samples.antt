@@ -1,0 +1,25 @@
+-- The worked input (SPEC.md, "The program quadro"), from its bytes to the bytes printed. Assumes nothing.
+use Prim.Native.Nat.{ℕ}
+use mathlib.Core.List.{List, _++_}
+use mathlib.Core.Path.{_≡_}
+use Rattle.board.specs.Boards.{freshBoard}
+use Rattle.page.specs.Pages.{pageOf}
+use Rattle.page.specs.Samples.{workedPage}
+use Rattle.ledger.specs.Samples.{header, payment, trailer}
+use Rattle.day.specs.Inputs.{pageOfInput}
+
+-- A and one G with the barcode of P4 and 109 centavos received: 300 bytes, which end in an open file
+abbrev pub openInput : List ℕ
+openInput = header ++ payment 109
+
+-- and Z: 450 bytes
+abbrev pub workedInput : List ℕ
+workedInput = openInput ++ trailer 3 109
+
+-- Promise: its page is the worked page.
+abbrev pub WorkedInput : Type 0
+WorkedInput = pageOfInput workedInput ≡ workedPage
+
+-- Promise: without its Z it is refused 19 at place 0, after two records and no file, and no lane is shown.
+abbrev pub OpenInput : Type 0
+OpenInput = pageOfInput openInput ≡ pageOf 19 0 2 0 freshBoard
