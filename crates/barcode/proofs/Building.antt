@@ -7,7 +7,7 @@ use mathlib.Core.Path.{_≡_, refl, sym, ap, _∙_}
 use native.Mathlib.Omega.{arith}
 use borrow.Author.Tests.{lt-ltb, ltb-true, leb-true, eqb-true, eq-eqb, ne-eqb, le-leb}
 use lib.Dec.{leb, ltb, eqb}
-use lib.ListN.{length, set, take, drop, length-append, drop-of-length-le}
+use lib.ListN.{length, set, take, drop, length-append, length-drop, drop-of-length-le}
 use lib.Seq.{take-all}
 use Rattle.answer.specs.declared.Answer.{Answer}
 use Rattle.answer.specs.declared.Answer.the-variants.{Accepted, Refused}
@@ -17,9 +17,9 @@ use Rattle.answer.proofs.Orders.{then-accepts, moved-accepts}
 use Rattle.answer.proofs.Steps.{passed}
 use Rattle.decimal.specs.declared.Class.the-variants.{Digit}
 use Rattle.decimal.specs.Bytes.{within, isOf, all, eachIs}
-use Rattle.decimal.specs.Numbers.{digitsOf, widthAnswer}
+use Rattle.decimal.specs.Numbers.{digitsOf, putNumberAnswer}
 use Rattle.decimal.specs.Places.{widthOf, putAt}
-use Rattle.decimal.proofs.Numbers.{digits-fill, digit-back}
+use Rattle.decimal.proofs.Numbers.{digits-fill, digit-back, number-put}
 use Rattle.decimal.proofs.Bytes.{each-accepts}
 use Rattle.decimal.proofs.Finite.{or-cases}
 use Rattle.decimal.proofs.Places.{put-next, put-whole}
@@ -81,13 +81,22 @@ kind-small k h = leb-true k 9 (and-eq-true-iff (leb 6 k) (leb k 9) .0 h .1)
 
 -- The pieces, one behind the other.
 
-number-put : (w n at : ℕ) (l : List ℕ) {r : Answer} {q : List ℕ} → n < 10 ^ w → r ≡ widthAnswer w n → q ≡ ifAccepted r (putAt at (digitsOf w n) l) l → q ≡ putAt at (digitsOf w n) l
-number-put w n at l h e f = f ∙ rw (e, lt-ltb n (10 ^ w) h)
+number-next :
+    (old xs : List ℕ) (w n : ℕ) {at : ℕ} {r : Answer} {q new : List ℕ}
+    → at ≡ length xs → length xs + w ≤ length old → n < 10 ^ w → q ≡ xs ++ drop (length xs) old
+    → r ≡ putNumberAnswer (length q) at w n → new ≡ ifAccepted r (putAt at (digitsOf w n) q) q
+    → new ≡ (xs ++ digitsOf w n) ++ drop (length (xs ++ digitsOf w n)) old
+number-next old xs w n {at} {r} {q} {new} behind fits small e f g =
+    let rest = drop (length xs) old in
+    let whole : length q ≡ length old
+    = ap length e ∙ length-append xs rest ∙ omega (arith, length-drop (length xs) old) in
+    number-put at w n q (omega arith) small f g
+    ∙ put-next old xs (digitsOf w n) behind (omega (arith, digits-fill w n .0)) e
 
 pub pieces : (i : Issuer) (kind amount : ℕ) (rest old : List ℕ) → WithinRanges i kind amount rest → length old ≡ 44
     → {w : ℕ} {r s : Answer} {one two three four : List ℕ} → w ≡ widthOf (issuer (i .segment)) → one ≡ headOf (i .segment) kind ++ 48 ∷ drop 4 old
-    → r ≡ widthAnswer 11 amount → two ≡ ifAccepted r (putAt 4 (digitsOf 11 amount) one) one
-    → s ≡ widthAnswer w (i .number) → three ≡ ifAccepted s (putAt 15 (digitsOf w (i .number)) two) two
+    → r ≡ putNumberAnswer (length one) 4 11 amount → two ≡ ifAccepted r (putAt 4 (digitsOf 11 amount) one) one
+    → s ≡ putNumberAnswer (length two) 15 w (i .number) → three ≡ ifAccepted s (putAt 15 (digitsOf w (i .number)) two) two
     → four ≡ putAt (15 + w) rest three → four ≡ codeWith 0 i kind amount rest
 pieces i kind amount rest old fit n {w} {r} {s} {one} {two} {three} {four} ew e1 er e2 es e3 e4 =
     let range = issuer-end-range (i .segment) in
@@ -101,8 +110,8 @@ pieces i kind amount rest old fit n {w} {r} {s} {one} {two} {three} {four} ew e1
     let lhd : 15 ≡ length (h ++ d) = omega (arith, length-append h d) in
     let lhdk : 15 + w ≡ length ((h ++ d) ++ k) = omega (arith, length-append (h ++ d) k) in
     let all : length (((h ++ d) ++ k) ++ rest) ≡ 44 = omega (arith, length-append ((h ++ d) ++ k) rest) in
-    let f2 = number-put 11 amount 4 one (fit .amounts) er e2 ∙ put-next old h d refl (omega arith) e1 in
-    let f3 = number-put w (i .number) 15 two small es e3 ∙ put-next old (h ++ d) k lhd (omega arith) f2 in
+    let f2 = number-next old h 11 amount refl (omega arith) (fit .amounts) e1 er e2 in
+    let f3 = number-next old (h ++ d) w (i .number) lhd (omega arith) small f2 es e3 in
     let f4 = e4 ∙ put-next old ((h ++ d) ++ k) rest lhdk (omega arith) f3 in
     let past : length old ≤ length (((h ++ d) ++ k) ++ rest) = omega arith in
     let end : drop (length (((h ++ d) ++ k) ++ rest)) old ≡ [] = drop-of-length-le old past in

@@ -10,10 +10,17 @@ use borrow.Author.Tests.{leb-true, leb-false, le-leb, lt-leb, lt-ltb, le-ltb, lt
 use lib.Dec.{lit<, leb, ltb, eqb}
 use lib.ListN.{length, take, drop, getD, set, length-append, length-set, drop-of-length-le}
 use lib.Seq.{take-all, take-suc, length-take-le, drop-length, drop-cons, getD-set-same, drop-set-lt}
+use Rattle.answer.specs.declared.Reason.the-variants.{WrongLength, TooWide}
+use Rattle.answer.specs.declared.Answer.{Answer}
+use Rattle.answer.specs.Orders.{ifAccepted}
+use Rattle.answer.proofs.Orders.{require-accepts}
+use Rattle.answer.proofs.Steps.{passed}
 use Rattle.decimal.specs.declared.Class.the-variants.{Digit}
 use Rattle.decimal.specs.Bytes.{isOf, all}
+use Rattle.decimal.specs.Places.{putAt}
 use Rattle.decimal.proofs.Bytes.{all-joins}
-use Rattle.decimal.specs.Numbers.{valueOf, numberFrom, numberOf, largestNumber, capped, digitsOf, NumberOfDigits, DigitsOfNumber, DigitsFill, NumberFits, NineteenFit}
+use Rattle.decimal.proofs.Places.{put-fits, length-put}
+use Rattle.decimal.specs.Numbers.{valueOf, numberFrom, numberOf, largestNumber, capped, digitsOf, widthAnswer, putNumberAnswer, NumberOfDigits, DigitsOfNumber, DigitsFill, AcceptedIsWritten, NumberFits, NineteenFit}
 use Rattle.decimal.specs.LowHalves.{lowFrom, lowNumberOf, LowOfDigits}
 
 -- Digits.
@@ -242,3 +249,25 @@ digits-back (suc w) bs h t =
 
 pub digits-of-number : DigitsOfNumber
 digits-of-number bs t = digits-back (length bs) bs refl t
+
+-- Numbers put into a buffer: where it has room, the width decides; a number that fits is written.
+
+pub room-answer : (size at w n : ℕ) → at + w ≤ size → putNumberAnswer size at w n ≡ widthAnswer w n
+room-answer size at w n h = rw (le-leb (at + w) size h)
+
+pub number-put : (at w n : ℕ) (l : List ℕ) {r : Answer} {q : List ℕ} → at + w ≤ length l → n < 10 ^ w
+    → r ≡ putNumberAnswer (length l) at w n → q ≡ ifAccepted r (putAt at (digitsOf w n) l) l
+    → q ≡ putAt at (digitsOf w n) l
+number-put at w n l h k e f = f ∙ rw (e ∙ room-answer (length l) at w n h, lt-ltb n (10 ^ w) k)
+
+pub accepted-is-written : AcceptedIsWritten
+accepted-is-written at w n l e =
+    let both = passed (leb (at + w) (length l)) WrongLength 0 e in
+    let fits = leb-true (at + w) (length l) (both .0) in
+    let small = ltb-true n (10 ^ w) (require-accepts (ltb n (10 ^ w)) TooWide 1 .0 (both .1)) in
+    let d = digits-fill w n .0 in
+    let within : at + length (digitsOf w n) ≤ length l = rw d fits in (
+      (rw d at (put-fits at (digitsOf w n) l within)),
+      length-put at (digitsOf w n) l within,
+      number-of-digits w n small,
+    )

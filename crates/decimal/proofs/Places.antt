@@ -1,13 +1,14 @@
 -- Laws of pieces of a list. Assumes nothing.
 use Prim.Native.Nat.{ℕ, zero, suc, _+_, _-_, _≤_, _<_}
-use mathlib.Core.Bool.{Bool, true}
+use mathlib.Core.Bool.{Bool, true, false, not}
 use mathlib.Core.List.{List, [], _∷_, _++_, append-assoc, append-nil}
 use mathlib.Core.Logic.{inl, inr, ⊎-elim}
 use mathlib.Core.Path.{_≡_, refl, ap, sym, _∙_}
 use native.Mathlib.Nat.{not-suc-le-zero, le-of-suc-le-suc}
 use native.Mathlib.Omega.{arith}
-use borrow.Author.Tests.{le-leb, lt-leb}
+use borrow.Author.Tests.{le-leb, lt-leb, leb-true, leb-false, not-true, not-false}
 use borrow.Rule.Slice.PartMut.{putMid}
+use lib.Dec.{leb}
 use lib.ListN.{length, getD, set, take, drop, length-append, length-drop, drop-of-length-le, List·getD-append}
 use lib.Seq.{length-take-le, take-set-lt, take-set-le, drop-set-lt, drop-set-add, set-append-left, getD-take, getD-drop, getD-append-add, take-append-seam, drop-append-add, drop-drop, take-all, take-take, take-length}
 use Rattle.answer.proofs.Tests.{lt-or-le}
@@ -124,6 +125,14 @@ pub put-none : (at : ℕ) (piece l : List ℕ) → length l < at + length piece 
 unfolding putAt
 put-none at piece l h = rw (lt-leb _ _ h)
 
+pub length-put : (at : ℕ) (piece l : List ℕ) → at + length piece ≤ length l → length (putAt at piece l) ≡ length l
+length-put at piece l h =
+    let behind = drop (at + length piece) l in
+    let front = length-take-le at l (omega arith) in
+    let rest = length-drop (at + length piece) l in
+    ap length (put-fits at piece l h)
+    ∙ rw (length-append (take at l) (piece ++ behind), length-append piece behind, rest, front) (omega arith)
+
 pub puts-join : PutsJoin
 puts-join l xs ys h =
     let n : length xs + length ys ≤ length (xs ++ drop (length xs) l) = omega (arith, length-append xs (drop (length xs) l), length-drop (length xs) l) in
@@ -148,6 +157,21 @@ pub put-mid : (at : ℕ) (piece l : List ℕ) {n : ℕ} {q : List ℕ} → lengt
 put-mid at piece l {n} {q} e h f =
     let k : at + n - at ≡ length piece = omega arith in
     rw (k, f, drop-drop (length piece) at l) (sym (put-fits at piece l (omega arith)))
+
+-- The test of room: as it is computed, and the fact that it tells.
+pub room-left : (at w size : ℕ) → w ≤ size → leb at (size - w) ≡ leb (at + w) size
+room-left at w size h = go (leb at (size - w)) refl
+  where
+    go : (t : Bool) → leb at (size - w) ≡ t → leb at (size - w) ≡ leb (at + w) size
+    go true e = e ∙ sym (le-leb (at + w) size (omega (arith, leb-true at (size - w) e)))
+    go false e = e ∙ sym (lt-leb (at + w) size (omega (arith, leb-false at (size - w) e)))
+
+module _ {t : Bool} {end size : ℕ} (e : t ≡ leb end size) where
+  pub room : not t ≡ false → end ≤ size
+  room h = leb-true end size (sym e ∙ not-false t h)
+
+  pub no-room : not t ≡ true → size < end
+  no-room h = leb-false end size (sym e ∙ not-true t h)
 
 -- a buffer into which as many bytes were copied, and a part of one
 pub copied-whole : (piece out : List ℕ) {q : List ℕ} → length piece ≡ length out

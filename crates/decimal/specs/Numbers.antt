@@ -3,13 +3,15 @@ use Prim.Native.Nat.{ℕ, zero, suc, _+_, _-_, _*_, _/_, _%_, _^_, _<_, _≤_}
 use mathlib.Core.Bool.{true, cond}
 use mathlib.Core.List.{List, [], _∷_, _++_}
 use mathlib.Core.Path.{_≡_}
-use lib.Dec.{ltb}
-use lib.ListN.{length}
-use Rattle.answer.specs.declared.Reason.the-variants.{TooWide}
+use lib.Dec.{leb, ltb}
+use lib.ListN.{length, take, drop}
+use Rattle.answer.specs.declared.Reason.the-variants.{WrongLength, TooWide}
 use Rattle.answer.specs.declared.Answer.{Answer}
-use Rattle.answer.specs.Orders.{require}
+use Rattle.answer.specs.declared.Answer.the-variants.{Accepted}
+use Rattle.answer.specs.Orders.{require, _then_}
 use Rattle.decimal.specs.declared.Class.the-variants.{Digit}
 use Rattle.decimal.specs.Bytes.{isOf, all}
+use Rattle.decimal.specs.Places.{putAt}
 pub use Rattle.answer.specs.Limits.{largestNumber, capped}
 
 -- the value of a digit; any other byte counts as 0
@@ -33,6 +35,11 @@ digitsOf (suc w) n = digitsOf w (n / 10) ++ ((48 + n % 10) ∷ [])
 abbrev pub widthAnswer : ℕ → ℕ → Answer
 widthAnswer w n = require (ltb n (10 ^ w)) TooWide 1
 
+-- a number put into a buffer of `size` bytes as w digits from index `at` on: refused, with no place, where the buffer
+-- does not have these bytes, then as too wide
+abbrev pub putNumberAnswer : ℕ → ℕ → ℕ → ℕ → Answer
+putNumberAnswer size at w n = require (leb (at + w) size) WrongLength 0 then widthAnswer w n
+
 -- Promises.
 
 -- the number of some digits, and the digits of a number, are inverse
@@ -45,6 +52,13 @@ DigitsOfNumber = (bs : List ℕ) → all (isOf Digit) bs ≡ true → digitsOf (
 -- w digits are written, and only digits
 abbrev pub DigitsFill : Type 0
 DigitsFill = (w n : ℕ) → (length (digitsOf w n) ≡ w) × (all (isOf Digit) (digitsOf w n) ≡ true)
+
+-- a number that is accepted is written: its bytes are its digits, which spell it, and all other bytes stay
+abbrev pub AcceptedIsWritten : Type 0
+AcceptedIsWritten =
+    (at w n : ℕ) (l : List ℕ) → putNumberAnswer (length l) at w n ≡ Accepted
+    → (putAt at (digitsOf w n) l ≡ take at l ++ (digitsOf w n ++ drop (at + w) l))
+    × (length (putAt at (digitsOf w n) l) ≡ length l) × (numberOf (digitsOf w n) ≡ n)
 
 -- a number has no more digits than it has bytes
 abbrev pub NumberFits : Type 0

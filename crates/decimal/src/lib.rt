@@ -2,12 +2,12 @@
 ghost use mathlib.Core.Path.{_≡_};
 ghost use mathlib.Core.Bool.{cond};
 ghost use Prim.Native.Nat.{_+_, _*_, _%_, _^_, _≤_};
-ghost use lib.Dec.{ltb};
+ghost use lib.Dec.{leb, ltb};
 ghost use lib.ListN.{length};
 ghost use Rattle.answer.specs.Orders.{ifAccepted};
 ghost use Rattle.decimal.specs.Bytes.{within, isOf, all, eachIs};
 ghost use Rattle.decimal.specs.Places.{putAt};
-ghost use Rattle.decimal.specs.Numbers.{valueOf, numberOf, digitsOf, capped, widthAnswer};
+ghost use Rattle.decimal.specs.Numbers.{valueOf, numberOf, digitsOf, capped, putNumberAnswer};
 ghost use Rattle.decimal.specs.LowHalves.{lowNumberOf};
 use answer::Answer;
 use answer::Reason;
@@ -225,35 +225,37 @@ fn put_digits(n: u64, out: &mut [u8])
     }
 }
 
+// Whether a buffer of `size` bytes has `width` bytes from index `at` on.
+fn has_room(size: usize, at: usize, width: usize) -> bool
+    ensures { λ r. ⌜ r ≡ leb (at + width) size ⌝ }
+{
+    width <= size && at <= size - width
+}
+
 // Copies a piece into the caller's buffer from index `at` on; where it does not fit, nothing is written.
 pub fn put(piece: &[u8], out: &mut [u8], at: usize)
     ensures { λ _. ⌜ now (out .exit) ≡ putAt at (now (piece .entry)) (now (out .entry)) ⌝ }
 {
-    if out.len() < piece.len() {
-        return;
-    }
-    if out.len() - piece.len() < at {
+    if !has_room(out.len(), at, piece.len()) {
         return;
     }
     let end = at + piece.len();
     bytes::copy(piece, &mut out[at..end]);
 }
 
-// Writes a number into the caller's buffer as `width` digits with leading zeros, from index `at` on. Refused, 21 at
-// place 1, where the number has more digits. Accepted with nothing written where `width` bytes do not fit.
+// Writes a number into the caller's buffer as `width` digits with leading zeros, from index `at` on. A refusal leaves
+// the buffer as it was: 1 at place 0 where it does not have those bytes, then 21 at place 1 where the number has more
+// digits.
 pub fn put_number(n: u64, width: usize, out: &mut [u8], at: usize) -> Answer
-    ensures answer { λ r. ⌜ r ≡ widthAnswer width n ⌝ }
+    ensures answer { λ r. ⌜ r ≡ putNumberAnswer (length (now (out .entry))) at width n ⌝ }
     ensures bytes { λ r.
         ⌜ now (out .exit) ≡ ifAccepted r (putAt at (digitsOf width n) (now (out .entry))) (now (out .entry)) ⌝ }
 {
+    if !has_room(out.len(), at, width) {
+        return Answer::Refused(Reason::WrongLength, 0);
+    }
     if !fits_width(n, width) {
         return Answer::Refused(Reason::TooWide, 1);
-    }
-    if out.len() < width {
-        return Answer::Accepted;
-    }
-    if out.len() - width < at {
-        return Answer::Accepted;
     }
     let end = at + width;
     put_digits(n, &mut out[at..end]);

@@ -1,28 +1,19 @@
 -- Pieces written one behind the other. Assumes nothing.
-use Prim.Native.Nat.{ℕ, _+_, _^_, _≤_, max}
+use Prim.Native.Nat.{ℕ, _+_, _^_, _<_, _≤_, max}
 use mathlib.Core.List.{List, _++_, append-assoc}
 use mathlib.Core.Path.{_≡_, ap, sym, _∙_}
 use native.Mathlib.Omega.{arith}
-use borrow.Author.Tests.{lt-ltb}
-use lib.ListN.{length, take, drop, length-append, length-drop}
+use lib.ListN.{length, take, drop, length-append}
 use lib.Seq.{length-take-le}
 use Rattle.answer.specs.declared.Answer.{Answer}
-use Rattle.answer.specs.declared.Answer.the-variants.{Accepted}
 use Rattle.answer.specs.Orders.{ifAccepted}
-use Rattle.decimal.specs.Numbers.{largestNumber, digitsOf, widthAnswer}
+use Rattle.decimal.specs.Numbers.{largestNumber, digitsOf, putNumberAnswer}
 use Rattle.decimal.specs.Places.{putAt}
-use Rattle.decimal.proofs.Places.{put-fits, put-next}
+use Rattle.decimal.proofs.Numbers.{number-put}
+use Rattle.decimal.proofs.Places.{put-fits, length-put, put-next}
 use Rattle.page.specs.Plain.{needed, shown}
 use Rattle.page.specs.Pieces.{mostDigits, Wrote}
 use Rattle.page.proofs.Plain.{shown-holds, shown-fits, length-shown}
-
-pub length-put : (at : ℕ) (piece l : List ℕ) → at + length piece ≤ length l → length (putAt at piece l) ≡ length l
-length-put at piece l h =
-    let behind = drop (at + length piece) l in
-    let front = length-take-le at l (omega arith) in
-    let rest = length-drop (at + length piece) l in
-    ap length (put-fits at piece l h)
-    ∙ rw (length-append (take at l) (piece ++ behind), length-append piece behind, rest, front) (omega arith)
 
 put-then :
     (at : ℕ) (xs ys l : List ℕ) → at + (length xs + length ys) ≤ length l
@@ -63,12 +54,13 @@ wrote-then {k} {j} {at} {next} {last} {xs} {ys} {l} {q} {r} fits a b =
 pub wrote-shown :
     (w n at : ℕ) (l : List ℕ) {k : ℕ} {a : Answer} {q : List ℕ}
     → w ≤ mostDigits → n ≤ largestNumber → at + mostDigits ≤ length l
-    → k ≡ max w (needed n) → a ≡ widthAnswer k n → q ≡ ifAccepted a (putAt at (digitsOf k n) l) l
+    → k ≡ max w (needed n) → a ≡ putNumberAnswer (length l) at k n → q ≡ ifAccepted a (putAt at (digitsOf k n) l) l
     → Wrote mostDigits at (shown w n) l (at + k) q
 wrote-shown w n at l {k} {a} {q} hw hn fits e f g =
-    let accepted : a ≡ Accepted = f ∙ rw (e, lt-ltb n (10 ^ max w (needed n)) (shown-holds w n)) in
-    let written : q ≡ putAt at (shown w n) l = g ∙ rw (accepted, e) in
     let few = shown-fits w n hw hn in
+    let fits-k : at + k ≤ length l = omega (arith, length-shown w n) in
+    let holds : n < 10 ^ k = rw e (shown-holds w n) in
+    let written : q ≡ putAt at (shown w n) l = number-put at k n l fits-k holds f g ∙ rw e in
     record {
       bounded = few;
       ends = ap (λ (j : ℕ). at + j) (e ∙ sym (length-shown w n));

@@ -3,17 +3,18 @@ use Prim.Native.Nat.{ℕ, _^_, _<_}
 use mathlib.Core.Bool.{_&&_, and-eq-true-iff}
 use mathlib.Core.List.{List, [], _∷_}
 use mathlib.Core.Path.{_≡_, refl, sym, ap, _∙_}
-use borrow.Author.Tests.{eqb-true, lt-ltb}
-use lib.Dec.{eqb, ltb}
+use native.Mathlib.Omega.{arith}
+use borrow.Author.Tests.{eqb-true}
+use lib.Dec.{eqb}
 use lib.ListN.{length, replicate}
-use Rattle.answer.specs.declared.Reason.the-variants.{WrongLength, NotExpected, TooWide}
+use Rattle.answer.specs.declared.Reason.the-variants.{WrongLength, NotExpected}
 use Rattle.answer.specs.declared.Answer.{Answer}
 use Rattle.answer.specs.declared.Answer.the-variants.{Accepted, Refused}
 use Rattle.answer.specs.Orders.{require, _then_, ifAccepted}
 use Rattle.answer.proofs.Orders.{require-accepts, then-accepts, refusal-keeps, accepted-takes}
-use Rattle.decimal.specs.Numbers.{digitsOf, widthAnswer}
+use Rattle.decimal.specs.Numbers.{digitsOf, putNumberAnswer}
 use Rattle.decimal.specs.Places.{putAt}
-use Rattle.decimal.proofs.Numbers.{digits-fill}
+use Rattle.decimal.proofs.Numbers.{digits-fill, number-put}
 use Rattle.decimal.proofs.Places.{put-whole}
 use Rattle.layout.specs.declared.Record.{Record}
 use Rattle.layout.specs.declared.Record.the-variants.{Header, Payment, Trailer}
@@ -112,7 +113,7 @@ six = refl
 
 module _ (w : Writer) (out digits : List ℕ) {call width making both a : Answer} {closed : CloseResult} {count made : List ℕ}
     (c : call ≡ callAnswer w Trailer 6 (length out)) (k : closed ≡ closeResultOf (w .file))
-    (n : length digits ≡ 6) (q : width ≡ widthAnswer 6 (closed .figures .count))
+    (n : length digits ≡ 6) (q : width ≡ putNumberAnswer (length digits) 0 6 (closed .figures .count))
     (p : count ≡ ifAccepted width (putAt 0 (digitsOf 6 (closed .figures .count)) digits) digits)
     (m : making ≡ makeAnswer Trailer count (closed .figures .total ∷ 0 ∷ []) recordLength)
     (b : made ≡ ifAccepted making (madeOf (layoutOf Trailer) count (closed .figures .total ∷ 0 ∷ [])) unwritten)
@@ -124,9 +125,8 @@ module _ (w : Writer) (out digits : List ℕ) {call width making both a : Answer
   count-is h =
       let x = figuresOf (w .file) .count in
       let e : closed .figures .count ≡ x = ap (λ (f : Figures). f .count) (figures-are h) in
-      let fits : x < 10 ^ 6 = figures-fit (w .file) (closing-accepts (w .file) .0 h) .0 in
-      let accepted : width ≡ Accepted = q ∙ ap (widthAnswer 6) e ∙ require-accepts (ltb x (10 ^ 6)) TooWide 1 .1 (lt-ltb x (10 ^ 6) fits) in
-      p ∙ accepted-takes width (putAt 0 (digitsOf 6 (closed .figures .count)) digits) digits accepted
+      let fits : closed .figures .count < 10 ^ 6 = rw e (figures-fit (w .file) (closing-accepts (w .file) .0 h) .0) in
+      number-put 0 6 (closed .figures .count) digits (omega arith) fits q p
       ∙ put-whole (digitsOf 6 (closed .figures .count)) digits (digits-fill 6 (closed .figures .count) .0 ∙ sym n) ∙ ap (digitsOf 6) e ∙ ap (λ (d : ℕ). digitsOf d x) six
 
   trailer-answers : a ≡ trailerAnswer w (length out)

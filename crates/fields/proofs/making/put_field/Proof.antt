@@ -1,7 +1,9 @@
 -- `fields::making::put_field` meets its contract. Assumes nothing.
 use mathlib.Core.Path.{refl, sym, ap, _∙_}
+use native.Mathlib.Omega.{arith}
 use borrow.Author.Needs.{needs}
 use lib.ListN.{length}
+use Rattle.decimal.proofs.Numbers.{room-answer}
 use Rattle.fields.proofs.Writes.{put-money, put-money-bytes, put-other, other-is}
 use Rattle.fields.proofs.making.put_field.Statement.{statement}
 use Rattle.fields.proofs.making.put_field.Tie as tie
@@ -22,7 +24,7 @@ returns c =
     let a = testing .before .before .before .before .args in
     let money = sym (testing .before .is-money .ensures) ∙ testing .if1 .taken in
     let w = length (a .out .now) in (
-      put-money (a .kind) w (a .given .now) (a .amount) money (putting .put-number .ensures .0),
+      put-money (a .kind) w (a .given .now) (a .amount) money (putting .put-number .ensures .0 ∙ room-answer w 0 w (a .amount) (omega arith)),
       put-money-bytes (a .kind) w (a .given .now) (a .amount) _ _ money refl (putting .put-number .ensures .1),
     )
 
