@@ -7,9 +7,6 @@ use crate::refusal::{Reason, Refusal};
 
 pub const LENGTH: usize = 44;
 
-/// The largest value, eleven digits.
-pub const MOST_VALUE: u64 = 99_999_999_999;
-
 /// Place of the product; the segment, the kind and the general check follow.
 const PRODUCT: usize = 1;
 const SEGMENT: usize = 2;

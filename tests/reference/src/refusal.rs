@@ -29,7 +29,7 @@ pub enum Reason {
 }
 
 impl Reason {
-    /// Every reason. Nothing depends on the order, and numbers may be missing between the first and the last.
+    /// Every reason: the numbers 1 to 21, each once. Nothing depends on the order.
     pub const ALL: &'static [Reason] = &[
         Reason::Length,
         Reason::NoDigit,

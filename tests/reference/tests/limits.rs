@@ -206,6 +206,11 @@ fn arbitrary_board(random: &mut Random, few: &[reference::Issuer]) -> Board {
     board
 }
 
+/// What the naive board leaves out: `used` itself, and the lanes past it.
+fn left_out(board: &Board) -> (usize, &[Lane]) {
+    (board.used, &board.lanes[board.used.min(64)..])
+}
+
 /// Sessions in arbitrary states against the naive one, which counts in 128 bits.
 #[test]
 fn arbitrary_sessions_against_the_naive_one() {
@@ -242,7 +247,18 @@ fn arbitrary_sessions_against_the_naive_one() {
         let outcome = session.take(&record);
         assert_eq!(answer(&outcome), expected.clone().err().unwrap_or((0, 0)));
         match expected {
-            Ok(next) => assert_eq!(NaiveSession::of(&session), next),
+            Ok(next) => {
+                assert_eq!(NaiveSession::of(&session), next);
+                let (shown, mut working) = match record[0] {
+                    b'A' => (before.shown, before.shown),
+                    b'G' => (before.shown, before.working),
+                    _ => (before.working, before.working),
+                };
+                // A G with a new issuer takes the next lane.
+                working.used += next.working.lanes.len() - working.used.min(64);
+                assert_eq!(left_out(&session.shown), left_out(&shown));
+                assert_eq!(left_out(&session.working), left_out(&working));
+            }
             Err(_) => assert_eq!(session, before),
         }
         *seen.entry(answer(&outcome).0).or_insert(0) += 1;

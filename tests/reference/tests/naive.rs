@@ -12,6 +12,26 @@ fn expected(outcome: Result<(), naive::Answer>) -> naive::Answer {
     outcome.err().unwrap_or((0, 0))
 }
 
+/// The field bytes of a record, in a buffer of an A, of a G or of any length.
+fn assert_joined(random: &mut Random, record: &[u8]) {
+    let length = match random.below(4) {
+        0 => random.index(151),
+        1 => 78,
+        _ => 121,
+    };
+    let mut out = [7; 150];
+    let outcome = records::join(record, &mut out[..length]);
+    let mut left = [7; 150];
+    match naive::join(record, length) {
+        Ok(fields) => {
+            assert_eq!(answer(&outcome), (0, 0));
+            left[..length].copy_from_slice(&fields);
+        }
+        Err(refusal) => assert_eq!(answer(&outcome), refusal),
+    }
+    assert_eq!(out, left);
+}
+
 #[test]
 fn barcodes() {
     let mut random = Random::new(21);
@@ -85,6 +105,7 @@ fn records_alone() {
         let outcome = records::decode(&record);
         assert_eq!(answer(&outcome), expected(naive::record(&record, b"AGZ")));
         seen.insert(answer(&outcome).0);
+        assert_joined(&mut random, &record);
     }
     for number in [0, 2, 3, 4, 5, 7, 8, 9, 10, 11, 12] {
         assert!(seen.contains(&number), "{number} of {seen:?}");
@@ -117,8 +138,7 @@ fn any_bytes_of_any_length() {
             answer(&records::decode(&bytes)),
             expected(naive::record(&bytes, b"AGZ"))
         );
-        let mut out = [7; 121];
-        assert!(records::join(&bytes, &mut out).is_err() || bytes.len() == 150);
+        assert_joined(&mut random, &bytes);
     }
 }
 

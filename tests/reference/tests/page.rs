@@ -3,7 +3,7 @@
 mod common;
 
 use common::{a, code_for, g, p4_code, with_byte, z};
-use reference::{page, Board};
+use reference::{page, Board, Issuer, Lane};
 
 #[track_caller]
 fn assert_page(input: &[u8], lines: &[&str]) {
@@ -119,4 +119,44 @@ fn number_and_place_may_be_any_numbers() {
         let rest = "record=1\nfiles=2\nlanes=0\npayments=0\ncentavos=0\n";
         assert_eq!(text, format!("answer={number}\nplace={place}\n{rest}"));
     }
+}
+
+/// A board in an arbitrary state: issuers are printed whole, whatever their segment and however wide.
+#[test]
+fn arbitrary_boards() {
+    let issuers = [
+        (1, 12_345, "1-12345"),
+        (6, 123_456_789, "6-123456789"),
+        (0, 7, "0-0007"),
+        (8, 7, "8-0007"),
+        (10, 7, "10-0007"),
+        (66, 7, "66-0007"),
+        (
+            u64::MAX,
+            u64::MAX,
+            "18446744073709551615-18446744073709551615",
+        ),
+    ];
+    let mut board = Board::new();
+    board.used = issuers.len();
+    let mut expected =
+        "answer=0\nplace=0\nrecord=0\nfiles=0\nlanes=7\npayments=0\ncentavos=0\n".to_string();
+    for (i, (segment, number, text)) in issuers.into_iter().enumerate() {
+        board.lanes[i] = Lane {
+            issuer: Issuer { segment, number },
+            payments: u64::MAX,
+            centavos: 0,
+        };
+        let lane = i + 1;
+        expected +=
+            &format!("lane={lane}\nissuer={text}\npayments=18446744073709551615\ncentavos=0\n");
+    }
+    let printed = |board: &Board| String::from_utf8(page::page(0, 0, 0, 0, board)).unwrap();
+    assert_eq!(printed(&board), expected);
+    // The lanes in use are the first `used` of the 64.
+    board.used = 0;
+    assert!(printed(&board).ends_with("lanes=0\npayments=0\ncentavos=0\n"));
+    board.used = usize::MAX;
+    assert!(printed(&board).contains("\nlanes=64\n"));
+    assert!(printed(&board).ends_with("lane=64\nissuer=0-0000\npayments=0\ncentavos=0\n"));
 }

@@ -6,7 +6,7 @@ use std::fs::File;
 use std::io::{self, Read, Write};
 use std::process::{Command, Output, Stdio};
 
-use common::{a, code_for, g, p4_code, z};
+use common::{a, code_for, g, naive, p4_code, z};
 use reference::page::{page_of, read_page};
 use reference::random::Random;
 use reference::{days, Reading};
@@ -66,11 +66,21 @@ fn the_program_prints_the_page_of_any_input() {
             days::disorder(&mut random, &mut day.bytes);
         }
         let output = run(&day.bytes);
-        assert_eq!(output.stdout, page_of(&day.bytes));
+        assert_eq!(
+            String::from_utf8(output.stdout).unwrap(),
+            naive::page(&day.bytes)
+        );
         assert!(output.status.success());
     }
-    assert_eq!(run(b"").stdout, page_of(b""));
-    assert_eq!(run(b"\n").stdout, page_of(b"\n"));
+    let zeros = "record=0\nfiles=0\nlanes=0\npayments=0\ncentavos=0\n";
+    assert_eq!(
+        run(b"").stdout,
+        format!("answer=0\nplace=0\n{zeros}").as_bytes()
+    );
+    assert_eq!(
+        run(b"\n").stdout,
+        format!("answer=1\nplace=0\n{zeros}").as_bytes()
+    );
 }
 
 /// An input of several pieces, with the refusal in a later one.
@@ -129,16 +139,19 @@ fn pieces_do_not_matter() {
     for seed in 0..30 {
         let day = days::day(&mut random, 30, 20, 40).unwrap();
         let cut = day.bytes.len() - random.index(200);
+        let bytes = &day.bytes[..cut];
+        let expected = naive::page(bytes).into_bytes();
+        assert_eq!(page_of(bytes), expected);
         let input = Trickle {
-            rest: &day.bytes[..cut],
+            rest: bytes,
             random: Random::new(seed),
         };
-        assert_eq!(read_page(input).unwrap(), page_of(&day.bytes[..cut]));
+        assert_eq!(read_page(input).unwrap(), expected);
         let mut reading = Reading::new();
-        for piece in day.bytes[..cut].chunks(150 * 7) {
+        for piece in bytes.chunks(150 * 7) {
             reading.take(piece);
         }
-        assert_eq!(reading.page(), page_of(&day.bytes[..cut]));
+        assert_eq!(reading.page(), expected);
     }
 }
 

@@ -168,18 +168,17 @@ fn what_is_not_checked() {
 #[test]
 fn field_bytes() {
     let mut out = [7; 200];
-    assert_answer(records::join(&z(2, 0), &mut out[..78]), 9, 1);
-    assert_answer(records::join(&z(2, 0), &mut out[..121]), 9, 1);
-    assert_answer(
-        records::join(&with_byte(z(2, 0), 2, b'x'), &mut out[..78]),
-        9,
-        1,
-    );
-    assert_answer(
-        records::join(&with_byte(a(), 1, b'B'), &mut out[..78]),
-        9,
-        1,
-    );
+    // The length of the buffer hangs on the record's kind, and these have no field bytes: 9 for every length.
+    for length in [0, 23, 77, 78, 121, 150, 200] {
+        for record in [
+            z(2, 0),
+            with_byte(z(2, 0), 2, b'x'),
+            with_byte(a(), 1, b'B'),
+        ] {
+            assert_answer(records::join(&record, &mut out[..length]), 9, 1);
+            assert_answer(records::join(&record[..149], &mut out[..length]), 1, 0);
+        }
+    }
     assert_answer(records::join(&a(), &mut out[..121]), 1, 0);
     assert_answer(records::join(&a()[..149], &mut out[..78]), 1, 0);
     assert_answer(

@@ -17,13 +17,46 @@ fn session(taken: u64, total: u64, change: impl Fn(&mut Board)) -> Session {
     session
 }
 
+/// The table of docs/SPEC.md, "Refusals".
+const NUMBERS: [(Reason, u64); 21] = [
+    (Reason::Length, 1),
+    (Reason::NoDigit, 2),
+    (Reason::Product, 3),
+    (Reason::Segment, 4),
+    (Reason::Kind, 5),
+    (Reason::BoxCheck, 6),
+    (Reason::GeneralCheck, 7),
+    (Reason::NoText, 8),
+    (Reason::Unexpected, 9),
+    (Reason::Fixed, 10),
+    (Reason::NoDate, 11),
+    (Reason::UnknownCode, 12),
+    (Reason::TrailerCount, 13),
+    (Reason::TrailerTotal, 14),
+    (Reason::TooManyPayments, 15),
+    (Reason::FileTotal, 16),
+    (Reason::TooManyLanes, 17),
+    (Reason::BoardTotal, 18),
+    (Reason::FileOpen, 19),
+    (Reason::WideCheck, 20),
+    (Reason::WideNumber, 21),
+];
+
 #[test]
-fn no_two_reasons_share_a_number_or_words() {
-    let numbers: BTreeSet<u64> = Reason::ALL.iter().map(|reason| reason.number()).collect();
-    assert_eq!(numbers.len(), Reason::ALL.len());
-    assert!(!numbers.contains(&0), "0 is accepted");
+fn each_reason_has_its_number() {
+    for (reason, number) in NUMBERS {
+        assert_eq!(reason.number(), number, "{reason:?}");
+        assert_eq!(answer::<()>(&Err(reason.at(7))), (number, 7));
+    }
+    let mut all: Vec<u64> = Reason::ALL.iter().map(|reason| reason.number()).collect();
+    all.sort_unstable();
+    assert_eq!(all, (1..=21).collect::<Vec<u64>>());
+}
+
+#[test]
+fn no_two_reasons_share_words() {
     let words: BTreeSet<&str> = Reason::ALL.iter().map(|reason| reason.words()).collect();
-    assert_eq!(words.len(), Reason::ALL.len());
+    assert_eq!(words.len(), 21);
 }
 
 #[test]
@@ -140,10 +173,8 @@ fn each_number_with_its_place() {
         16,
     );
     assert_eq!(out, [0; 44]);
-    // No computed check needs two places.
-    let occurs = |reason: &&Reason| **reason != Reason::WideCheck;
-    let all = Reason::ALL.iter().filter(occurs);
-    assert_eq!(seen, all.map(|reason| reason.number()).collect());
+    // All but 20: no computed check needs two places.
+    assert_eq!(seen, (1..=21).filter(|&number| number != 20).collect());
 }
 
 #[test]
@@ -241,10 +272,9 @@ fn checks_and_dates_answer_any_bytes() {
     assert_eq!(Modulus::Eleven.remainder(b""), Ok(0));
     assert_answer(Modulus::Eleven.remainder(b"12x"), 2, 3);
     assert_answer(Modulus::Ten.check_digit(&[255]), 2, 1);
-    assert_eq!(
-        Modulus::Eleven.remainder(&[b'9'; 100_000]).map(|r| r < 11),
-        Ok(true)
-    );
+    // Under modulo 10 each 9 adds 9; under modulo 11 each eight of them add 9 * 44, and the three left add 81.
+    assert_eq!(Modulus::Ten.remainder(&[b'9'; 100_003]), Ok(7));
+    assert_eq!(Modulus::Eleven.remainder(&[b'9'; 100_003]), Ok(4));
     assert_answer(Date::read(b""), 1, 0);
     assert_answer(Date::read(b"2024010"), 1, 0);
     assert_answer(Date::read(b"2024010x"), 2, 8);

@@ -123,13 +123,16 @@ fn closed_sessions_are_equal() {
     assert_eq!(session, closed);
 }
 
+/// `finish` borrows the session, so it changes nothing.
 #[test]
-fn finish_changes_nothing() {
-    let session = opened();
-    let before = session.clone();
-    assert_answer(session.finish(), 19, 0);
-    assert_eq!(session, before);
+fn finish_answers_for_an_open_file() {
     assert_answer(Session::new().finish(), 0, 0);
+    let mut session = opened();
+    assert_answer(session.finish(), 19, 0);
+    assert_answer(session.take(&g(&p4_code(), 5)), 0, 0);
+    assert_answer(session.finish(), 19, 0);
+    assert_answer(session.take(&z(3, 5)), 0, 0);
+    assert_answer(session.finish(), 0, 0);
 }
 
 #[test]

@@ -8,28 +8,17 @@ use reference::{days, line, Modulus};
 
 #[test]
 fn changes_that_pass_under_modulo_11() {
+    // A 0 to 8, segment 2 to 9, and kind 7 to 9.
     let samples = [
         (
             b"818000000004014361582218011100202310001303003101",
             25,
-            b'0',
             b'8',
         ),
-        (
-            b"829000000000011351990220303000212303030330100000",
-            2,
-            b'2',
-            b'9',
-        ),
-        (
-            b"827600000000000196040000000000000000000000000000",
-            3,
-            b'7',
-            b'9',
-        ),
+        (b"829000000000011351990220303000212303030330100000", 2, b'9'),
+        (b"827600000000000196040000000000000000000000000000", 3, b'9'),
     ];
-    for (typed, place, from, to) in samples {
-        assert_eq!(typed[place - 1], from);
+    for (typed, place, to) in samples {
         assert_answer(line::decode(typed), 0, 0);
         assert_answer(line::decode(&with_byte(*typed, place, to)), 0, 0);
     }

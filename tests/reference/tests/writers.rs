@@ -48,7 +48,13 @@ fn order_of_calls() {
     assert_eq!(out, g(&p4_code(), 109));
     assert_answer(writer.trailer(&mut out), 0, 0);
     assert_eq!(out, z(3, 109));
-    let closed = writer.clone();
+    // A closed writer keeps its count and total.
+    let closed = Writer {
+        stage: Stage::Closed,
+        taken: 1,
+        total: 109,
+    };
+    assert_eq!(writer, closed);
     assert_answer(writer.header(&header, &mut out), 9, 1);
     assert_answer(writer.payment(&payment, u64::MAX, 0, &mut out), 9, 1);
     assert_answer(writer.trailer(&mut out), 9, 1);
@@ -156,5 +162,37 @@ fn arbitrary_writers() {
     assert_answer(writer.payment(&payment_fields(), 1, 0, &mut out), 15, 1);
     assert_answer(writer.trailer(&mut out), 0, 0);
     assert_eq!(out, z(999_999, FILE_LIMIT));
-    assert_eq!(writer.stage, Stage::Closed);
+    let closed = Writer {
+        stage: Stage::Closed,
+        taken: 999_997,
+        total: FILE_LIMIT,
+    };
+    assert_eq!(writer, closed);
+}
+
+/// A fresh writer in an arbitrary state: refusals keep its count and total, an accepted A starts them at 0.
+#[test]
+fn arbitrary_fresh_writers() {
+    for (taken, total) in [(5, 0), (0, 5), (999_997, FILE_LIMIT), (u64::MAX, u64::MAX)] {
+        let mut out = [7; 150];
+        let mut writer = Writer {
+            stage: Stage::Fresh,
+            taken,
+            total,
+        };
+        let before = writer.clone();
+        let bad = with_byte(header_fields(), 78, b'o');
+        assert_answer(writer.header(&bad, &mut out), 10, 82);
+        assert_answer(writer.payment(&payment_fields(), 1, 1, &mut out), 9, 1);
+        assert_answer(writer.trailer(&mut out), 9, 1);
+        assert_eq!((&writer, out), (&before, [7; 150]));
+        assert_answer(writer.header(&header_fields(), &mut out), 0, 0);
+        assert_eq!(out, a());
+        let open = Writer {
+            stage: Stage::Open,
+            taken: 0,
+            total: 0,
+        };
+        assert_eq!(writer, open);
+    }
 }

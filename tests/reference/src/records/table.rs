@@ -68,8 +68,7 @@ pub const TABLE: [Row; 28] = [
     row(b'Z', 25, 150, Content::Fixed(&[b' '; 126])),
 ];
 
-// The rows by name.
-pub const A_LETTER: usize = 0;
+// The rows by name. The letters, rows 0, 11 and 24, have none: a letter is read before the fields.
 pub const A_RETURN: usize = 1;
 pub const A_AGREEMENT: usize = 2;
 pub const A_COMPANY: usize = 3;
@@ -80,7 +79,6 @@ pub const A_SEQUENCE: usize = 7;
 pub const A_VERSION: usize = 8;
 pub const A_SERVICE: usize = 9;
 pub const A_BLANK: usize = 10;
-pub const G_LETTER: usize = 11;
 pub const G_ACCOUNT: usize = 12;
 pub const G_PAID: usize = 13;
 pub const G_CREDITED: usize = 14;
@@ -93,7 +91,6 @@ pub const G_CAPTURE: usize = 20;
 pub const G_AUTHENTICATION: usize = 21;
 pub const G_FORM: usize = 22;
 pub const G_BLANK: usize = 23;
-pub const Z_LETTER: usize = 24;
 pub const Z_COUNT: usize = 25;
 pub const Z_TOTAL: usize = 26;
 pub const Z_BLANK: usize = 27;

@@ -192,6 +192,23 @@ pub fn record(bytes: &[u8], allowed: &[u8]) -> Outcome<()> {
     Ok(())
 }
 
+/// The field bytes of an A or a G, for a buffer of this length.
+pub fn join(bytes: &[u8], length: usize) -> Outcome<Vec<u8>> {
+    if bytes.len() != 150 {
+        return Err((1, 0));
+    }
+    let fields = match bytes[0] {
+        b'A' => [&bytes[2..79], &bytes[82..83]].concat(),
+        b'G' => [&bytes[1..81], &bytes[100..141]].concat(),
+        _ => return Err((9, 1)),
+    };
+    if length != fields.len() {
+        return Err((1, 0));
+    }
+    record(bytes, b"AG")?;
+    Ok(fields)
+}
+
 /// A lane: segment, number, payments, centavos.
 pub type NaiveLane = (u128, u128, u128, u128);
 
@@ -309,4 +326,49 @@ impl NaiveSession {
         }
         Ok(())
     }
+}
+
+/// The page of an input.
+pub fn page(input: &[u8]) -> String {
+    let mut session = NaiveSession::default();
+    let (mut answer, mut records, mut files) = ((0, 0), 0, 0);
+    for bytes in input.chunks(150) {
+        match session.take(bytes) {
+            Ok(next) => session = next,
+            Err(refusal) => {
+                answer = refusal;
+                break;
+            }
+        }
+        records += 1;
+        if bytes[0] == b'Z' {
+            files += 1;
+        }
+    }
+    if answer.0 == 0 && session.open {
+        answer = (19, 0);
+    }
+    let NaiveBoard {
+        lanes,
+        payments,
+        centavos,
+    } = session.shown;
+    let mut text = format!(
+        "answer={}\nplace={}\nrecord={records}\nfiles={files}\n",
+        answer.0, answer.1
+    );
+    text += &format!(
+        "lanes={}\npayments={payments}\ncentavos={centavos}\n",
+        lanes.len()
+    );
+    for (i, (segment, number, payments, centavos)) in lanes.iter().enumerate() {
+        let issuer = if *segment == 6 {
+            format!("{number:08}")
+        } else {
+            format!("{number:04}")
+        };
+        text += &format!("lane={}\nissuer={segment}-{issuer}\n", i + 1);
+        text += &format!("payments={payments}\ncentavos={centavos}\n");
+    }
+    text
 }
