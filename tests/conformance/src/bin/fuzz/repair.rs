@@ -1,9 +1,7 @@
 //! Repairs check digits and trailers after a mutation, so that inputs get past those checks.
 
 use conformance::inputs::Kind;
-use reference::records::{
-    Row, G_BARCODE, G_LETTER, G_RECEIVED, LENGTH, TABLE, Z_COUNT, Z_LETTER, Z_TOTAL,
-};
+use reference::records::{Row, G_BARCODE, G_RECEIVED, LENGTH, TABLE, Z_COUNT, Z_TOTAL};
 use reference::{digits, line, Modulus};
 
 use crate::places;
@@ -46,11 +44,11 @@ fn repair_records(kind: Kind, rest: &mut [u8]) {
         let Some(record) = rest.get_mut(place..place + LENGTH) else {
             return;
         };
-        if record[0] == TABLE[G_LETTER].letter {
+        if record[0] == b'G' {
             repair_barcode(field(record, G_BARCODE));
             let received = digits::number(field(record, G_RECEIVED)).unwrap_or(0);
             (taken, total) = (taken + 1, total.saturating_add(received));
-        } else if record[0] == TABLE[Z_LETTER].letter {
+        } else if record[0] == b'Z' {
             digits::write(taken + 2, field(record, Z_COUNT));
             digits::write(total, field(record, Z_TOTAL));
         } else {
