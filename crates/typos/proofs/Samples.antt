@@ -5,11 +5,16 @@ use Rattle.decimal.specs.Numbers.{valueOf, digitsOf}
 use Rattle.modulus.specs.Checks.{addedBy, termOf, digitOfRemainder}
 use Rattle.barcode.specs.Codes.{firstThreeAnswer, generalRight}
 use Rattle.line.specs.Lines.{boxRight}
-use Rattle.typos.specs.Samples.{DirectionsMayDiffer, SegmentTypoPasses, KindTypoPasses, BordersHold}
+use Rattle.typos.specs.Samples.{DirectionsMayDiffer, BoxAloneIsRefused, SegmentTypoPasses, KindTypoPasses}
+use Rattle.typos.specs.Samples.{BordersHold}
 
 pub directions-may-differ : DirectionsMayDiffer
 unfolding firstThreeAnswer generalRight boxRight digitOfRemainder termOf addedBy digitsOf valueOf isOf
 directions-may-differ = (refl, refl, refl, refl, refl, refl)
+
+pub box-alone-is-refused : BoxAloneIsRefused
+unfolding firstThreeAnswer generalRight boxRight digitOfRemainder termOf addedBy digitsOf valueOf isOf
+box-alone-is-refused = (refl, refl, refl, refl)
 
 pub segment-typo-passes : SegmentTypoPasses
 unfolding firstThreeAnswer generalRight boxRight digitOfRemainder termOf addedBy digitsOf valueOf isOf
@@ -21,4 +26,4 @@ kind-typo-passes = (refl, refl)
 
 pub borders-hold : BordersHold
 unfolding firstThreeAnswer generalRight boxRight digitOfRemainder termOf addedBy digitsOf valueOf isOf
-borders-hold = ((refl, refl), ((refl, refl), ((refl, refl), tt)))
+borders-hold = ((refl, refl), ((refl, refl), ((refl, refl), ((refl, refl), tt))))

@@ -28,6 +28,18 @@ DirectionsMayDiffer =
     × Passes opposite
     × Passes (set opposite 24 56)
 
+-- the box's remainder alone does not decide: place 35 of a line, P8's, changed from 0 to 6 moves it from 0 to 1, and the
+-- general check is wrong
+abbrev pub sparse : List ℕ
+sparse = digitsOf lineLength 818000000004_000000100005_000000000000_000000000000
+
+abbrev pub BoxAloneIsRefused : Type 0
+BoxAloneIsRefused =
+    (boxRemainder Eleven 34 sparse ≡ 0)
+    × (boxRemainder Eleven 34 (set sparse 34 54) ≡ 1)
+    × Passes sparse
+    × (lineAnswer (set sparse 34 54) ≡ Refused WrongGeneralCheck 4)
+
 -- a typo in the segment may pass, and then names another issuer: place 2 of a line changed from 2 to 9
 abbrev pub segmented : List ℕ
 segmented = digitsOf lineLength 829000000000_011351990220_303000212303_030330100000
@@ -43,8 +55,8 @@ kinded = digitsOf lineLength 827600000000_000196040000_000000000000_000000000000
 abbrev pub KindTypoPasses : Type 0
 KindTypoPasses = Passes kinded × Passes (set kinded 2 57)
 
--- 0 and 9 exchanged at a border: the general check and the digit behind it, a box's last digit and its check, a box's
--- check and the next box
+-- 0 and 9 exchanged at a border: the general check and the digit behind it, a box's last two digits, its last digit and
+-- its check, its check and the next box
 pub record Border : Type 0 where
   pub line : List ℕ
   pub index : ℕ
@@ -55,6 +67,11 @@ borders =
     record {
       line = digitsOf lineLength 827090100039_130000000005_000003000163_000000000026;
       index = 3;
+      exchange = Accepted;
+    }
+    ∷ record {
+      line = digitsOf lineLength 817800000090_000000000000_000000000000_000000000000;
+      index = 9;
       exchange = Accepted;
     }
     ∷ record {
