@@ -5,17 +5,21 @@ use mathlib.Core.List.{List, [], _∷_, _++_, map, append-assoc, append-nil, map
 use mathlib.Core.Path.{_≡_, refl, sym, ap, subst, _∙_}
 use native.Mathlib.Omega.{arith}
 use lib.Dec.{eqb}
-use lib.ListN.{length}
+use lib.ListN.{length, length-append}
 use Rattle.answer.specs.declared.Reason.the-variants.{WrongLength, NotExpected}
 use Rattle.answer.specs.declared.Answer.{Answer}
 use Rattle.answer.specs.declared.Answer.the-variants.{Accepted, Refused}
 use Rattle.answer.specs.Orders.{require, _then_, ifAccepted}
 use Rattle.answer.proofs.Tests.{never}
 use Rattle.answer.proofs.Orders.{require-accepts, then-accepts, accepted-takes}
+use Rattle.decimal.specs.Bytes.{isOf}
+use Rattle.decimal.specs.Numbers.{valueOf, digitsOf}
+use Rattle.calendar.specs.Dates.{isLeap, daysIn, isDate, dateOf}
 use Rattle.layout.specs.declared.Record.{Record}
 use Rattle.layout.specs.declared.Record.the-variants.{Header, Payment, Trailer}
-use Rattle.layout.specs.Layouts.{recordLength, givenLength}
-use Rattle.fields.specs.Making.{makeAnswer}
+use Rattle.layout.specs.Layouts.{recordLength, givenLength, layoutOf, joinedOf}
+use Rattle.kinds.specs.Kinds.{isService, kindAnswer}
+use Rattle.fields.specs.Making.{writtenAnswer, makeAnswer}
 use Rattle.file.specs.Files.{freshFile, fileAnswer, fileWith, figuresOf, closingAnswer}
 use Rattle.session.specs.Sessions.{freshSession}
 use Rattle.writer.specs.declared.Stage.{Stage}
@@ -26,12 +30,13 @@ use Rattle.writer.specs.Writers.{paymentWritten, countBytes, trailerAnswer, tra
 use Rattle.writer.proofs.Calls.{call-size}
 use Rattle.ledger.specs.Ledgers.{Step, taking}
 use Rattle.ledger.specs.Promises.{answersOf}
+use Rattle.ledger.specs.Samples as ledger
 use Rattle.ledger.specs.WholeFiles.{AllAccepted}
 use Rattle.ledger.specs.WrittenFiles as files
 use Rattle.ledger.specs.WrittenFiles.{GivenPayment, recordOf, writtenRecords, PaymentsWritten, openedBy, Closed, trailerAfter}
 use Rattle.ledger.proofs.WrittenFiles.{closed-file-is-accepted}
 use Rattle.promises.specs.Calls.{WriterCall, header, payment, trailer, answerTo, nextWriter, writes, writerAfterCalls}
-use Rattle.promises.specs.Calls.{recordsWritten, OneFile, CallsMakeOneFile}
+use Rattle.promises.specs.Calls.{recordsWritten, OneFile, CallsMakeOneFile, headerAlone, HeaderAloneIsNoFile}
 
 -- An accepted call was expected, and its buffer has a record's length.
 
@@ -201,3 +206,22 @@ one-file calls w p (ended h gs o c r) =
 pub calls-make-one-file : CallsMakeOneFile
 calls-make-one-file calls p =
     one-file calls (writerAfterCalls freshWriter calls) p (reached freshWriter [] calls (fresh refl refl))
+
+-- A header alone: one record, and a file has two.
+
+header-alone :
+    (writerAfterCalls freshWriter headerAlone .stage ≡ stage.Open)
+    × (recordsWritten freshWriter headerAlone ≡ headerBytes (joinedOf Header ledger.header) ∷ [])
+unfolding makeAnswer writtenAnswer kindAnswer isService layoutOf givenLength
+    dateOf isDate daysIn isLeap digitsOf valueOf isOf
+header-alone = (refl, refl)
+
+pub header-alone-is-no-file : HeaderAloneIsNoFile
+header-alone-is-no-file = (
+  header-alone .0,
+  λ f.
+      let written = writtenRecords (f .payments) in
+      let last = trailerAfter (f .heading) (f .payments) ∷ [] in
+      let same = ap length (sym (header-alone .1) ∙ f .records) in
+      omega (arith, same, length-append written last),
+)

@@ -24,7 +24,9 @@ use Rattle.typos.proofs.Pieces.{boxes-are-numbered}
 use Rattle.typos.proofs.OneTen.{one-changed-digit-is-refused}
 use Rattle.typos.proofs.Exchange.{exchange-of-neighbours}
 use Rattle.typos.proofs.OneEleven.{one-changed-digit-under-eleven}
-use Rattle.typos.proofs.Samples.{directions-may-differ, borders-hold, segment-typo-passes, kind-typo-passes}
+use Rattle.typos.proofs.Samples.{directions-may-differ, box-alone-is-refused, borders-hold}
+use Rattle.typos.proofs.Samples.{segment-typo-passes, kind-typo-passes}
+use Rattle.ledger.proofs.Records.{lane-is-the-sessions, equal-is-the-boards, issuers-are-the-lanes, limits-are-the-boards}
 use Rattle.ledger.proofs.Agreement.{session-agrees, answers-are-the-ledgers, next-answer-is-the-ledgers}
 use Rattle.ledger.proofs.Sessions.{true-trailers-only, only-trailers-show, nothing-shows-before, trailers-show-all}
 use Rattle.ledger.proofs.Sessions.{abandon-keeps-board, abandon-drops-file, abandon-nothing}
@@ -101,6 +103,7 @@ demand-2 =
       bytesRun = (file-bytes-run, closed-file-bytes-run);
       answers = (session-agrees, answers-are-the-ledgers, next-answer-is-the-ledgers, run-is-the-ledgers);
       calls = (calls-agree, replies-are-the-ledgers, calls-are-steps);
+      ledger = (lane-is-the-sessions, equal-is-the-boards, issuers-are-the-lanes, limits-are-the-boards);
       lanes = (lanes-are-the-payments, lanes-in-order, each-lane-is-exact, no-issuer-has-two-lanes);
       sums = (sums-are-the-records, totals-are-the-records);
       together = (only-trailers-show, nothing-shows-before, trailers-show-all);
@@ -116,7 +119,7 @@ demand-3 =
       changed = one-changed-digit-is-refused;
       exchanged = exchange-of-neighbours;
       changedEleven = one-changed-digit-under-eleven;
-      realRefused = p6-is-a-change;
+      realRefused = (p6-is-a-change, box-alone-is-refused);
       real = (p5-is-an-exchange, p9-is-a-change, directions-may-differ, borders-hold);
       beyond = (segment-typo-passes, kind-typo-passes);
     }

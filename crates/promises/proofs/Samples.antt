@@ -23,7 +23,7 @@ use Rattle.typos.proofs.Exchange.{exchange-of-neighbours}
 use Rattle.typos.proofs.OneEleven.{one-changed-digit-under-eleven}
 use Rattle.promises.specs.Samples.{Row, outcomeOf, samples, Hold, P4IsPaid, p4, p5, p6, p8, p9}
 use Rattle.promises.specs.Samples.{ChangeUnderTen, ExchangeUnderTen, ChangeUnderEleven}
-use Rattle.promises.specs.Samples.{P5IsAnExchange, P6IsAChange, P9IsAChange}
+use Rattle.promises.specs.Samples.{P5IsAnExchange, P6IsAChange, P9IsAChange, P8HasTwoFreeParts}
 
 -- one equation between two tables gives each row's
 each-row : {A B : Type 0} (f g : A → B) (xs : List A) → map f xs ≡ map g xs → Each (λ x. f x ≡ g x) xs
@@ -123,3 +123,7 @@ p9-is-a-change =
     (c .second) (c .still) in
     let moves = subst (BothMove 46 p8) p9-is p9-moves in
     (p9-is, c, p9-place, p9-moves, subst Passes (sym p9-is) (exactly .1 (p9-place, moves)))
+
+pub p8-has-two-free-parts : P8HasTwoFreeParts
+unfolding firstThreeAnswer generalRight digitOfRemainder termOf addedBy digitsOf valueOf isOf
+p8-has-two-free-parts = (refl, refl)

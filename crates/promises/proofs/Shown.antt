@@ -1,7 +1,9 @@
 -- What a decoded record shows, by computation of the table. Assumes nothing.
 use mathlib.Core.Path.{refl}
+use Rattle.decimal.specs.Bytes.{isOf}
+use Rattle.decimal.specs.Numbers.{valueOf, digitsOf}
 use Rattle.layout.specs.Layouts.{layoutOf, table, rowAt}
-use Rattle.promises.specs.Shown.{RefusalsPointAtPlaces, RecordsShowTheirPlaces}
+use Rattle.promises.specs.Shown.{RefusalsPointAtPlaces, RecordsShowTheirPlaces, TariffIsBehindReceived}
 
 pub refusals-point-at-places : RefusalsPointAtPlaces
 unfolding rowAt table layoutOf
@@ -10,3 +12,7 @@ refusals-point-at-places = (refl, refl, refl, refl)
 pub records-show-their-places : RecordsShowTheirPlaces
 unfolding rowAt table layoutOf
 records-show-their-places rec = (refl, refl, refl)
+
+pub tariff-is-behind-received : TariffIsBehindReceived
+unfolding rowAt table layoutOf digitsOf valueOf isOf
+tariff-is-behind-received = (refl, refl)

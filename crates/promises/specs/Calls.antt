@@ -6,6 +6,8 @@ use mathlib.Core.Path.{_≡_}
 use lib.ListN.{length}
 use Rattle.answer.specs.declared.Answer.{Answer}
 use Rattle.answer.specs.Orders.{ifAccepted}
+use Rattle.layout.specs.declared.Record.the-variants.{Header}
+use Rattle.layout.specs.Layouts.{recordLength, joinedOf}
 use Rattle.board.specs.Lanes.{mostLanes, lanesFrom}
 use Rattle.session.specs.Sessions.{freshSession}
 use Rattle.writer.specs.declared.Stage.the-variants as stage
@@ -14,6 +16,7 @@ use Rattle.writer.specs.Writers.{freshWriter, headerAnswer, headerWritten, head
 use Rattle.writer.specs.Writers.{trailerAnswer, trailerWritten, trailerBytes}
 use Rattle.ledger.specs.Ledgers.{taking, lanesOfRecords}
 use Rattle.ledger.specs.Promises.{answersOf}
+use Rattle.ledger.specs.Samples as ledger
 use Rattle.ledger.specs.WholeFiles.{AllAccepted}
 use Rattle.ledger.specs.WrittenFiles.{GivenPayment, recordOf, writtenRecords, Closed, trailerAfter}
 
@@ -65,3 +68,10 @@ pub record OneFile (calls : List WriterCall) : Type 0 where
 -- Promise: calls after which the writer is closed wrote one file.
 abbrev pub CallsMakeOneFile : Type 0
 CallsMakeOneFile = (calls : List WriterCall) → writerAfterCalls freshWriter calls .stage ≡ stage.Closed → OneFile calls
+
+-- Promise: a header alone leaves the writer open, and is no file.
+abbrev pub headerAlone : List WriterCall
+headerAlone = header (joinedOf Header ledger.header) recordLength ∷ []
+
+abbrev pub HeaderAloneIsNoFile : Type 0
+HeaderAloneIsNoFile = (writerAfterCalls freshWriter headerAlone .stage ≡ stage.Open) × ¬ OneFile headerAlone

@@ -22,7 +22,9 @@ use Rattle.page.specs.Fits.{PageFits}
 use Rattle.page.specs.Plain.{ShownReadsBack}
 use Rattle.typos.specs.Typos.{PassesByChecks, BoxesAreNumbered}
 use Rattle.typos.specs.Typos.{OneChangedDigitIsRefused, ExchangeOfNeighbours, OneChangedDigitUnderEleven}
-use Rattle.typos.specs.Samples.{DirectionsMayDiffer, BordersHold, SegmentTypoPasses, KindTypoPasses}
+use Rattle.typos.specs.Samples.{DirectionsMayDiffer, BoxAloneIsRefused, BordersHold}
+use Rattle.typos.specs.Samples.{SegmentTypoPasses, KindTypoPasses}
+use Rattle.ledger.specs.Records.{LaneIsTheSessions, EqualIsTheBoards, IssuersAreTheLanes, LimitsAreTheBoards}
 use Rattle.ledger.specs.Promises.{SessionAgrees, AnswersAreTheLedgers, NextAnswerIsTheLedgers, TrueTrailersOnly}
 use Rattle.ledger.specs.Promises.{LanesAreThePayments, LanesInOrder, EachLaneIsExact, NoIssuerHasTwoLanes}
 use Rattle.ledger.specs.Promises.{SumsAreTheRecords, TotalsAreTheRecords, WithinLimits}
@@ -89,6 +91,8 @@ pub record Demand2 : Type 0 where
   -- "and each lane shows exactly the payments of accepted files,"
   pub answers : SessionAgrees × AnswersAreTheLedgers × NextAnswerIsTheLedgers × RunIsTheLedgers
   pub calls : CallsAgree × RepliesAreTheLedgers × CallsAreSteps
+  -- by the ledger, which reads payment records as the session and the board do,
+  pub ledger : LaneIsTheSessions × EqualIsTheBoards × IssuersAreTheLanes × LimitsAreTheBoards
   pub lanes : LanesAreThePayments × LanesInOrder × EachLaneIsExact × NoIssuerHasTwoLanes
   pub sums : SumsAreTheRecords × TotalsAreTheRecords
   pub together : OnlyTrailersShow × NothingShowsBefore × TrailersShowAll
@@ -108,7 +112,7 @@ pub record Demand3 : Type 0 where
   -- the whole code both move between 0 and 1."
   pub changedEleven : OneChangedDigitUnderEleven
   -- each case occurs, and a typo that the demand leaves out may pass
-  pub realRefused : P6IsAChange
+  pub realRefused : P6IsAChange × BoxAloneIsRefused
   pub real : P5IsAnExchange × P9IsAChange × DirectionsMayDiffer × BordersHold
   pub beyond : SegmentTypoPasses × KindTypoPasses
 

@@ -10,7 +10,7 @@ use Rattle.answer.specs.Orders.{Each}
 use Rattle.decimal.specs.declared.Class.the-variants.{Digit}
 use Rattle.decimal.specs.Bytes.{isOf}
 use Rattle.decimal.specs.Numbers.{digitsOf}
-use Rattle.decimal.specs.Places.{gather}
+use Rattle.decimal.specs.Places.{gather, places}
 use Rattle.calendar.specs.declared.MaybeDate.{MaybeDate}
 use Rattle.calendar.specs.declared.MaybeDate.the-variants.{On, NoDate}
 use Rattle.calendar.specs.Dates.{dateOf}
@@ -20,7 +20,7 @@ use Rattle.modulus.specs.Checks.{checkOf, exchanged, ZeroAndNine}
 use Rattle.barcode.specs.declared.Decoded.{Decoded}
 use Rattle.barcode.specs.declared.Fields.{Fields}
 use Rattle.barcode.specs.Codes as barcodes
-use Rattle.barcode.specs.Codes.{checked, digitAt, product, isSegment, noFields}
+use Rattle.barcode.specs.Codes.{checked, digitAt, product, isSegment, noFields, shownFree}
 use Rattle.barcode.specs.RoundTrips.{answerOfBarcode, shownFields}
 use Rattle.line.specs.Lines as lines
 use Rattle.board.specs.declared.Lane.{Lane}
@@ -219,3 +219,9 @@ pub record ChangeUnderEleven (line : List ℕ) (i d : ℕ) : Type 0 where
 abbrev pub P9IsAChange : Type 0
 P9IsAChange =
     (p9 ≡ set p8 46 54) × ChangeUnderEleven p8 46 54 × NoCheck 46 × BothMove 46 p8 p9 × Passes p9
+
+-- Promise: two parts of P8's barcode have the bytes of its free field, so they do not tell where it is.
+abbrev pub P8HasTwoFreeParts : Type 0
+P8HasTwoFreeParts =
+    (places 20 44 (lines.codeOf p8) ≡ shownFree (lines.codeOf p8))
+    × (places 19 43 (lines.codeOf p8) ≡ shownFree (lines.codeOf p8))

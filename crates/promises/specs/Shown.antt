@@ -11,6 +11,7 @@ use Rattle.barcode.specs.Codes.{fieldsOf}
 use Rattle.file.specs.Files.{countPlace, totalPlace}
 use Rattle.layout.specs.Layouts.{rowAt, receivedRow, barcodeRow, countRow, totalRow}
 use Rattle.record.specs.Values.{dayOf, headerShown, paymentShown, trailerShown}
+use Rattle.ledger.specs.Samples as ledger
 
 abbrev pub numberAt : ℕ → ℕ → List ℕ → ℕ
 numberAt first last rec = numberOf (places first last rec)
@@ -42,3 +43,8 @@ RecordsShowTheirPlaces =
       number = numberAt 101 108 rec;
     })
     × (trailerShown rec ≡ record { count = numberAt 2 7 rec; total = numberAt 8 24 rec })
+
+-- Promise: the last digit received, at place 93, is no part of the tariff: a payment of 109 centavos without tariff.
+abbrev pub TariffIsBehindReceived : Type 0
+TariffIsBehindReceived =
+    (paymentShown (ledger.payment 109) .tariff ≡ 0) × (numberAt 93 100 (ledger.payment 109) ≡ 90_000_000)
