@@ -14,7 +14,7 @@ directions-may-differ = (refl, refl, refl, refl, refl, refl)
 
 pub box-alone-is-refused : BoxAloneIsRefused
 unfolding firstThreeAnswer generalRight boxRight digitOfRemainder termOf addedBy digitsOf valueOf isOf
-box-alone-is-refused = (refl, refl, refl, refl)
+box-alone-is-refused = (refl, refl, refl, refl, refl, refl)
 
 pub segment-typo-passes : SegmentTypoPasses
 unfolding firstThreeAnswer generalRight boxRight digitOfRemainder termOf addedBy digitsOf valueOf isOf

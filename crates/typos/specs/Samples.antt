@@ -28,8 +28,8 @@ DirectionsMayDiffer =
     × Passes opposite
     × Passes (set opposite 24 56)
 
--- the box's remainder alone does not decide: place 35 of a line, P8's, changed from 0 to 6 moves it from 0 to 1, and the
--- general check is wrong
+-- the box's remainder alone does not decide: place 35 of a line, P8's, changed from 0 to 6 moves it from 0 to 1, but the
+-- code's from 0 to 8
 abbrev pub sparse : List ℕ
 sparse = digitsOf lineLength 818000000004_000000100005_000000000000_000000000000
 
@@ -37,6 +37,8 @@ abbrev pub BoxAloneIsRefused : Type 0
 BoxAloneIsRefused =
     (boxRemainder Eleven 34 sparse ≡ 0)
     × (boxRemainder Eleven 34 (set sparse 34 54) ≡ 1)
+    × (codeRemainder Eleven sparse ≡ 0)
+    × (codeRemainder Eleven (set sparse 34 54) ≡ 8)
     × Passes sparse
     × (lineAnswer (set sparse 34 54) ≡ Refused WrongGeneralCheck 4)
 
