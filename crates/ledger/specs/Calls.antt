@@ -12,7 +12,8 @@ use Rattle.answer.specs.Orders.{require, _then_, ifAccepted}
 use Rattle.session.specs.declared.Session.{Session}
 use Rattle.session.specs.Sessions.{freshSession, takeOf, finishOf}
 use Rattle.session.specs.Runs.{piecesOf, runOf}
-use Rattle.ledger.specs.Ledgers.{Ledger, freshLedger, ledgerAnswer, Step, taking, abandoning, ledgerStep, ledgerAfter}
+use Rattle.ledger.specs.Ledgers.{Ledger, freshLedger, ledgerAnswer, Step, taking, abandoning}
+use Rattle.ledger.specs.Ledgers.{ledgerStep, ledgerAfter}
 use Rattle.ledger.specs.Promises.{sessionStep, isOpen, reached, ledgerOf, Agrees}
 
 -- taking a record or abandoning, a run over bytes, finishing

@@ -21,8 +21,8 @@ use Rattle.board.specs.Boards.{lanesOf, SoundBoard}
 use Rattle.session.specs.declared.Session.{Session}
 use Rattle.session.specs.Sessions.{freshSession, takeAnswer, takeOf, abandonOf, finishOf}
 use Rattle.ledger.specs.Ledgers.{Opened, Ledger, freshLedger, paymentRecords, openRecords, lanesOfRecords}
-use Rattle.ledger.specs.Ledgers.{receivedIn, ofIssuer, issuersNamed, ledgerAnswer, Step, taking, abandoning, ledgerAfter}
-use Rattle.ledger.specs.Ledgers.{ledgerAnswers}
+use Rattle.ledger.specs.Ledgers.{receivedIn, ofIssuer, issuersNamed, ledgerAnswer, Step, taking, abandoning}
+use Rattle.ledger.specs.Ledgers.{ledgerAfter, ledgerAnswers}
 
 -- The same steps through a session.
 

@@ -28,7 +28,7 @@ DirectionsMayDiffer =
     × Passes opposite
     × Passes (set opposite 24 56)
 
--- the box's remainder alone does not decide: place 35 of a line, P8's, changed from 0 to 6 moves it from 0 to 1, but the
+-- the box's remainder alone does not decide: place 35 of P8's line changed from 0 to 6 moves it from 0 to 1, but the
 -- code's from 0 to 8
 abbrev pub sparse : List ℕ
 sparse = digitsOf lineLength 818000000004_000000100005_000000000000_000000000000
