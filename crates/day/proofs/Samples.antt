@@ -1,4 +1,4 @@
--- The worked input, with and without its trailer, by computation. Assumes nothing.
+-- The worked input, without its trailer, and behind a refusal, by computation. Assumes nothing.
 use mathlib.Core.Path.{refl}
 use Rattle.decimal.specs.Bytes.{isOf}
 use Rattle.decimal.specs.Numbers.{valueOf, digitsOf}
@@ -13,17 +13,20 @@ use Rattle.board.specs.Lanes.{fits}
 use Rattle.board.specs.Boards.{ownOf, usedAfter, slotAnswer}
 use Rattle.page.specs.Plain.{neededIn}
 use Rattle.page.specs.Pages.{numberLine, issuerLine, tallyLines, laneLines, headLines}
-use Rattle.day.specs.Samples.{WorkedInput, OpenInput}
+use Rattle.day.specs.Samples.{WorkedInput, OpenInput, RefusedInput}
 
-both : WorkedInput × OpenInput
+all : WorkedInput × OpenInput × RefusedInput
 unfolding recordAnswer fieldAnswer kindAnswer isService isCapture isForm namedBy layoutOf table rowAt
     figuresAnswer fileAnswer fits ownOf usedAfter slotAnswer firstThreeAnswer generalRight
     termOf addedBy digitOfRemainder dateOf isDate daysIn isLeap digitsOf valueOf isOf
     neededIn numberLine issuerLine tallyLines laneLines headLines
-both = (refl, refl)
+all = (refl, refl, refl)
 
 pub worked-input : WorkedInput
-worked-input = both .0
+worked-input = all .0
 
 pub open-input : OpenInput
-open-input = both .1
+open-input = all .1
+
+pub refused-input : RefusedInput
+refused-input = all .2

@@ -1,4 +1,5 @@
--- The worked input (SPEC.md, "The program quadro"), from its bytes to the bytes printed. Assumes nothing.
+-- The worked input (SPEC.md, "The program quadro"), from its bytes to the bytes printed; without its end, and behind a
+-- refusal. Assumes nothing.
 use Prim.Native.Nat.{ℕ}
 use mathlib.Core.List.{List, _++_}
 use mathlib.Core.Path.{_≡_}
@@ -20,6 +21,10 @@ workedInput = openInput ++ trailer 3 109
 abbrev pub WorkedInput : Type 0
 WorkedInput = pageOfInput workedInput ≡ workedPage
 
--- Promise: without its Z it is refused 19 at place 0, after two records and no file, and no lane is shown.
+-- Promise: without its Z the worked input is refused 19 at place 0, after two records and no file, and no lane is shown.
 abbrev pub OpenInput : Type 0
 OpenInput = pageOfInput openInput ≡ pageOf 19 0 2 0 freshBoard
+
+-- Promise: a lone Z is refused 9 at place 1, and the worked input behind it is not taken.
+abbrev pub RefusedInput : Type 0
+RefusedInput = pageOfInput (trailer 3 109 ++ workedInput) ≡ pageOf 9 1 0 0 freshBoard

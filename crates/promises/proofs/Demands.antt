@@ -42,7 +42,7 @@ use Rattle.ledger.proofs.WrittenFiles.{closed-file-bytes-run}
 use Rattle.ledger.proofs.WholeFiles.{file-accepted, file-posted, fresh-session-accepts, fresh-session-shows}
 use Rattle.ledger.proofs.WrittenFiles.{closed-file-is-whole, closed-file-is-accepted, fields-write-the-file}
 use Rattle.day.proofs.Inputs.{buffers-print-one-page}
-use Rattle.day.proofs.Samples.{worked-input, open-input}
+use Rattle.day.proofs.Samples.{worked-input, open-input, refused-input}
 use Rattle.promises.specs.Demands.{Demand1, Demand2, Demand3, Promised}
 use Rattle.promises.proofs.Calls.{calls-make-one-file}
 use Rattle.promises.proofs.OneOutcome.{one-outcome}
@@ -131,5 +131,5 @@ promised =
       second = demand-2;
       third = demand-3;
       p1ToP12 = samples-hold;
-      program = (buffers-print-one-page, worked-input, open-input);
+      program = (buffers-print-one-page, worked-input, open-input, refused-input);
     }

@@ -38,7 +38,7 @@ use Rattle.ledger.specs.WholeFiles.{LedgerFilesAreWhole}
 use Rattle.ledger.specs.WholeFiles.{FileAccepted, FilePosted, FreshSessionAccepts, FreshSessionShows}
 use Rattle.ledger.specs.WrittenFiles.{ClosedFileIsWhole, ClosedFileIsAccepted, ClosedFileBytesRun, FieldsWriteTheFile}
 use Rattle.day.specs.Inputs.{BuffersPrintOnePage}
-use Rattle.day.specs.Samples.{WorkedInput, OpenInput}
+use Rattle.day.specs.Samples.{WorkedInput, OpenInput, RefusedInput}
 use Rattle.promises.specs.Calls.{CallsMakeOneFile}
 use Rattle.promises.specs.OneOutcome.{OneOutcome}
 use Rattle.promises.specs.Refusals.{RefusalsChangeNothing}
@@ -122,6 +122,6 @@ pub record Promised : Type 2 where
   pub second : Demand2
   pub third : Demand3
   pub p1ToP12 : Hold samples
-  -- `quadro` prints `pageOfInput` of the input's bytes, in whatever buffers they come; two inputs and their pages. That
+  -- `quadro` prints `pageOfInput` of the input's bytes, in whatever buffers they come; three inputs and their pages. That
   -- the program runs the buffers that it reads in this way is `OverIsTheInputs`, in its own crate.
-  pub program : BuffersPrintOnePage × WorkedInput × OpenInput
+  pub program : BuffersPrintOnePage × WorkedInput × OpenInput × RefusedInput
