@@ -1,7 +1,6 @@
 // One lane: sums within the limit, and a payment posted to a slot.
 ghost use mathlib.Core.Path.{_≡_};
-ghost use mathlib.Core.Bool.{true};
-ghost use Prim.Native.Nat.{_+_, _<_};
+ghost use Prim.Native.Nat.{_+_, _≤_, _<_};
 ghost use lib.Dec.{leb};
 ghost use Rattle.board.specs.Lanes.{limit, mostLanes, plus, fits, isLaneOf, laneOfOne};
 ghost use Rattle.board.specs.Boards.{ownOf, usedAfter, slotResultOf};
@@ -36,7 +35,7 @@ impl Tally {
     }
 
     fn plus(self, more: Tally) -> Tally
-        requires { ⌜ fits (plus self more) ≡ true ⌝ }
+        requires { ⌜ (self .payments + more .payments ≤ limit) × (self .centavos + more .centavos ≤ limit) ⌝ }
         ensures { λ r. ⌜ r ≡ plus self more ⌝ }
     {
         Tally {

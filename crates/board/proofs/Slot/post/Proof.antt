@@ -3,6 +3,7 @@ use mathlib.Core.Path.{sym, _∙_}
 use native.Mathlib.Omega.{arith}
 use borrow.Author.Needs.{needs}
 use borrow.Author.Tests.{le-ltb, not-true, not-false}
+use Rattle.board.proofs.Tallies.{low}
 use Rattle.board.proofs.Slots.{own-passed, total-passed, within}
 use Rattle.board.specs.Boards.{slotAnswer}
 use Rattle.board.specs.Lanes.{mostLanes}
@@ -41,13 +42,17 @@ returns-3 c =
     total-passed (a .self) (a .payment) _ (own .before .if1 .left) (own .own-tally .ensures) lane passed
 
 plus-requires : tie.Need-plus-requires
-plus-requires c κs = sym (c .before .before .before .before .has-room-for .ensures) ∙ not-false _ (c .before .before .before .if2 .left)
+plus-requires c κs =
+    let fits = low _ (sym (c .before .before .before .before .has-room-for .ensures) ∙ not-false _ (c .before .before .before .if2 .left)) in
+    (fits .payments, fits .centavos)
 
 used-after-requires : tie.Need-used-after-requires
 used-after-requires c κs = search needs
 
 plus-requires-2 : tie.Need-plus-requires-2
-plus-requires-2 c κs = sym (c .before .before .before .before .has-room-for2 .ensures) ∙ not-false _ (c .before .before .before .if3 .left)
+plus-requires-2 c κs =
+    let fits = low _ (sym (c .before .before .before .before .has-room-for2 .ensures) ∙ not-false _ (c .before .before .before .if3 .left)) in
+    (fits .payments, fits .centavos)
 
 returns-4 : tie.Need-returns-4
 returns-4 c =
