@@ -29,7 +29,7 @@ mod writers;
 pub use codes::{barcode, check_digit, line, Date, Fields, Issuer, Modulus};
 pub use record::{Header, Payment, Record, Trailer};
 pub use refusal::{Reason, Refusal};
-pub use sessions::{page, Board, Lane, RunResult, Session, Tally, LANES};
+pub use sessions::{page, Board, Lane, Limits, RunResult, Session, Tally, LANES};
 pub use writers::Writer;
 
 /// The version of this crate and of the library it is for.

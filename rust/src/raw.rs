@@ -131,7 +131,7 @@ pub struct PageResult {
 }
 
 const _: () = {
-    use crate::{Board, Issuer, Lane, Tally};
+    use crate::{Board, Issuer, Lane, Limits, Tally};
     assert!(size_of::<Answer>() == 16 && offset_of!(Answer, place) == 8);
     assert!(size_of::<Part>() == 16 && offset_of!(Part, length) == 8);
     assert!(size_of::<Date>() == 24 && offset_of!(Date, month) == 8 && offset_of!(Date, day) == 16);
@@ -162,6 +162,8 @@ const _: () = {
     assert!(size_of::<Board>() == 2072);
     assert!(size_of::<Session>() == 4168 && offset_of!(Session, work) == 2072);
     assert!(offset_of!(Session, opened) == 4144 && offset_of!(Session, file) == 4152);
+    assert!(size_of::<Limits>() == 40 && offset_of!(Limits, record_length) == 8);
+    assert!(offset_of!(Limits, payments) == 16 && offset_of!(Limits, file_total) == 24);
     assert!(size_of::<TakeResult>() == 4184 && offset_of!(TakeResult, session) == 16);
     assert!(
         size_of::<RunResult>() == 4200
@@ -230,6 +232,7 @@ extern "C" {
     ) -> WriteResult;
     pub fn hollytrot_writer_trailer(writer: Writer, out: *mut u8, out_length: usize)
         -> WriteResult;
+    pub fn hollytrot_session_limits() -> crate::Limits;
     pub fn hollytrot_session_new() -> Session;
     pub fn hollytrot_session_take(session: Session, bytes: *const u8, length: usize) -> TakeResult;
     pub fn hollytrot_session_run(session: Session, bytes: *const u8, length: usize) -> RunResult;

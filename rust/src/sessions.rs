@@ -51,6 +51,22 @@ impl Board {
     }
 }
 
+/// The limits of every session.
+#[repr(C)]
+#[derive(Clone, Copy, Debug, PartialEq, Eq, Hash)]
+pub struct Limits {
+    /// The lanes of a board.
+    pub lanes: usize,
+    /// The bytes of a record.
+    pub record_length: usize,
+    /// The payments of a file.
+    pub payments: u64,
+    /// The centavos of a file.
+    pub file_total: u64,
+    /// The most that the payments or the centavos of a board may reach.
+    pub board_total: u64,
+}
+
 /// Takes the records of return files. The payments of a file appear on the board together, when its trailer is
 /// accepted.
 #[derive(Clone, Debug, PartialEq, Eq)]
@@ -74,6 +90,12 @@ impl Default for Session {
 }
 
 impl Session {
+    /// The limits of every session.
+    pub fn limits() -> Limits {
+        // SAFETY: the call has no arguments.
+        unsafe { raw::hollytrot_session_limits() }
+    }
+
     /// A session with no file open and an empty board.
     pub fn new() -> Session {
         // SAFETY: the call has no arguments.

@@ -2,8 +2,8 @@
 
 use hollytrot::record::{self, Row};
 use hollytrot::{
-    barcode, check_digit, line, page, Date, Fields, Issuer, Modulus, Reason, Record, Refusal,
-    Session, Writer,
+    barcode, check_digit, line, page, Date, Fields, Issuer, Limits, Modulus, Reason, Record,
+    Refusal, Session, Writer, LANES, RECORD,
 };
 
 const P4: &[u8] = b"817700000000010936599702411310797039001433708318";
@@ -48,6 +48,18 @@ fn refusals_say_number_place_and_reason() {
         line::to_barcode(&p6).unwrap_err().to_string(),
         "refused 6 at place 48: the check of a box is wrong"
     );
+}
+
+#[test]
+fn limits_are_those_of_the_constants() {
+    let limits = Limits {
+        lanes: LANES,
+        record_length: RECORD,
+        payments: 999_997,
+        file_total: 99_999_999_999_999_999,
+        board_total: 1_000_000_000_000_000_000,
+    };
+    assert_eq!(Session::limits(), limits);
 }
 
 #[test]

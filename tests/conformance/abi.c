@@ -55,6 +55,11 @@ SIZE(hollytrot_session, 4168);
 AT(hollytrot_session, work, 2072);
 AT(hollytrot_session, opened, 4144);
 AT(hollytrot_session, file, 4152);
+SIZE(hollytrot_limits, 40);
+AT(hollytrot_limits, record_length, 8);
+AT(hollytrot_limits, payments, 16);
+AT(hollytrot_limits, file_total, 24);
+AT(hollytrot_limits, board_total, 32);
 SIZE(hollytrot_take_result, 4184);
 AT(hollytrot_take_result, session, 16);
 SIZE(hollytrot_run_result, 4200);
@@ -244,6 +249,17 @@ static void same_session(int line, const hollytrot_session *found, const hollytr
     SAME(found->file.total, wanted->file.total);
 }
 
+/* The limits of the library are those of the header and of SPEC.md, "Limits". */
+static void limits(void)
+{
+    hollytrot_limits limits = hollytrot_session_limits();
+    SAME(limits.lanes, HOLLYTROT_LANES);
+    SAME(limits.record_length, HOLLYTROT_RECORD);
+    SAME(limits.payments, 999997);
+    SAME(limits.file_total, 99999999999999999);
+    SAME(limits.board_total, 1000000000000000000);
+}
+
 static void sessions(void)
 {
     hollytrot_session session = {numbered_board(100000), numbered_board(200000), true, {8, 1000}};
@@ -329,6 +345,7 @@ int main(void)
     dates();
     writers();
     records();
+    limits();
     sessions();
     pages();
     printf("abi: %d values compared, %d wrong\n", checks, failures);

@@ -41,6 +41,7 @@ use session::Session;
 pub use sessions::hollytrot_session_abandon;
 pub use sessions::hollytrot_session_board;
 pub use sessions::hollytrot_session_finish;
+pub use sessions::hollytrot_session_limits;
 pub use sessions::hollytrot_session_new;
 pub use sessions::hollytrot_session_run;
 pub use sessions::hollytrot_session_take;

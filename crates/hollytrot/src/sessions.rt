@@ -1,13 +1,22 @@
 // Exports for a session, a value that the caller holds: each call returns the session after it.
 ghost use mathlib.Core.Path.{_≡_};
-ghost use Rattle.session.specs.Sessions.{freshSession, takeOf, abandonOf, finishOf};
+ghost use Rattle.session.specs.Sessions.{sessionLimits, freshSession, takeOf, abandonOf, finishOf};
 ghost use Rattle.session.specs.Runs.{runOf};
 ghost use Rattle.hollytrot.specs.Forms.{cTakeResultOf, cRunResultOf};
 use crate::CRunResult;
 use crate::CTakeResult;
 use crate::forms;
 use board::Board;
+use session::Limits;
 use session::Session;
+
+// The limits of every session: its constants, which cannot cross themselves.
+#[no_mangle]
+pub extern "C" fn hollytrot_session_limits() -> Limits
+    ensures { λ r. ⌜ r ≡ sessionLimits ⌝ }
+{
+    Session::limits()
+}
 
 // A session with no file open and an empty board.
 #[no_mangle]

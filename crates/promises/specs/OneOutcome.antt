@@ -130,6 +130,7 @@ pub record BoardOutcomes : Type 2 where
   pub board·Board·post : One board.Board.post.ended (λ M. board.Board.post.clauses)
 
 pub record SessionOutcomes : Type 2 where
+  pub session·Session·limits : One session.Session.limits.ended (λ M. session.Session.limits.clauses)
   pub session·Session·new : One session.Session.new.ended (λ M. session.Session.new.clauses)
   pub session·Session·take : One session.Session.take.ended (λ M. session.Session.take.clauses)
   pub session·Session·abandon : One session.Session.abandon.ended (λ M. session.Session.abandon.clauses)
@@ -179,6 +180,8 @@ pub record HollytrotOutcomes : Type 2 where
       One hollytrot.«hollytrot_record_field».ended (λ M. hollytrot.«hollytrot_record_field».clauses)
   pub «hollytrot·hollytrot_record_join» :
       One hollytrot.«hollytrot_record_join».ended (λ M. hollytrot.«hollytrot_record_join».clauses)
+  pub hollytrot·hollytrot_session_limits :
+      One hollytrot.hollytrot_session_limits.ended (λ M. hollytrot.hollytrot_session_limits.clauses)
   pub hollytrot·hollytrot_session_new :
       One hollytrot.hollytrot_session_new.ended (λ M. hollytrot.hollytrot_session_new.clauses)
   pub hollytrot·hollytrot_session_take :

@@ -19,13 +19,25 @@ use Rattle.record.specs.declared.Decoded.the-variants as decoded
 use Rattle.record.specs.Values.{decodedRecord}
 use Rattle.file.specs.declared.File.{File}
 use Rattle.file.specs.declared.Figures.{Figures}
-use Rattle.file.specs.Files.{freshFile, fileAnswer, fileWith, figuresAnswer}
+use Rattle.file.specs.Files.{mostPayments, mostCentavos, freshFile, fileAnswer, fileWith, figuresAnswer}
 use Rattle.board.specs.declared.Lane.{Lane}
 use Rattle.board.specs.declared.Board.{Board}
-use Rattle.board.specs.Lanes.{laneOfOne}
+use Rattle.board.specs.Lanes.{mostLanes, limit, laneOfOne}
 use Rattle.board.specs.Boards.{freshBoard, postAnswer, boardWith}
 use Rattle.session.specs.declared.Session.{Session}
 use Rattle.session.specs.declared.TakeResult.{TakeResult}
+use Rattle.session.specs.declared.Limits.{Limits}
+
+-- the lanes of a board and the bytes of a record, the payments and the centavos of a file, the most a board's sums reach
+abbrev pub sessionLimits : Limits
+sessionLimits =
+    record {
+      lanes = mostLanes;
+      «record_length» = recordLength;
+      payments = mostPayments;
+      «file_total» = mostCentavos;
+      «board_total» = limit;
+    }
 
 -- no file open, and this board shown; the working board is the board shown
 abbrev pub closedAt : Board → Session

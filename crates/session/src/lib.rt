@@ -4,6 +4,8 @@ mod pieces;
 mod running;
 mod taking;
 
+ghost use mathlib.Core.Path.{_≡_};
+ghost use Rattle.session.specs.Sessions.{sessionLimits};
 use answer::Answer;
 use board::Board;
 use file::File;
@@ -33,8 +35,18 @@ pub struct RunResult {
     pub files: u64,
 }
 
-// The limits of a session, from the crates that check them: lanes, bytes of a record, payments and centavos of a file,
-// payments and centavos of the board.
+// The limits of a session: the lanes of its board, the bytes of a record, the payments of a file, the centavos of a
+// file, and the most that the payments or the centavos of the board may reach.
+#[repr(C)]
+pub struct Limits {
+    pub lanes: usize,
+    pub record_length: usize,
+    pub payments: u64,
+    pub file_total: u64,
+    pub board_total: u64,
+}
+
+// The limits one by one, from the crates that check them.
 impl Session {
     pub const LANES: usize = Board::LANES;
 
@@ -45,4 +57,17 @@ impl Session {
     pub const FILE_TOTAL: u64 = File::MOST_CENTAVOS;
 
     pub const BOARD_TOTAL: u64 = Board::TOTAL;
+
+    // The limits of every session: its constants, for a caller that cannot name them.
+    pub fn limits() -> Limits
+        ensures { λ r. ⌜ r ≡ sessionLimits ⌝ }
+    {
+        Limits {
+            lanes: Self::LANES,
+            record_length: Self::RECORD,
+            payments: Self::PAYMENTS,
+            file_total: Self::FILE_TOTAL,
+            board_total: Self::BOARD_TOTAL,
+        }
+    }
 }
