@@ -1,5 +1,5 @@
--- The worked input (SPEC.md, "The program quadro"), from its bytes to the bytes printed; without its end, and behind a
--- refusal. Assumes nothing.
+-- The worked input (SPEC.md, "Samples"), from its bytes to the bytes printed; without its Z, and behind a refusal.
+-- Assumes nothing.
 use Prim.Native.Nat.{ℕ}
 use mathlib.Core.List.{List, _++_}
 use mathlib.Core.Path.{_≡_}
@@ -13,7 +13,7 @@ use Rattle.day.specs.Inputs.{pageOfInput}
 abbrev pub openInput : List ℕ
 openInput = header ++ payment 109
 
--- and Z: 450 bytes
+-- the open input and its Z: 450 bytes
 abbrev pub workedInput : List ℕ
 workedInput = openInput ++ trailer 3 109
 
@@ -21,7 +21,7 @@ workedInput = openInput ++ trailer 3 109
 abbrev pub WorkedInput : Type 0
 WorkedInput = pageOfInput workedInput ≡ workedPage
 
--- Promise: without its Z the worked input is refused 19 at place 0, after two records and no file, and no lane is shown.
+-- Promise: without its Z the worked input is refused 19 at place 0: two records, no file, and no lane is shown.
 abbrev pub OpenInput : Type 0
 OpenInput = pageOfInput openInput ≡ pageOf 19 0 2 0 freshBoard
 

@@ -25,7 +25,7 @@ abbrev pub nextLedgerAnswer : Ledger → List (List ℕ) → Answer
 nextLedgerAnswer k [] = Accepted
 nextLedgerAnswer k (rec ∷ recs) = ledgerAnswer k rec
 
--- a file's records, and the bytes of records with nothing between them
+-- a file's records, and the bytes of records or of buffers with nothing between them
 abbrev pub recordsOf : List ℕ → List (List ℕ) → List ℕ → List (List ℕ)
 recordsOf a recs z = a ∷ (recs ++ (z ∷ []))
 

@@ -1,4 +1,4 @@
--- The worked file (SPEC.md, "The program quadro"), a day past 32 bits, and other histories, each from a fresh session.
+-- The worked file (SPEC.md, "Samples"), a day past 32 bits, and other histories, each from a fresh session.
 -- Assumes nothing.
 use Prim.Native.Nat.{ℕ, zero, suc, _+_}
 use mathlib.Core.List.{List, [], _∷_, _++_, map}
@@ -97,7 +97,7 @@ pub record Sample : Type 0 where
   pub steps : List Step
   pub outcome : Outcome
 
--- SPEC.md, "The program quadro": one G with the barcode of P4 and 109 centavos received
+-- SPEC.md, "Samples", the worked page: one G with the barcode of P4 and 109 centavos received
 abbrev pub worked : Sample
 worked =
     record {

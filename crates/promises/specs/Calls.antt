@@ -69,9 +69,10 @@ pub record OneFile (calls : List WriterCall) : Type 0 where
 abbrev pub CallsMakeOneFile : Type 0
 CallsMakeOneFile = (calls : List WriterCall) → writerAfterCalls freshWriter calls .stage ≡ stage.Closed → OneFile calls
 
--- Promise: a header alone leaves the writer open, and is no file.
+-- one call: the header of the samples
 abbrev pub headerAlone : List WriterCall
 headerAlone = header (joinedOf Header ledger.header) recordLength ∷ []
 
+-- Promise: a header alone leaves the writer open, and is no file.
 abbrev pub HeaderAloneIsNoFile : Type 0
 HeaderAloneIsNoFile = (writerAfterCalls freshWriter headerAlone .stage ≡ stage.Open) × ¬ OneFile headerAlone

@@ -122,6 +122,6 @@ pub record Promised : Type 2 where
   pub second : Demand2
   pub third : Demand3
   pub p1ToP12 : Hold samples
-  -- `quadro` prints `pageOfInput` of the input's bytes, in whatever buffers they come; three inputs and their pages. That
-  -- the program runs the buffers that it reads in this way is `OverIsTheInputs`, in its own crate.
+  -- `quadro` prints `pageOfInput` of the input's bytes, in whatever buffers they come; three inputs and their pages.
+  -- That a day of the program is the day of the buffers that it read is `OverIsTheInputs`, in its own crate.
   pub program : BuffersPrintOnePage × WorkedInput × OpenInput × RefusedInput
