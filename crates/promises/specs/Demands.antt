@@ -123,5 +123,5 @@ pub record Promised : Type 2 where
   pub third : Demand3
   pub p1ToP12 : Hold samples
   -- `quadro` prints `pageOfInput` of the input's bytes, in whatever buffers they come; three inputs and their pages.
-  -- That a day of the program is the day of the buffers that it read is `OverIsTheInputs`, in its own crate.
+  -- That a day of the program that is over is the day of the buffers it read is `OverIsTheInputs`, in its own crate.
   pub program : BuffersPrintOnePage × WorkedInput × OpenInput × RefusedInput
