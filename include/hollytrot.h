@@ -313,8 +313,8 @@ typedef struct hollytrot_run_result {
     uint64_t files;
 } hollytrot_run_result;
 
-/* The limits of every session ("Limits"): the lanes of its board, the bytes of a record, the payments and the centavos
- * of a file, and the most that the payments or the centavos of its board may reach. */
+/* The limits of every session ("Limits"): the lanes of its board, the bytes of a record, the most payments and the most
+ * centavos of a file, and the most that the payments or the centavos of its board may reach. */
 typedef struct hollytrot_limits {
     size_t lanes;
     size_t record_length;
@@ -323,7 +323,7 @@ typedef struct hollytrot_limits {
     uint64_t board_total;
 } hollytrot_limits;
 
-/* The limits of this library's sessions; no call changes them. */
+/* The limits that this library checks; they are the same for every session and no call changes them. */
 hollytrot_limits hollytrot_session_limits(void);
 
 /* A session with no file open and an empty board. */

@@ -51,7 +51,7 @@ impl Board {
     }
 }
 
-/// The limits of every session.
+/// The limits of every session, by [`Session::limits`]. A number exactly at a limit is accepted.
 #[repr(C)]
 #[derive(Clone, Copy, Debug, PartialEq, Eq, Hash)]
 pub struct Limits {
@@ -59,9 +59,9 @@ pub struct Limits {
     pub lanes: usize,
     /// The bytes of a record.
     pub record_length: usize,
-    /// The payments of a file.
+    /// The most payments of a file.
     pub payments: u64,
-    /// The centavos of a file.
+    /// The most centavos of a file.
     pub file_total: u64,
     /// The most that the payments or the centavos of a board may reach.
     pub board_total: u64,
@@ -90,7 +90,7 @@ impl Default for Session {
 }
 
 impl Session {
-    /// The limits of every session.
+    /// The limits that the library checks; they are the same for every session.
     pub fn limits() -> Limits {
         // SAFETY: the call has no arguments.
         unsafe { raw::hollytrot_session_limits() }

@@ -28,7 +28,7 @@ use Rattle.session.specs.declared.Session.{Session}
 use Rattle.session.specs.declared.TakeResult.{TakeResult}
 use Rattle.session.specs.declared.Limits.{Limits}
 
--- the lanes of a board, the bytes of a record, the payments and centavos of a file, the most a board's sums reach
+-- the lanes of a board, the bytes of a record, the most payments and centavos of a file, the most a board's sums reach
 abbrev pub sessionLimits : Limits
 sessionLimits =
     record {

@@ -35,8 +35,8 @@ pub struct RunResult {
     pub files: u64,
 }
 
-// The limits of a session: the lanes of its board, the bytes of a record, the payments of a file, the centavos of a
-// file, and the most that the payments or the centavos of the board may reach.
+// The limits of a session: the lanes of its board, the bytes of a record, the most payments and the most
+// centavos of a file, and the most that the payments or the centavos of the board may reach.
 #[repr(C)]
 pub struct Limits {
     pub lanes: usize,
