@@ -24,9 +24,9 @@ use Rattle.typos.proofs.Pieces.{boxes-are-numbered}
 use Rattle.typos.proofs.OneTen.{one-changed-digit-is-refused}
 use Rattle.typos.proofs.Exchange.{exchange-of-neighbours}
 use Rattle.typos.proofs.OneEleven.{one-changed-digit-under-eleven}
-use Rattle.typos.proofs.Samples.{directions-may-differ, box-alone-is-refused, borders-hold}
-use Rattle.typos.proofs.Samples.{segment-typo-passes, kind-typo-passes}
-use Rattle.ledger.proofs.Records.{lane-is-the-sessions, equal-is-the-boards, issuers-are-the-lanes, limits-are-the-boards}
+use Rattle.typos.proofs.Samples.{directions-may-differ, borders-hold, segment-typo-passes, kind-typo-passes}
+use Rattle.ledger.proofs.Records.{lane-is-the-sessions, equal-is-the-boards, issuers-are-the-lanes}
+use Rattle.ledger.proofs.Records.{limits-are-the-boards}
 use Rattle.ledger.proofs.Agreement.{session-agrees, answers-are-the-ledgers, next-answer-is-the-ledgers}
 use Rattle.ledger.proofs.Sessions.{true-trailers-only, only-trailers-show, nothing-shows-before, trailers-show-all}
 use Rattle.ledger.proofs.Sessions.{abandon-keeps-board, abandon-drops-file, abandon-nothing}
@@ -41,14 +41,15 @@ use Rattle.ledger.proofs.FileBytes.{file-bytes-run}
 use Rattle.ledger.proofs.WrittenFiles.{closed-file-bytes-run}
 use Rattle.ledger.proofs.WholeFiles.{file-accepted, file-posted, fresh-session-accepts, fresh-session-shows}
 use Rattle.ledger.proofs.WrittenFiles.{closed-file-is-whole, closed-file-is-accepted, fields-write-the-file}
+use Rattle.day.proofs.Buffers.{buffers-are-one-run}
 use Rattle.day.proofs.Inputs.{buffers-print-one-page}
 use Rattle.day.proofs.Samples.{worked-input, open-input, refused-input}
 use Rattle.promises.specs.Demands.{Demand1, Demand2, Demand3, Promised}
 use Rattle.promises.proofs.Calls.{calls-make-one-file}
 use Rattle.promises.proofs.OneOutcome.{one-outcome}
 use Rattle.promises.proofs.Refusals.{refusals-change-nothing}
-use Rattle.promises.proofs.Samples.{samples-hold, p5-is-an-exchange, p9-is-a-change}
-use Rattle.promises.proofs.Samples.{p6-is-a-change}
+use Rattle.promises.proofs.Samples.{samples-hold, p5-is-an-exchange, p6-is-a-change, p9-is-a-change}
+use Rattle.promises.proofs.Samples.{box-alone-is-refused}
 use Rattle.promises.proofs.Shown.{refusals-point-at-places, records-show-their-places}
 
 pub demand-1 : Demand1
@@ -131,5 +132,5 @@ promised =
       second = demand-2;
       third = demand-3;
       p1ToP12 = samples-hold;
-      program = (buffers-print-one-page, worked-input, open-input, refused-input);
+      program = (buffers-are-one-run, buffers-print-one-page, worked-input, open-input, refused-input);
     }

@@ -1,6 +1,6 @@
 -- The samples, by computation. Assumes nothing.
 use mathlib.Core.List.{List, [], _∷_, map}
-use mathlib.Core.Logic.{inl}
+use mathlib.Core.Logic.{inl, inr}
 use mathlib.Core.Path.{_≡_, refl, sym, ap, subst}
 use native.Mathlib.Omega.{arith}
 use lib.ListN.{getD, set}
@@ -8,7 +8,8 @@ use Rattle.answer.specs.Orders.{Each}
 use Rattle.decimal.specs.Bytes.{isOf}
 use Rattle.decimal.specs.Numbers.{valueOf, digitsOf}
 use Rattle.calendar.specs.Dates.{isLeap, daysIn, isDate, dateOf}
-use Rattle.modulus.specs.Checks.{addedBy, termOf, digitOfRemainder, exchanged, ZeroAndNine}
+use Rattle.modulus.specs.declared.Modulus.the-variants.{Eleven}
+use Rattle.modulus.specs.Checks.{addedBy, termOf, digitOfRemainder, exchanged, ZeroAndNine, BetweenZeroAndOne}
 use Rattle.barcode.specs.Codes.{firstThreeAnswer, generalRight}
 use Rattle.line.specs.Lines.{boxRight}
 use Rattle.layout.specs.Layouts.{namedBy, layoutOf, table, rowAt}
@@ -17,13 +18,13 @@ use Rattle.record.specs.Records.{fieldAnswer, recordAnswer}
 use Rattle.file.specs.Files.{fileAnswer, figuresAnswer}
 use Rattle.board.specs.Lanes.{fits}
 use Rattle.board.specs.Boards.{ownOf, usedAfter, slotAnswer}
-use Rattle.typos.specs.Typos.{Passes, InOneBox, BothMove, NoCheck}
+use Rattle.typos.specs.Typos.{Passes, InOneBox, boxRemainder, codeRemainder, BothMove, NoCheck}
 use Rattle.typos.proofs.OneTen.{one-changed-digit-is-refused}
 use Rattle.typos.proofs.Exchange.{exchange-of-neighbours}
 use Rattle.typos.proofs.OneEleven.{one-changed-digit-under-eleven}
 use Rattle.promises.specs.Samples.{Row, outcomeOf, samples, Hold, P4IsPaid, p4, p5, p6, p8, p9}
 use Rattle.promises.specs.Samples.{ChangeUnderTen, ExchangeUnderTen, ChangeUnderEleven}
-use Rattle.promises.specs.Samples.{P5IsAnExchange, P6IsAChange, P9IsAChange, P8HasTwoFreeParts}
+use Rattle.promises.specs.Samples.{P5IsAnExchange, P6IsAChange, P9IsAChange, BoxAloneIsRefused, P8HasTwoFreeParts}
 
 -- one equation between two tables gives each row's
 each-row : {A B : Type 0} (f g : A → B) (xs : List A) → map f xs ≡ map g xs → Each (λ x. f x ≡ g x) xs
@@ -123,6 +124,48 @@ p9-is-a-change =
     (c .second) (c .still) in
     let moves = subst (BothMove 46 p8) p9-is p9-moves in
     (p9-is, c, p9-place, p9-moves, subst Passes (sym p9-is) (exactly .1 (p9-place, moves)))
+
+box-alone-premises : ChangeUnderEleven p8 34 54
+unfolding firstThreeAnswer generalRight boxRight digitOfRemainder termOf addedBy digitsOf valueOf isOf
+box-alone-premises =
+    record {
+      passes = refl;
+      names = refl;
+      inside = omega arith;
+      changes = λ e. omega (arith, e);
+      digit = refl;
+      first = refl;
+      second = refl;
+      still = refl;
+    }
+
+box-alone-place : NoCheck 34
+box-alone-place = omega arith
+
+-- from 0 to 8
+code-before : codeRemainder Eleven p8 ≡ 0
+unfolding termOf addedBy digitsOf valueOf isOf
+code-before = refl
+
+code-after : codeRemainder Eleven (set p8 34 54) ≡ 8
+unfolding termOf addedBy digitsOf valueOf isOf
+code-after = refl
+
+code-stays-out : BetweenZeroAndOne (codeRemainder Eleven p8) (codeRemainder Eleven (set p8 34 54)) → ⊥
+code-stays-out (inl (a, b)) = omega (arith, code-after, b)
+code-stays-out (inr (a, b)) = omega (arith, code-after, b)
+
+box-moves : BetweenZeroAndOne (boxRemainder Eleven 34 p8) (boxRemainder Eleven 34 (set p8 34 54))
+unfolding termOf addedBy digitsOf valueOf isOf
+box-moves = inl (refl, refl)
+
+pub box-alone-is-refused : BoxAloneIsRefused
+box-alone-is-refused =
+    let c = box-alone-premises in
+    let exactly =
+    one-changed-digit-under-eleven p8 34 54 (c .passes) (c .names) (c .inside) (c .changes) (c .digit) (c .first)
+    (c .second) (c .still) in
+    (c, box-alone-place, box-moves, code-before, code-after, λ e. code-stays-out (exactly .0 e .1 .1))
 
 pub p8-has-two-free-parts : P8HasTwoFreeParts
 unfolding firstThreeAnswer generalRight digitOfRemainder termOf addedBy digitsOf valueOf isOf

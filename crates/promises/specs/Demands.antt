@@ -22,8 +22,7 @@ use Rattle.page.specs.Fits.{PageFits}
 use Rattle.page.specs.Plain.{ShownReadsBack}
 use Rattle.typos.specs.Typos.{PassesByChecks, BoxesAreNumbered}
 use Rattle.typos.specs.Typos.{OneChangedDigitIsRefused, ExchangeOfNeighbours, OneChangedDigitUnderEleven}
-use Rattle.typos.specs.Samples.{DirectionsMayDiffer, BoxAloneIsRefused, BordersHold}
-use Rattle.typos.specs.Samples.{SegmentTypoPasses, KindTypoPasses}
+use Rattle.typos.specs.Samples.{DirectionsMayDiffer, BordersHold, SegmentTypoPasses, KindTypoPasses}
 use Rattle.ledger.specs.Records.{LaneIsTheSessions, EqualIsTheBoards, IssuersAreTheLanes, LimitsAreTheBoards}
 use Rattle.ledger.specs.Promises.{SessionAgrees, AnswersAreTheLedgers, NextAnswerIsTheLedgers, TrueTrailersOnly}
 use Rattle.ledger.specs.Promises.{LanesAreThePayments, LanesInOrder, EachLaneIsExact, NoIssuerHasTwoLanes}
@@ -37,13 +36,13 @@ use Rattle.ledger.specs.Calls.{CallsAgree, RepliesAreTheLedgers, CallsAreSteps}
 use Rattle.ledger.specs.WholeFiles.{LedgerFilesAreWhole}
 use Rattle.ledger.specs.WholeFiles.{FileAccepted, FilePosted, FreshSessionAccepts, FreshSessionShows}
 use Rattle.ledger.specs.WrittenFiles.{ClosedFileIsWhole, ClosedFileIsAccepted, ClosedFileBytesRun, FieldsWriteTheFile}
+use Rattle.day.specs.Days.{BuffersAreOneRun}
 use Rattle.day.specs.Inputs.{BuffersPrintOnePage}
 use Rattle.day.specs.Samples.{WorkedInput, OpenInput, RefusedInput}
 use Rattle.promises.specs.Calls.{CallsMakeOneFile}
 use Rattle.promises.specs.OneOutcome.{OneOutcome}
 use Rattle.promises.specs.Refusals.{RefusalsChangeNothing}
-use Rattle.promises.specs.Samples.{samples, Hold, P5IsAnExchange, P9IsAChange}
-use Rattle.promises.specs.Samples.{P6IsAChange}
+use Rattle.promises.specs.Samples.{samples, Hold, P5IsAnExchange, P6IsAChange, P9IsAChange, BoxAloneIsRefused}
 use Rattle.promises.specs.Shown.{RefusalsPointAtPlaces, RecordsShowTheirPlaces}
 
 -- "It takes every input without a fault and ends" is not stated here: the toolchain proves it of every function that it
@@ -124,4 +123,4 @@ pub record Promised : Type 2 where
   pub p1ToP12 : Hold samples
   -- `quadro` prints `pageOfInput` of the input's bytes, in whatever buffers they come; three inputs and their pages.
   -- That a day of the program that is over is the day of the buffers it read is `OverIsTheInputs`, in its own crate.
-  pub program : BuffersPrintOnePage × WorkedInput × OpenInput × RefusedInput
+  pub program : BuffersAreOneRun × BuffersPrintOnePage × WorkedInput × OpenInput × RefusedInput

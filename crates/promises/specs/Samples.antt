@@ -16,7 +16,7 @@ use Rattle.calendar.specs.declared.MaybeDate.the-variants.{On, NoDate}
 use Rattle.calendar.specs.Dates.{dateOf}
 use Rattle.modulus.specs.declared.Modulus.{Modulus}
 use Rattle.modulus.specs.declared.Modulus.the-variants.{Ten, Eleven}
-use Rattle.modulus.specs.Checks.{checkOf, exchanged, ZeroAndNine}
+use Rattle.modulus.specs.Checks.{checkOf, exchanged, ZeroAndNine, BetweenZeroAndOne}
 use Rattle.barcode.specs.declared.Decoded.{Decoded}
 use Rattle.barcode.specs.declared.Fields.{Fields}
 use Rattle.barcode.specs.Codes as barcodes
@@ -28,7 +28,7 @@ use Rattle.board.specs.Boards.{lanesOf}
 use Rattle.session.specs.declared.RunResult.{RunResult}
 use Rattle.session.specs.Sessions.{freshSession}
 use Rattle.session.specs.Runs.{runOf}
-use Rattle.typos.specs.Typos.{Passes, Names, InOneBox, BothMove, NoCheck}
+use Rattle.typos.specs.Typos.{Passes, Names, InOneBox, boxRemainder, codeRemainder, BothMove, NoCheck}
 use Rattle.ledger.specs.Samples as ledger
 
 -- What is computed of an input.
@@ -219,6 +219,17 @@ pub record ChangeUnderEleven (line : List ℕ) (i d : ℕ) : Type 0 where
 abbrev pub P9IsAChange : Type 0
 P9IsAChange =
     (p9 ≡ set p8 46 54) × ChangeUnderEleven p8 46 54 × NoCheck 46 × BothMove 46 p8 p9 × Passes p9
+
+-- P8 with place 35 changed from 0 to 6, which is no check digit: the remainder of its box moves from 0 to 1, that of the
+-- whole code from 0 to 8, and it is refused
+abbrev pub BoxAloneIsRefused : Type 0
+BoxAloneIsRefused =
+    ChangeUnderEleven p8 34 54
+    × NoCheck 34
+    × BetweenZeroAndOne (boxRemainder Eleven 34 p8) (boxRemainder Eleven 34 (set p8 34 54))
+    × (codeRemainder Eleven p8 ≡ 0)
+    × (codeRemainder Eleven (set p8 34 54) ≡ 8)
+    × ¬ Passes (set p8 34 54)
 
 -- Promise: two parts of P8's barcode have the bytes of its free field, so they do not tell where it is.
 abbrev pub P8HasTwoFreeParts : Type 0

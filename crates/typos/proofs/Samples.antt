@@ -5,16 +5,11 @@ use Rattle.decimal.specs.Numbers.{valueOf, digitsOf}
 use Rattle.modulus.specs.Checks.{addedBy, termOf, digitOfRemainder}
 use Rattle.barcode.specs.Codes.{firstThreeAnswer, generalRight}
 use Rattle.line.specs.Lines.{boxRight}
-use Rattle.typos.specs.Samples.{DirectionsMayDiffer, BoxAloneIsRefused, SegmentTypoPasses, KindTypoPasses}
-use Rattle.typos.specs.Samples.{BordersHold}
+use Rattle.typos.specs.Samples.{DirectionsMayDiffer, SegmentTypoPasses, KindTypoPasses, BordersHold}
 
 pub directions-may-differ : DirectionsMayDiffer
 unfolding firstThreeAnswer generalRight boxRight digitOfRemainder termOf addedBy digitsOf valueOf isOf
 directions-may-differ = (refl, refl, refl, refl, refl, refl)
-
-pub box-alone-is-refused : BoxAloneIsRefused
-unfolding firstThreeAnswer generalRight boxRight digitOfRemainder termOf addedBy digitsOf valueOf isOf
-box-alone-is-refused = (refl, refl, refl, refl, refl, refl)
 
 pub segment-typo-passes : SegmentTypoPasses
 unfolding firstThreeAnswer generalRight boxRight digitOfRemainder termOf addedBy digitsOf valueOf isOf

@@ -28,20 +28,6 @@ DirectionsMayDiffer =
     × Passes opposite
     × Passes (set opposite 24 56)
 
--- the box's remainder alone does not decide: place 35 of P8's line changed from 0 to 6 moves it from 0 to 1, but the
--- code's from 0 to 8
-abbrev pub sparse : List ℕ
-sparse = digitsOf lineLength 818000000004_000000100005_000000000000_000000000000
-
-abbrev pub BoxAloneIsRefused : Type 0
-BoxAloneIsRefused =
-    (boxRemainder Eleven 34 sparse ≡ 0)
-    × (boxRemainder Eleven 34 (set sparse 34 54) ≡ 1)
-    × (codeRemainder Eleven sparse ≡ 0)
-    × (codeRemainder Eleven (set sparse 34 54) ≡ 8)
-    × Passes sparse
-    × (lineAnswer (set sparse 34 54) ≡ Refused WrongGeneralCheck 4)
-
 -- a typo in the segment may pass, and then names another issuer: place 2 of a line changed from 2 to 9
 abbrev pub segmented : List ℕ
 segmented = digitsOf lineLength 829000000000_011351990220_303000212303_030330100000
