@@ -6,13 +6,13 @@ use Rattle.modulus.proofs.forty.last_row_value.Statement.{statement}
 use Rattle.modulus.proofs.forty.last_row_value.Tie as tie
 
 returns : tie.Need-returns
-returns c = (simp (lt-ltb _ _ (c .if1 .taken)), omega arith)
+returns c = (simp (lt-ltb (c .before .args .i) 8 (omega arith)), omega arith)
 
 low-half-requires : tie.Need-low-half-requires
 low-half-requires c κs = search needs
 
 returns-2 : tie.Need-returns-2
-returns-2 c = (simp (le-ltb _ _ (c .before .if1 .left)) (c .low-half .ensures .0), c .low-half .ensures .1)
+returns-2 c = (simp (le-ltb (c .before .before .args .i) 8 (omega arith)) (c .low-half .ensures .0), c .low-half .ensures .1)
 
 pub last-row-value-spec : {M : Type 1} → statement M
 last-row-value-spec = tie.close (tie.spec low-half-requires returns returns-2)
