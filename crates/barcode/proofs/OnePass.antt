@@ -10,7 +10,6 @@ use borrow.Author.Tests.{eqb-true, eq-eqb}
 use lib.Dec.{eqb}
 use lib.ListN.{length, take, drop, getD, length-drop}
 use lib.Seq.{take-all, length-take-le}
-use Rattle.answer.specs.declared.Reason.{Reason}
 use Rattle.answer.specs.declared.Answer.{Answer}
 use Rattle.answer.specs.declared.Answer.the-variants.{Accepted, Refused}
 use Rattle.decimal.specs.declared.Class.the-variants.{Digit}

@@ -1,16 +1,16 @@
 -- Laws of one field that is written: its bytes, its answer, and bytes copied into as many. Assumes nothing.
 use Prim.Native.Nat.{ℕ, suc, _+_, _-_, _^_, _≤_, _<_}
 use mathlib.Core.Bool.{Bool, true, false, cond}
-use mathlib.Core.List.{List, [], _∷_, _++_, append-nil}
+use mathlib.Core.List.{List, [], _∷_, _++_}
 use mathlib.Core.Path.{_≡_, refl, sym, ap, _∙_}
 use native.Mathlib.Numerals.{add-one}
 use native.Mathlib.Omega.{arith}
 use lib.Dec.{ltb}
 use lib.ListN.{length, set, take, drop, replicate, replicate-append-replicate}
-use lib.Seq.{take-all, drop-length, take-suc-set}
+use lib.Seq.{take-all, take-suc-set}
 use Rattle.answer.specs.declared.Reason.the-variants.{NoDigit, TooWide}
 use Rattle.answer.specs.declared.Answer.{Answer}
-use Rattle.answer.specs.declared.Answer.the-variants.{Accepted, Refused}
+use Rattle.answer.specs.declared.Answer.the-variants.{Accepted}
 use Rattle.answer.specs.Refusals.{answerPlace}
 use Rattle.answer.specs.Orders.{_then_, ifAccepted}
 use Rattle.answer.proofs.Orders.{accepted-takes, require-place, then-place, then-accepted}

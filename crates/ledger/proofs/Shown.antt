@@ -12,7 +12,7 @@ use Rattle.answer.proofs.Tests.{split}
 use Rattle.barcode.specs.declared.Issuer.{Issuer}
 use Rattle.board.specs.declared.Tally.{Tally}
 use Rattle.board.specs.declared.Lane.{Lane}
-use Rattle.board.specs.Lanes.{sameIssuer, isLaneOf, lanesFrom, sumBy, each, only, issuersOf, isAmong, Distinct}
+use Rattle.board.specs.Lanes.{sameIssuer, isLaneOf, lanesFrom, sumBy, only, issuersOf, isAmong, Distinct}
 use Rattle.board.proofs.Tallies.{low, alike}
 use Rattle.board.proofs.Lanes.{same-is, payments-add, centavos-add, sum-read, sums-agree, own-sums-agree, no-issuer-twice}
 use Rattle.board.proofs.Posting.{length-lanes}

@@ -5,7 +5,6 @@ ghost use Prim.Native.Nat.{_+_, _*_, _≤_, max};
 ghost use lib.ListN.{length};
 ghost use Rattle.board.specs.Lanes.{mostLanes};
 ghost use Rattle.board.specs.Boards.{lanesOf};
-ghost use Rattle.decimal.specs.Places.{widthOf};
 ghost use Rattle.barcode.specs.Codes.{issuer};
 ghost use Rattle.page.specs.Plain.{needed, shown};
 ghost use Rattle.page.specs.Pages.{numberLine, issuerLine, tallyLines, laneLines, lanesLines, sumsLines};

@@ -6,7 +6,7 @@
 use Prim.Native.Nat.{ℕ, zero, suc}
 use mathlib.Core.List.{List}
 use mathlib.Core.Path.{_≡_, refl, sym, _∙_, ap}
-use borrow.Fn.World.{World, Pr}
+use borrow.Fn.World.{World}
 use Rattle.answer.specs.declared.Answer.{Answer}
 use Rattle.answer.specs.Orders.{ifAccepted}
 use Rattle.writer.specs.declared.WriteResult.{WriteResult}

@@ -1,7 +1,7 @@
 -- Laws of the fast path's checks, row by row and part by part. Assumes nothing.
 use Prim.Native.Nat.{ℕ, _+_, _-_, _≤_, _<_}
 use mathlib.Core.Bool.{Bool, true, false, cond, _&&_, and-true, and-eq-true-iff}
-use mathlib.Core.List.{List, [], _∷_, _++_}
+use mathlib.Core.List.{List, [], _∷_}
 use mathlib.Core.Path.{_≡_, refl, sym, ap, _∙_}
 use native.Mathlib.Numerals.{add-one}
 use native.Mathlib.Omega.{arith}
@@ -9,10 +9,10 @@ use borrow.Author.Tests.{eqb-true}
 use lib.Bits.{bitOr}
 use lib.Dec.{eqb}
 use lib.ListN.{length, getD, take, drop, length-drop, drop-of-length-le}
-use lib.Seq.{take-all, drop-cons, drop-drop, take-take, take-add}
+use lib.Seq.{take-all, drop-cons}
 use Rattle.decimal.specs.declared.Class.the-variants.{Digit, Blank, Text}
 use Rattle.decimal.specs.Bytes.{isOf, all}
-use Rattle.decimal.proofs.Bytes.{flag-on, row-fails, row-passes, last-row, two-flags, all-joins, all-of-part}
+use Rattle.decimal.proofs.Bytes.{flag-on, row-fails, last-row, two-flags}
 use Rattle.layout.specs.Layouts.{rowAt, accountRow, receivedRow, numberRow, branchRow, captureRow, authenticationRow, formRow, paymentBlankRow, namedBy}
 use Rattle.layout.specs.declared.MaybeRecord.{MaybeRecord}
 use Rattle.layout.specs.declared.MaybeRecord.the-variants.{Is, Other}

@@ -6,7 +6,7 @@ use native.Mathlib.Omega.{arith}
 use borrow.Author.Needs.{needs}
 use borrow.Author.Tests.{not-true, not-false}
 use lib.ListN.{length, length-map, length-set}
-use Rattle.board.specs.Boards.{lanesOf, indexOf, slotAt}
+use Rattle.board.specs.Boards.{lanesOf, indexOf}
 use Rattle.board.specs.Lanes.{mostLanes}
 use Rattle.board.specs.Searches.{cacheLength}
 use Rattle.board.proofs.Searches.{Searched, search-on, search-hits, search-ends}
