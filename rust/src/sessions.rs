@@ -54,6 +54,7 @@ impl Board {
 /// The limits of every session, by [`Session::limits`]. A number exactly at a limit is accepted.
 #[repr(C)]
 #[derive(Clone, Copy, Debug, PartialEq, Eq, Hash)]
+#[non_exhaustive]
 pub struct Limits {
     /// The lanes of a board.
     pub lanes: usize,

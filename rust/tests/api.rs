@@ -2,8 +2,8 @@
 
 use hollytrot::record::{self, Row};
 use hollytrot::{
-    barcode, check_digit, line, page, Date, Fields, Issuer, Limits, Modulus, Reason, Record,
-    Refusal, Session, Writer, LANES, RECORD,
+    barcode, check_digit, line, page, Date, Fields, Issuer, Modulus, Reason, Record, Refusal,
+    Session, Writer, LANES, RECORD,
 };
 
 const P4: &[u8] = b"817700000000010936599702411310797039001433708318";
@@ -52,14 +52,11 @@ fn refusals_say_number_place_and_reason() {
 
 #[test]
 fn limits_are_those_of_the_constants() {
-    let limits = Limits {
-        lanes: LANES,
-        record_length: RECORD,
-        payments: 999_997,
-        file_total: 99_999_999_999_999_999,
-        board_total: 1_000_000_000_000_000_000,
-    };
-    assert_eq!(Session::limits(), limits);
+    let limits = Session::limits();
+    assert_eq!((limits.lanes, limits.record_length), (LANES, RECORD));
+    assert_eq!(limits.payments, 999_997);
+    assert_eq!(limits.file_total, 99_999_999_999_999_999);
+    assert_eq!(limits.board_total, 1_000_000_000_000_000_000);
 }
 
 #[test]
