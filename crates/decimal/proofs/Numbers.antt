@@ -19,7 +19,7 @@ use Rattle.decimal.specs.declared.Class.the-variants.{Digit}
 use Rattle.decimal.specs.Bytes.{isOf, all}
 use Rattle.decimal.specs.Places.{putAt}
 use Rattle.decimal.proofs.Bytes.{all-joins}
-use Rattle.decimal.proofs.Places.{put-fits, length-put}
+use Rattle.decimal.proofs.Places.{put-fits}
 use Rattle.decimal.specs.Numbers.{valueOf, numberFrom, numberOf, largestNumber, capped, digitsOf, widthAnswer, putNumberAnswer, NumberOfDigits, DigitsOfNumber, DigitsFill, AcceptedIsWritten, NumberFits, NineteenFit}
 use Rattle.decimal.specs.LowHalves.{lowFrom, lowNumberOf, LowOfDigits}
 
@@ -268,6 +268,5 @@ accepted-is-written at w n l e =
     let d = digits-fill w n .0 in
     let within : at + length (digitsOf w n) ≤ length l = rw d fits in (
       (rw d at (put-fits at (digitsOf w n) l within)),
-      length-put at (digitsOf w n) l within,
       number-of-digits w n small,
     )

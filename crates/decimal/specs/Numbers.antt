@@ -58,7 +58,7 @@ abbrev pub AcceptedIsWritten : Type 0
 AcceptedIsWritten =
     (at w n : ℕ) (l : List ℕ) → putNumberAnswer (length l) at w n ≡ Accepted
     → (putAt at (digitsOf w n) l ≡ take at l ++ (digitsOf w n ++ drop (at + w) l))
-    × (length (putAt at (digitsOf w n) l) ≡ length l) × (numberOf (digitsOf w n) ≡ n)
+    × (numberOf (digitsOf w n) ≡ n)
 
 -- a number has no more digits than it has bytes
 abbrev pub NumberFits : Type 0

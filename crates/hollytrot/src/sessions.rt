@@ -10,7 +10,7 @@ use board::Board;
 use session::Limits;
 use session::Session;
 
-// The limits of every session: its constants, which cannot cross themselves.
+// The limits of every session, in one value: a constant cannot be exported.
 #[no_mangle]
 pub extern "C" fn hollytrot_session_limits() -> Limits
     ensures { λ r. ⌜ r ≡ sessionLimits ⌝ }

@@ -4,6 +4,8 @@ use mathlib.Core.Logic.{inl, inr}
 use mathlib.Core.Path.{_≡_, refl, sym, ap, subst}
 use native.Mathlib.Omega.{arith}
 use lib.ListN.{getD, set}
+use Rattle.answer.specs.declared.Reason.the-variants.{WrongGeneralCheck}
+use Rattle.answer.specs.declared.Answer.the-variants.{Refused}
 use Rattle.answer.specs.Orders.{Each}
 use Rattle.decimal.specs.Bytes.{isOf}
 use Rattle.decimal.specs.Numbers.{valueOf, digitsOf}
@@ -11,7 +13,7 @@ use Rattle.calendar.specs.Dates.{isLeap, daysIn, isDate, dateOf}
 use Rattle.modulus.specs.declared.Modulus.the-variants.{Eleven}
 use Rattle.modulus.specs.Checks.{addedBy, termOf, digitOfRemainder, exchanged, ZeroAndNine, BetweenZeroAndOne}
 use Rattle.barcode.specs.Codes.{firstThreeAnswer, generalRight}
-use Rattle.line.specs.Lines.{boxRight}
+use Rattle.line.specs.Lines.{boxRight, lineAnswer}
 use Rattle.layout.specs.Layouts.{namedBy, layoutOf, table, rowAt}
 use Rattle.kinds.specs.Kinds.{isService, isCapture, isForm, kindAnswer}
 use Rattle.record.specs.Records.{fieldAnswer, recordAnswer}
@@ -155,17 +157,29 @@ code-stays-out : BetweenZeroAndOne (codeRemainder Eleven p8) (codeRemainder Elev
 code-stays-out (inl (a, b)) = omega (arith, code-after, b)
 code-stays-out (inr (a, b)) = omega (arith, code-after, b)
 
-box-moves : BetweenZeroAndOne (boxRemainder Eleven 34 p8) (boxRemainder Eleven 34 (set p8 34 54))
+box-moves : (boxRemainder Eleven 34 p8 ≡ 0) × (boxRemainder Eleven 34 (set p8 34 54) ≡ 1)
 unfolding termOf addedBy digitsOf valueOf isOf
-box-moves = inl (refl, refl)
+box-moves = (refl, refl)
+
+box-alone-answer : lineAnswer (set p8 34 54) ≡ Refused WrongGeneralCheck 4
+unfolding firstThreeAnswer generalRight boxRight digitOfRemainder termOf addedBy digitsOf valueOf isOf
+box-alone-answer = refl
 
 pub box-alone-is-refused : BoxAloneIsRefused
 box-alone-is-refused =
     let c = box-alone-premises in
     let exactly =
     one-changed-digit-under-eleven p8 34 54 (c .passes) (c .names) (c .inside) (c .changes) (c .digit) (c .first)
-    (c .second) (c .still) in
-    (c, box-alone-place, box-moves, code-before, code-after, λ e. code-stays-out (exactly .0 e .1 .1))
+    (c .second) (c .still) in (
+      c,
+      box-alone-place,
+      box-moves .0,
+      box-moves .1,
+      code-before,
+      code-after,
+      box-alone-answer,
+      λ e. code-stays-out (exactly .0 e .1 .1),
+    )
 
 pub p8-has-two-free-parts : P8HasTwoFreeParts
 unfolding firstThreeAnswer generalRight digitOfRemainder termOf addedBy digitsOf valueOf isOf

@@ -5,6 +5,8 @@ use mathlib.Core.List.{List, [], _∷_, _++_}
 use mathlib.Core.Logic.{_≢_}
 use mathlib.Core.Path.{_≡_}
 use lib.ListN.{getD, set}
+use Rattle.answer.specs.declared.Reason.the-variants.{WrongGeneralCheck}
+use Rattle.answer.specs.declared.Answer.the-variants.{Refused}
 use Rattle.answer.specs.Refusals.{answerNumber, answerPlace}
 use Rattle.answer.specs.Orders.{Each}
 use Rattle.decimal.specs.declared.Class.the-variants.{Digit}
@@ -16,7 +18,7 @@ use Rattle.calendar.specs.declared.MaybeDate.the-variants.{On, NoDate}
 use Rattle.calendar.specs.Dates.{dateOf}
 use Rattle.modulus.specs.declared.Modulus.{Modulus}
 use Rattle.modulus.specs.declared.Modulus.the-variants.{Ten, Eleven}
-use Rattle.modulus.specs.Checks.{checkOf, exchanged, ZeroAndNine, BetweenZeroAndOne}
+use Rattle.modulus.specs.Checks.{checkOf, exchanged, ZeroAndNine}
 use Rattle.barcode.specs.declared.Decoded.{Decoded}
 use Rattle.barcode.specs.declared.Fields.{Fields}
 use Rattle.barcode.specs.Codes as barcodes
@@ -221,14 +223,16 @@ P9IsAChange =
     (p9 ≡ set p8 46 54) × ChangeUnderEleven p8 46 54 × NoCheck 46 × BothMove 46 p8 p9 × Passes p9
 
 -- P8 with place 35 changed from 0 to 6, which is no check digit: the remainder of its box moves from 0 to 1, that of the
--- whole code from 0 to 8, and it is refused
+-- whole code from 0 to 8, and it is refused 7 at 4
 abbrev pub BoxAloneIsRefused : Type 0
 BoxAloneIsRefused =
     ChangeUnderEleven p8 34 54
     × NoCheck 34
-    × BetweenZeroAndOne (boxRemainder Eleven 34 p8) (boxRemainder Eleven 34 (set p8 34 54))
+    × (boxRemainder Eleven 34 p8 ≡ 0)
+    × (boxRemainder Eleven 34 (set p8 34 54) ≡ 1)
     × (codeRemainder Eleven p8 ≡ 0)
     × (codeRemainder Eleven (set p8 34 54) ≡ 8)
+    × (lines.lineAnswer (set p8 34 54) ≡ Refused WrongGeneralCheck 4)
     × ¬ Passes (set p8 34 54)
 
 -- Promise: two parts of P8's barcode have the bytes of its free field, so they do not tell where it is.

@@ -35,8 +35,8 @@ pub struct RunResult {
     pub files: u64,
 }
 
-// The limits of a session: the lanes of its board, the bytes of a record, the most payments and the most
-// centavos of a file, and the most that the payments or the centavos of the board may reach.
+// The limits of a session: the lanes of its board, the bytes of a record, the most payments and the most centavos of a
+// file, and the most that the payments or the centavos of the board may reach.
 #[repr(C)]
 pub struct Limits {
     pub lanes: usize,
@@ -58,7 +58,7 @@ impl Session {
 
     pub const BOARD_TOTAL: u64 = Board::TOTAL;
 
-    // The limits of every session: its constants, for a caller that cannot name them.
+    // The five constants in one value, the same for every session. A contract cannot name a constant: this ties them.
     pub fn limits() -> Limits
         ensures { λ r. ⌜ r ≡ sessionLimits ⌝ }
     {
