@@ -25,7 +25,8 @@ use Rattle.calendar.specs.Dates.{isDate, spelled, dateOf, isFound}
 use Rattle.barcode.proofs.Codes.{code-place}
 use Rattle.layout.specs.declared.Kind.{Kind}
 use Rattle.layout.specs.declared.Kind.the-variants as kind
-use Rattle.kinds.specs.Kinds.{same, version, serviceOf, isSpelling, isService, isCapture, isForm, kindAnswer}
+use Rattle.kinds.specs.Terms.{Terms}
+use Rattle.kinds.specs.Kinds.{same, isVersionText, serviceOf, isSpelling, isService, dateAnswer, isCapture, isForm, kindAnswer}
 
 -- A loop that compares two lists, at byte i: the bytes are the same, they differ, there are none left.
 module _ (xs bs : List ℕ) (i : ℕ) where
@@ -66,13 +67,13 @@ dated-digits bs d e = go (eqb (length bs) 8 && (all (isOf Digit) bs && isDate (s
     go true h q = and-eq-true-iff (all (isOf Digit) bs) (isDate (spelled bs)) .0 (and-eq-true-iff (eqb (length bs) 8) (all (isOf Digit) bs && isDate (spelled bs)) .0 h .1) .0
     go false h q = let z : _≡_ {A = ℕ} 0 1 = cc in absurd (omega arith)
 
-pub date-accepted : (bs : List ℕ) (d : Date) → dateOf bs ≡ On d → Accepted ≡ kindAnswer kind.Date bs
-unfolding kindAnswer
+pub date-accepted : (bs : List ℕ) (d : Date) → dateOf bs ≡ On d → Accepted ≡ dateAnswer bs
+unfolding dateAnswer
 date-accepted bs d e = rw (each-accepts (isOf Digit) NoDigit 1 bs .1 (dated-digits bs d e), e)
 
 pub no-date : (bs : List ℕ) → dateOf bs ≡ none
-    → eachIs (isOf Digit) NoDigit 1 bs then Refused NoDate 1 ≡ kindAnswer kind.Date bs
-unfolding kindAnswer
+    → eachIs (isOf Digit) NoDigit 1 bs then Refused NoDate 1 ≡ dateAnswer bs
+unfolding dateAnswer
 no-date bs e = rw e
 
 -- no place of an answer is far past a field of a record
@@ -82,20 +83,20 @@ at-first t why = require-place 151 t why 1 (omega arith)
 in-part : (ok : ℕ → Bool) (why : Reason) (bs : List ℕ) → length bs ≤ 150 → answerPlace (eachIs ok why 1 bs) ≤ 151
 in-part ok why bs h = omega (arith, each-place ok why 1 bs)
 
-pub kind-place : (k : Kind) (bs : List ℕ) → length bs ≤ 150 → answerPlace (kindAnswer k bs) ≤ 151
-unfolding kindAnswer
-kind-place (kind.Mark byte) bs h = at-first (same bs (byte ∷ [])) FixedDiffers
-kind-place kind.Version bs h = at-first (same bs version) FixedDiffers
-kind-place kind.Service bs h = at-first (isService bs) FixedDiffers
-kind-place kind.Blank bs h = at-first (all (isOf class.Blank) bs) FixedDiffers
-kind-place kind.Text bs h = in-part (isOf class.Text) NoText bs h
-kind-place kind.Digits bs h = in-part (isOf Digit) NoDigit bs h
-kind-place kind.Money bs h = in-part (isOf Digit) NoDigit bs h
-kind-place kind.Date bs h =
+pub kind-place : (t : Terms) (k : Kind) (bs : List ℕ) → length bs ≤ 150 → answerPlace (kindAnswer t k bs) ≤ 151
+unfolding kindAnswer dateAnswer
+kind-place t (kind.Mark byte) bs h = at-first (same bs (byte ∷ [])) FixedDiffers
+kind-place t kind.Version bs h = at-first (isVersionText bs) FixedDiffers
+kind-place t kind.Service bs h = at-first (isService bs) FixedDiffers
+kind-place t kind.Blank bs h = at-first (all (isOf class.Blank) bs) FixedDiffers
+kind-place t kind.Text bs h = in-part (isOf class.Text) NoText bs h
+kind-place t kind.Digits bs h = in-part (isOf Digit) NoDigit bs h
+kind-place t kind.Money bs h = in-part (isOf Digit) NoDigit bs h
+kind-place t kind.Date bs h =
     then-place 151 (eachIs (isOf Digit) NoDigit 1 bs) (require (isFound (dateOf bs)) NoDate 1) (in-part (isOf Digit) NoDigit bs h) (at-first (isFound (dateOf bs)) NoDate)
-kind-place kind.Barcode bs h = omega (arith, code-place bs)
-kind-place kind.Capture bs h = at-first (isCapture (getD bs 0 0)) UnknownCode
-kind-place kind.Form bs h = at-first (isForm (getD bs 0 0)) UnknownCode
+kind-place t kind.Barcode bs h = omega (arith, code-place bs)
+kind-place t kind.Capture bs h = at-first (isCapture (t .version) (getD bs 0 0)) UnknownCode
+kind-place t kind.Form bs h = at-first (isForm (t .version) (getD bs 0 0)) UnknownCode
 
 -- The service field, by its second byte.
 module _ (bs : List ℕ) {s : ℕ} {t : Bool} (second : s ≡ getD bs 1 0) (spelled : t ≡ isSpelling s) where

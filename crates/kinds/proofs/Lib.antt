@@ -1,1 +1,2 @@
 pub mod KindLaws
+pub mod VersionLaws

@@ -1,14 +1,21 @@
 // What each kind of field may hold (SPEC.md, "Records" and "Field bytes").
+mod versions;
+
 ghost use mathlib.Core.Path.{_≡_};
 ghost use mathlib.Core.List.{[], _∷_};
 ghost use lib.ListN.{getD};
 ghost use Rattle.answer.specs.Orders.{require};
-ghost use Rattle.kinds.specs.Kinds.{same, serviceOf, isSpelling, isService, isCapture, isForm, kindAnswer};
+ghost use Rattle.kinds.specs.Terms.{told};
+ghost use Rattle.kinds.specs.Kinds.{same, isVersionText, serviceOf, isSpelling, isService};
+ghost use Rattle.kinds.specs.Kinds.{dateAnswer, kindAnswer};
 use answer::Answer;
 use answer::Reason;
 use calendar::MaybeDate;
 use decimal::Class;
 use layout::Kind;
+pub use versions::check_version;
+pub use versions::is_capture;
+pub use versions::is_form;
 
 // Whether two slices have the same bytes.
 fn same_bytes(a: &[u8], b: &[u8]) -> bool
@@ -53,6 +60,19 @@ fn is_mark(part: &[u8], byte: u8) -> bool
     same_bytes(part, &mark)
 }
 
+// Whether a field is the two digits of a version, 04 or 06.
+fn is_version_text(part: &[u8]) -> bool
+    ensures { λ r. ⌜ r ≡ isVersionText (now (part .entry)) ⌝ }
+{
+    if part.len() != 2 {
+        return false;
+    }
+    if !decimal::all_of(Class::Digit, part) {
+        return false;
+    }
+    versions::is_version(decimal::number(part))
+}
+
 const SERVICE: [u8; 17] = *b"CODIGO DE BARRAS ";
 
 // The 17 bytes of the service field with this second byte, which in a right field is O with or without its accent.
@@ -83,23 +103,9 @@ fn is_service(part: &[u8]) -> bool
     same_bytes(part, &spelled)
 }
 
-// Whether a byte is a capture code, 1 to 6 or a to f.
-pub fn is_capture(b: u8) -> bool
-    ensures { λ r. ⌜ r ≡ isCapture b ⌝ }
-{
-    decimal::in_range(b'1', b'6', b) || decimal::in_range(b'a', b'f', b)
-}
-
-// Whether a byte is a payment form, 1 to 3.
-pub fn is_form(b: u8) -> bool
-    ensures { λ r. ⌜ r ≡ isForm b ⌝ }
-{
-    decimal::in_range(b'1', b'3', b)
-}
-
 // A date is accepted at once; only what is none is searched for a byte that is no digit.
 fn check_date(part: &[u8]) -> Answer
-    ensures { λ r. ⌜ r ≡ kindAnswer Kind.Date (now (part .entry)) ⌝ }
+    ensures { λ r. ⌜ r ≡ dateAnswer (now (part .entry)) ⌝ }
 {
     match calendar::read_date(part) {
         MaybeDate::On(_) => Answer::Accepted,
@@ -114,13 +120,14 @@ fn check_date(part: &[u8]) -> Answer
 }
 
 // The first refusal of a field's bytes under its kind, with its place in the field; accepted where there is none. Text,
-// digits, money and blanks may have any width, capture and form go by the first byte, the other kinds have one width.
-pub fn check(kind: Kind, part: &[u8]) -> Answer
-    ensures { λ r. ⌜ r ≡ kindAnswer kind (now (part .entry)) ⌝ }
+// digits, money and blanks may have any width, capture and form go by the first byte and the version, the other kinds
+// have one width.
+pub fn check(kind: Kind, part: &[u8], version: u64) -> Answer
+    ensures { λ r. ⌜ r ≡ kindAnswer (told version) kind (now (part .entry)) ⌝ }
 {
     match kind {
         Kind::Mark(byte) => require(is_mark(part, byte), Reason::FixedDiffers),
-        Kind::Version => require(same_bytes(part, b"04"), Reason::FixedDiffers),
+        Kind::Version => require(is_version_text(part), Reason::FixedDiffers),
         Kind::Service => require(is_service(part), Reason::FixedDiffers),
         Kind::Blank => require(decimal::all_of(Class::Blank, part), Reason::FixedDiffers),
         Kind::Text => decimal::require_class(Class::Text, Reason::NoText, part),
@@ -128,7 +135,7 @@ pub fn check(kind: Kind, part: &[u8]) -> Answer
         Kind::Money => decimal::require_class(Class::Digit, Reason::NoDigit, part),
         Kind::Date => check_date(part),
         Kind::Barcode => barcode::check(part),
-        Kind::Capture => require(is_capture(byte_at(part, 0)), Reason::UnknownCode),
-        Kind::Form => require(is_form(byte_at(part, 0)), Reason::UnknownCode),
+        Kind::Capture => require(is_capture(byte_at(part, 0), version), Reason::UnknownCode),
+        Kind::Form => require(is_form(byte_at(part, 0), version), Reason::UnknownCode),
     }
 }

@@ -108,6 +108,9 @@ fileDateRow = 6
 abbrev pub sequenceRow : ℕ
 sequenceRow = 7
 
+abbrev pub versionRow : ℕ
+versionRow = 8
+
 abbrev pub accountRow : ℕ
 accountRow = 12
 
@@ -155,7 +158,7 @@ totalRow = 26
 -- of a field of so many bytes: nothing of what is fixed and of money, the service field's second byte, else all
 abbrev pub givenOf : Kind → ℕ → Given
 givenOf (Mark byte) width = record { from = 0; to = 0 }
-givenOf Version width = record { from = 0; to = 0 }
+givenOf Version width = record { from = 0; to = width }
 givenOf Service width = record { from = 1; to = 2 }
 givenOf Blank width = record { from = 0; to = 0 }
 givenOf Text width = record { from = 0; to = width }
@@ -208,6 +211,6 @@ RecordIsItsFields =
 abbrev pub MarkNames : Type 0
 MarkNames = (r : Record) → (namedBy (markOf r) ≡ Is r) × (getD (layoutOf r) 0 noField ≡ row 1 1 (Mark (markOf r)))
 
--- A's field bytes are 78, those of G 121
+-- A's field bytes are 80, those of G 121
 abbrev pub GivenLengths : Type 0
-GivenLengths = (givenLength Header ≡ 78) × (givenLength Payment ≡ 121)
+GivenLengths = (givenLength Header ≡ 80) × (givenLength Payment ≡ 121)

@@ -19,8 +19,8 @@ pub enum MaybeRecord {
     Other,
 }
 
-// What a field holds (crate kinds checks it): `Mark` this one byte, `Version` the layout's version, `Service` the name
-// of the service, `Capture` and `Form` one byte that says how the payment was taken in and made.
+// What a field holds (crate kinds checks it): `Mark` this one byte, `Version` a version of the layout, `Service` the
+// name of the service, `Capture` and `Form` one byte that says how the payment was taken in and made.
 pub enum Kind {
     Mark(u8),
     Version,
@@ -149,7 +149,7 @@ pub fn given_of(kind: Kind, width: usize) -> Given
     let all = Given { from: 0, to: width };
     match kind {
         Kind::Mark(_) => none,
-        Kind::Version => none,
+        Kind::Version => all,
         Kind::Service => Given { from: 1, to: 2 },
         Kind::Blank => none,
         Kind::Text => all,
@@ -167,7 +167,7 @@ pub fn given_length(which: Record) -> usize
     ensures { λ r. ⌜ r ≡ givenLength which ⌝ }
 {
     match which {
-        Record::Header => 78,
+        Record::Header => 80,
         Record::Payment => 121,
         Record::Trailer => 6,
     }

@@ -16,11 +16,8 @@ require-requires c κs = search needs
 enum-told : tie.Need-enum-told
 enum-told c = search needs
 
-slice-aggregate-same-bytes : tie.Need-slice-aggregate-same-bytes
-slice-aggregate-same-bytes c = search needs
-
-same-bytes-requires : tie.Need-same-bytes-requires
-same-bytes-requires c κs = search needs
+is-version-text-requires : tie.Need-is-version-text-requires
+is-version-text-requires c κs = search needs
 
 require-requires-2 : tie.Need-require-requires-2
 require-requires-2 c κs = search needs
@@ -103,7 +100,7 @@ returns c = simp (c .before .before .before .kind .given .1, c .require .ensures
 
 returns-2 : tie.Need-returns-2
 unfolding kindAnswer
-returns-2 c = simp (c .before .before .before .enum-told .given .1, c .require2 .ensures, c .before .same-bytes .ensures)
+returns-2 c = simp (c .before .before .enum-told .given .1, c .require2 .ensures, c .before .is-version-text .ensures)
 
 returns-3 : tie.Need-returns-3
 unfolding kindAnswer
@@ -149,8 +146,7 @@ check-spec =
     is-mark-requires
     require-requires
     enum-told
-    slice-aggregate-same-bytes
-    same-bytes-requires
+    is-version-text-requires
     require-requires-2
     enum-told-2
     is-service-requires
