@@ -1,3 +1,4 @@
+pub mod Ignored
 pub mod Joins
 pub mod Makes
 pub mod Parts

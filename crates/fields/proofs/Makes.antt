@@ -14,7 +14,7 @@ use Rattle.answer.specs.declared.Reason.the-variants.{WrongLength}
 use Rattle.answer.specs.declared.Answer.{Answer}
 use Rattle.answer.specs.declared.Answer.the-variants.{Accepted, Refused}
 use Rattle.answer.specs.Refusals.{answerPlace}
-use Rattle.answer.specs.Orders.{movedBy, behind, cappedBehind}
+use Rattle.answer.specs.Orders.{_then_, movedBy, behind, cappedBehind}
 use Rattle.answer.proofs.Orders.{behind-is-exact}
 use Rattle.decimal.specs.Places.{widthOf}
 use Rattle.layout.specs.declared.Field.{Field}
@@ -25,24 +25,25 @@ use Rattle.layout.specs.Layouts.{recordLength, row, table, rowsOf, layoutOf, st
 use Rattle.layout.proofs.Layouts.{Next, next, covers-end, fields-cover}
 use Rattle.layout.proofs.Tables.{every}
 use Rattle.record.proofs.Walks.{in-table}
+use Rattle.kinds.specs.Terms.{Terms, termsAnswer}
 use Rattle.fields.specs.Making.{writtenOf, isMoney, writtenAnswer, givenWidth, fieldMade, fieldMadeAnswer, amountsAfter, madeOf, makingAnswer, makeAnswer}
 use Rattle.fields.proofs.Parts.{given-width-is, fitsField, written-length, layout-fits}
 use Rattle.fields.proofs.Writes.{put-place}
 
 -- What is known before a field: the bytes made so far and those to come are the record, and so the answers.
-pub record Making (rows : List Field) (given amounts made : List ℕ) (done at used : ℕ) (r : Answer) (whole : List ℕ) : Type 0 where
+pub record Making (t : Terms) (rows : List Field) (given amounts made : List ℕ) (done at used : ℕ) (r : Answer) (whole : List ℕ) : Type 0 where
   pub size : length made ≡ recordLength
   pub cover : covers (done + 1) rows ≡ true
   pub fits : every fitsField rows ≡ true
   pub left : at + widthsOf (map givenAt rows) ≡ length given
   pub few : used + length rows ≤ 28
   pub bytes : take done made ++ madeOf rows (drop at given) (drop used amounts) ≡ whole
-  pub answer : makingAnswer rows (drop at given) (drop used amounts) ≡ r
+  pub answer : makingAnswer t rows (drop at given) (drop used amounts) ≡ r
 
-pub start : (r : Record) {rows : List Field} (given amounts made : List ℕ) → rows ≡ layoutOf r → length made ≡ recordLength → length given ≡ givenLength r
-    → Making rows given amounts made 0 0 0 (makingAnswer rows given amounts) (madeOf rows given amounts)
+pub start : (t : Terms) (r : Record) {rows : List Field} (given amounts made : List ℕ) → rows ≡ layoutOf r → length made ≡ recordLength → length given ≡ givenLength r
+    → Making t rows given amounts made 0 0 0 (makingAnswer t rows given amounts) (madeOf rows given amounts)
 unfolding givenLength
-start r given amounts made e n g =
+start t r given amounts made e n g =
     rw e (record {
       size = n;
       cover = fields-cover r;
@@ -53,7 +54,7 @@ start r given amounts made e n g =
       answer = refl;
     })
 
-pub finish : {given amounts made : List ℕ} {done at used : ℕ} {r : Answer} {whole : List ℕ} → Making [] given amounts made done at used r whole
+pub finish : {t : Terms} {given amounts made : List ℕ} {done at used : ℕ} {r : Answer} {whole : List ℕ} → Making t [] given amounts made done at used r whole
     → (Accepted ≡ r) × (made ≡ whole)
 finish {made = made} {done = done} m =
     let d : done ≡ recordLength = omega (arith, eqb-true (done + 1) (recordLength + 1) (m .cover)) in
@@ -69,7 +70,7 @@ used-few true used e = omega arith
 used-few false used e = omega arith
 
 -- One field: what the code needs to know of it, and what is known after it.
-module _ {f : Field} {fs : List Field} {given amounts made : List ℕ} {done at used : ℕ} {r : Answer} {whole : List ℕ} (m : Making (f ∷ fs) given amounts made done at used r whole) where
+module _ {t : Terms} {f : Field} {fs : List Field} {given amounts made : List ℕ} {done at used : ℕ} {r : Answer} {whole : List ℕ} (m : Making t (f ∷ fs) given amounts made done at used r whole) where
   here : Next (done + 1) f fs
   here = next (done + 1) f fs (m .cover)
 
@@ -105,41 +106,41 @@ module _ {f : Field} {fs : List Field} {given amounts made : List ℕ} {done at 
       )
 
   -- the bytes that are given for it
-  module _ {t : ℕ} (e : t ≡ givenWidth f) where
-    pub in-given : at + t ≤ length given
+  module _ {wide : ℕ} (e : wide ≡ givenWidth f) where
+    pub in-given : at + wide ≤ length given
     in-given = omega (arith, m .left)
 
-    piece : take (at + t - at) (drop at given) ≡ take (givenWidth f) (drop at given)
-    piece = let n : at + t - at ≡ givenWidth f = omega arith in ap (λ (k : ℕ). take k (drop at given)) n
+    piece : take (at + wide - at) (drop at given) ≡ take (givenWidth f) (drop at given)
+    piece = let n : at + wide - at ≡ givenWidth f = omega arith in ap (λ (k : ℕ). take k (drop at given)) n
 
     pub fits-part : (x : ℕ)
-        → length (writtenOf (f .kind) (length (take (f .last - done) (drop done made))) (take (at + t - at) (drop at given)) x) ≡ length (take (f .last - done) (drop done made))
+        → length (writtenOf (f .kind) (length (take (f .last - done) (drop done made))) (take (at + wide - at) (drop at given)) x) ≡ length (take (f .last - done) (drop done made))
     fits-part x = rw (width, piece) (written-length (f .kind) (widthOf (stretchOf f)) (take (givenWidth f) (drop at given)) x (fit .0) piece-length)
 
     -- the answer of the call, in the table's words
     module _ {a : Answer} {x : ℕ} (ax : x ≡ getD amounts used 0)
-        (q : a ≡ writtenAnswer (f .kind) (length (take (f .last - done) (drop done made))) (take (at + t - at) (drop at given)) x) where
+        (q : a ≡ writtenAnswer t (f .kind) (length (take (f .last - done) (drop done made))) (take (at + wide - at) (drop at given)) x) where
       amount : x ≡ getD (drop used amounts) 0 0
       amount = let z : used + 0 ≡ used = omega arith in ax ∙ ap (λ (k : ℕ). getD amounts k 0) (sym z) ∙ sym (getD-drop used amounts 0 0)
 
-      answered-as : a ≡ writtenAnswer (f .kind) (widthOf (stretchOf f)) (take (givenWidth f) (drop at given)) (getD (drop used amounts) 0 0)
+      answered-as : a ≡ writtenAnswer t (f .kind) (widthOf (stretchOf f)) (take (givenWidth f) (drop at given)) (getD (drop used amounts) 0 0)
       answered-as = q ∙ rw (width, piece, ← amount)
 
       near : (answerPlace a ≤ 151) × (done ≤ 150)
       near =
           let l = written-length (f .kind) (widthOf (stretchOf f)) (take (givenWidth f) (drop at given)) (getD (drop used amounts) 0 0) (fit .0) piece-length in
           let s : widthOf (stretchOf f) ≤ 150 = omega (arith, ends .1) in
-          (rw answered-as (put-place (f .kind) (widthOf (stretchOf f)) (take (givenWidth f) (drop at given)) (getD (drop used amounts) 0 0) l s), omega (arith, ends .0, ends .1))
+          (rw answered-as (put-place t (f .kind) (widthOf (stretchOf f)) (take (givenWidth f) (drop at given)) (getD (drop used amounts) 0 0) l s), omega (arith, ends .0, ends .1))
 
       pub refuses : {b : Answer} {why : Reason} {p : ℕ} → a ≡ Refused why p → b ≡ movedBy (cappedBehind done) a → b ≡ r
       refuses {b} {why} {p} e2 h =
-          let z : fieldMadeAnswer f (drop at given) (drop used amounts) ≡ Refused why (behind done p) =
+          let z : fieldMadeAnswer t f (drop at given) (drop used amounts) ≡ Refused why (behind done p) =
           ap (movedBy (behind (f .first - 1))) (sym answered-as ∙ e2) ∙ ap (λ (k : ℕ). Refused why (behind k p)) front in
           h ∙ behind-is-exact done a (omega (arith, near)) ∙ rw e2 (rw z at (m .answer))
 
-      pub step : {n u : ℕ} {ys : List ℕ} → a ≡ Accepted → n ≡ at + t → u ≡ cond (isMoney (f .kind)) (used + 1) used
-          → ys ≡ writtenOf (f .kind) (length (take (f .last - done) (drop done made))) (take (at + t - at) (drop at given)) x
-          → Making fs given amounts (take done made ++ (ys ++ drop (f .last - done) (drop done made))) (f .last) n u r whole
+      pub step : {n u : ℕ} {ys : List ℕ} → a ≡ Accepted → n ≡ at + wide → u ≡ cond (isMoney (f .kind)) (used + 1) used
+          → ys ≡ writtenOf (f .kind) (length (take (f .last - done) (drop done made))) (take (at + wide - at) (drop at given)) x
+          → Making t fs given amounts (take done made ++ (ys ++ drop (f .last - done) (drop done made))) (f .last) n u r whole
       step {n} {u} {ys} e2 en eu ey =
           let y : ys ≡ fieldMade f (drop at given) (drop used amounts) = ey ∙ rw (width, piece, ← amount) in
           let ly : length ys ≡ widthOf (stretchOf f) = rw y (written-length (f .kind) (widthOf (stretchOf f)) (take (givenWidth f) (drop at given)) (getD (drop used amounts) 0 0) (fit .0) piece-length) in
@@ -147,7 +148,7 @@ module _ {f : Field} {fs : List Field} {given amounts made : List ℕ} {done at 
           let tk : take (f .last) (take done made ++ (ys ++ rest)) ≡ take done made ++ ys = rw (← append-assoc (take done made) ys rest) (take-at (take done made ++ ys) rest (f .last) (filled ys ly .0)) in
           let gn : drop n given ≡ drop (givenWidth f) (drop at given) = rw (en, e) (sym (drop-drop (givenWidth f) at given)) in
           let un : drop u amounts ≡ amountsAfter f (drop used amounts) = rw eu (used-on (isMoney (f .kind)) used amounts) in
-          let z : fieldMadeAnswer f (drop at given) (drop used amounts) ≡ Accepted = ap (movedBy (behind (f .first - 1))) (sym answered-as ∙ e2) in
+          let z : fieldMadeAnswer t f (drop at given) (drop used amounts) ≡ Accepted = ap (movedBy (behind (f .first - 1))) (sym answered-as ∙ e2) in
           record {
             size = filled ys ly .1;
             cover = here .rest;
@@ -159,25 +160,25 @@ module _ {f : Field} {fs : List Field} {given amounts made : List ℕ} {done at 
           }
 
 -- at a row of the table
-pub at-row : (which : Record) {rows : Rows} {copy : List Field} {i : ℕ} {given amounts made : List ℕ} {done at used : ℕ} {r : Answer} {whole : List ℕ}
-    → copy ≡ table → rows ≡ rowsOf which → i < rows .to → Making (slice i (rows .to) copy) given amounts made done at used r whole
-    → Making (getD copy i (row 0 0 (kind.Mark 0)) ∷ slice (i + 1) (rows .to) copy) given amounts made done at used r whole
-at-row which {rows} {copy} {i} t e h m = rw add-one (rw (slice-cons i (rows .to) copy (row 0 0 (kind.Mark 0)) h (in-table which t e)) at m)
+pub at-row : (which : Record) {t : Terms} {rows : Rows} {copy : List Field} {i : ℕ} {given amounts made : List ℕ} {done at used : ℕ} {r : Answer} {whole : List ℕ}
+    → copy ≡ table → rows ≡ rowsOf which → i < rows .to → Making t (slice i (rows .to) copy) given amounts made done at used r whole
+    → Making t (getD copy i (row 0 0 (kind.Mark 0)) ∷ slice (i + 1) (rows .to) copy) given amounts made done at used r whole
+at-row which {rows = rows} {copy = copy} {i = i} tb e h m = rw add-one (rw (slice-cons i (rows .to) copy (row 0 0 (kind.Mark 0)) h (in-table which tb e)) at m)
 
-pub at-end : (copy : List Field) (i to : ℕ) {given amounts made : List ℕ} {done at used : ℕ} {r : Answer} {whole : List ℕ} → i ≤ to → to ≤ i
-    → Making (slice i to copy) given amounts made done at used r whole → (Accepted ≡ r) × (made ≡ whole)
+pub at-end : (copy : List Field) (i to : ℕ) {t : Terms} {given amounts made : List ℕ} {done at used : ℕ} {r : Answer} {whole : List ℕ} → i ≤ to → to ≤ i
+    → Making t (slice i to copy) given amounts made done at used r whole → (Accepted ≡ r) × (made ≡ whole)
 at-end copy i to h k m = finish (rw (le-antisymm h k, slice-empty) at m)
 
 -- Both lengths first, then the fields.
-module _ (r : Record) (given amounts : List ℕ) {size : ℕ} where
-  pub wrong-size : (size ≡ recordLength → ⊥) → Refused WrongLength 0 ≡ makeAnswer r given amounts size
+module _ (t : Terms) (r : Record) (given amounts : List ℕ) {size : ℕ} where
+  pub wrong-size : (size ≡ recordLength → ⊥) → Refused WrongLength 0 ≡ makeAnswer t r given amounts size
   unfolding makeAnswer
   wrong-size h = rw (ne-eqb size recordLength h)
 
-  pub wrong-given : {n : ℕ} → size ≡ recordLength → n ≡ givenLength r → (length given ≡ n → ⊥) → Refused WrongLength 0 ≡ makeAnswer r given amounts size
+  pub wrong-given : {n : ℕ} → size ≡ recordLength → n ≡ givenLength r → (length given ≡ n → ⊥) → Refused WrongLength 0 ≡ makeAnswer t r given amounts size
   unfolding makeAnswer
   wrong-given e q h = rw (eq-eqb size recordLength e, ne-eqb (length given) (givenLength r) (λ k. h (k ∙ sym q)))
 
-  pub goes-on : {a : Answer} → size ≡ recordLength → length given ≡ givenLength r → a ≡ makingAnswer (layoutOf r) given amounts → a ≡ makeAnswer r given amounts size
+  pub goes-on : {a : Answer} → size ≡ recordLength → length given ≡ givenLength r → a ≡ (termsAnswer t r then makingAnswer t (layoutOf r) given amounts) → a ≡ makeAnswer t r given amounts size
   unfolding makeAnswer
   goes-on e q h = rw (eq-eqb size recordLength e, eq-eqb (length given) (givenLength r) q) h

@@ -47,7 +47,7 @@ part-length {f} rec l n h =
 
 unfoldable pub fitsKind : Kind → ℕ → Bool
 fitsKind (kind.Mark byte) w = eqb w 1
-fitsKind kind.Version w = eqb w 2
+fitsKind kind.Version w = true
 fitsKind kind.Service w = eqb w 17
 fitsKind kind.Blank w = true
 fitsKind kind.Text w = true
@@ -62,7 +62,7 @@ pub written-length : (k : Kind) (w : ℕ) (piece : List ℕ) (n : ℕ) → fitsK
     → length (writtenOf k w piece n) ≡ w
 unfolding fitsKind
 written-length (kind.Mark byte) w piece n t e = sym (eqb-true w 1 t)
-written-length kind.Version w piece n t e = sym (eqb-true w 2 t)
+written-length kind.Version w piece n t e = e ∙ omega arith
 written-length kind.Service w piece n t e = sym (eqb-true w 17 t)
 written-length kind.Blank w piece n t e = length-replicate w 32
 written-length kind.Text w piece n t e = e ∙ omega arith
@@ -133,11 +133,11 @@ not-money kind.Capture h = refl
 not-money kind.Form h = refl
 
 abbrev wholes : List ℕ
-wholes = 4 ∷ 5 ∷ 7 ∷ 8 ∷ 9 ∷ 10 ∷ []
+wholes = 1 ∷ 4 ∷ 5 ∷ 7 ∷ 8 ∷ 9 ∷ 10 ∷ []
 
 pub given-whole : (k : Kind) → OneOf wholes (tagOf the-type k) → (w n : ℕ) (given : List ℕ) → given ≡ writtenOf k w given n
 given-whole (kind.Mark byte) h w n given = absurd (miss wholes 0 tt h)
-given-whole kind.Version h w n given = absurd (miss wholes 1 tt h)
+given-whole kind.Version h w n given = refl
 given-whole kind.Service h w n given = absurd (miss wholes 2 tt h)
 given-whole kind.Blank h w n given = absurd (miss wholes 3 tt h)
 given-whole kind.Text h w n given = refl

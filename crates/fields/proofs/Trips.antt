@@ -25,7 +25,8 @@ use Rattle.layout.specs.declared.Kind.the-variants as kind
 use Rattle.layout.specs.Layouts.{recordLength, layoutOf, stretchOf, givenOf, givenAt, givenLength, widthsOf, covers}
 use Rattle.layout.proofs.Layouts.{next, covers-end, fields-cover}
 use Rattle.layout.proofs.Tables.{every}
-use Rattle.kinds.specs.Kinds.{version, serviceOf, isSpelling, isService, same, kindAnswer}
+use Rattle.kinds.specs.Terms.{Terms}
+use Rattle.kinds.specs.Kinds.{serviceOf, isSpelling, isService, same, kindAnswer}
 use Rattle.record.specs.Records.{fieldBytes, fieldAnswer}
 use Rattle.fields.specs.Making.{writtenOf, isMoney, writtenAnswer, givenWidth, fieldMade, fieldMadeAnswer, amountsAfter, madeOf, makingAnswer}
 use Rattle.fields.specs.Promises.{amountsIn, FieldsMakeTheRecord, MadeIsAccepted}
@@ -41,26 +42,26 @@ blanks (b ∷ bs) t =
     rw (eqb-true b 32 (both .0), blanks bs (both .1))
 
 -- an accepted field's bytes are written again from what is given of them, and from their number
-written-back : (k : Kind) (w : ℕ) (bs : List ℕ) → length bs ≡ w → fitsKind k w ≡ true → kindAnswer k bs ≡ Accepted
+written-back : (t : Terms) (k : Kind) (w : ℕ) (bs : List ℕ) → length bs ≡ w → fitsKind k w ≡ true → kindAnswer t k bs ≡ Accepted
     → writtenOf k w (take (givenOf k w .to - givenOf k w .from) (drop (givenOf k w .from) bs)) (numberOf bs) ≡ bs
 unfolding kindAnswer isService
-written-back (kind.Mark byte) w bs n t a = sym (same-equal bs (byte ∷ []) (require-accepts (same bs (byte ∷ [])) FixedDiffers 1 .0 a))
-written-back kind.Version w bs n t a = sym (same-equal bs version (require-accepts (same bs version) FixedDiffers 1 .0 a))
-written-back kind.Service w bs n t a =
+written-back t (kind.Mark byte) w bs n q a = sym (same-equal bs (byte ∷ []) (require-accepts (same bs (byte ∷ [])) FixedDiffers 1 .0 a))
+written-back t kind.Version w bs n q a = take-all (w - 0) bs (omega arith)
+written-back t kind.Service w bs n q a =
     let s = require-accepts (isSpelling (getD bs 1 0) && same bs (serviceOf (getD bs 1 0))) FixedDiffers 1 .0 a in
     let e = same-equal bs (serviceOf (getD bs 1 0)) (and-eq-true-iff (isSpelling (getD bs 1 0)) (same bs (serviceOf (getD bs 1 0))) .0 s .1) in
     let g : getD (take 1 (drop 1 bs)) 0 0 ≡ getD bs 1 0 = ap (λ (l : List ℕ). getD (take 1 (drop 1 l)) 0 0) e in
     ap serviceOf g ∙ sym e
-written-back kind.Blank w bs n t a =
+written-back t kind.Blank w bs n q a =
     ap (λ (m : ℕ). replicate m 32) (sym n) ∙ blanks bs (require-accepts (all (isOf Blank) bs) FixedDiffers 1 .0 a)
-written-back kind.Text w bs n t a = take-all (w - 0) bs (omega arith)
-written-back kind.Digits w bs n t a = take-all (w - 0) bs (omega arith)
-written-back kind.Money w bs n t a =
+written-back t kind.Text w bs n q a = take-all (w - 0) bs (omega arith)
+written-back t kind.Digits w bs n q a = take-all (w - 0) bs (omega arith)
+written-back t kind.Money w bs n q a =
     ap (λ (m : ℕ). digitsOf m (numberOf bs)) (sym n) ∙ digits-of-number bs (each-accepts (isOf Digit) NoDigit 1 bs .0 a)
-written-back kind.Date w bs n t a = take-all (w - 0) bs (omega arith)
-written-back kind.Barcode w bs n t a = take-all (w - 0) bs (omega arith)
-written-back kind.Capture w bs n t a = take-all (w - 0) bs (omega arith)
-written-back kind.Form w bs n t a = take-all (w - 0) bs (omega arith)
+written-back t kind.Date w bs n q a = take-all (w - 0) bs (omega arith)
+written-back t kind.Barcode w bs n q a = take-all (w - 0) bs (omega arith)
+written-back t kind.Capture w bs n q a = take-all (w - 0) bs (omega arith)
+written-back t kind.Form w bs n q a = take-all (w - 0) bs (omega arith)
 
 -- a number that was read fits where it was read
 number-fits-back : (k : Kind) (w : ℕ) (bs : List ℕ) → length bs ≡ w → cond (isMoney k) (widthAnswer w (numberOf bs)) Accepted ≡ Accepted
@@ -93,37 +94,37 @@ after-is : (t : Bool) (x : ℕ) (rest : List ℕ) → cond t (drop 1 (cond t (x 
 after-is true x rest = refl
 after-is false x rest = refl
 
-put-back : (k : Kind) (w : ℕ) (piece rest bs : List ℕ) → length bs ≡ w → kindAnswer k bs ≡ Accepted → writtenOf k w piece (numberOf bs) ≡ bs
-    → (writtenAnswer k w piece (getD (cond (isMoney k) (numberOf bs ∷ rest) rest) 0 0) ≡ Accepted) × (writtenOf k w piece (getD (cond (isMoney k) (numberOf bs ∷ rest) rest) 0 0) ≡ bs)
+put-back : (t : Terms) (k : Kind) (w : ℕ) (piece rest bs : List ℕ) → length bs ≡ w → kindAnswer t k bs ≡ Accepted → writtenOf k w piece (numberOf bs) ≡ bs
+    → (writtenAnswer t k w piece (getD (cond (isMoney k) (numberOf bs ∷ rest) rest) 0 0) ≡ Accepted) × (writtenOf k w piece (getD (cond (isMoney k) (numberOf bs ∷ rest) rest) 0 0) ≡ bs)
 unfolding writtenAnswer
-put-back k w piece rest bs n a e = go (isMoney k) refl
+put-back t k w piece rest bs n a e = go (isMoney k) refl
   where
-    go : (t : Bool) → isMoney k ≡ t
-        → (cond t (widthAnswer w (getD (cond t (numberOf bs ∷ rest) rest) 0 0)) Accepted then kindAnswer k (writtenOf k w piece (getD (cond t (numberOf bs ∷ rest) rest) 0 0)) ≡ Accepted)
-        × (writtenOf k w piece (getD (cond t (numberOf bs ∷ rest) rest) 0 0) ≡ bs)
+    go : (m : Bool) → isMoney k ≡ m
+        → (cond m (widthAnswer w (getD (cond m (numberOf bs ∷ rest) rest) 0 0)) Accepted then kindAnswer t k (writtenOf k w piece (getD (cond m (numberOf bs ∷ rest) rest) 0 0)) ≡ Accepted)
+        × (writtenOf k w piece (getD (cond m (numberOf bs ∷ rest) rest) 0 0) ≡ bs)
     go true q =
         let wide : widthAnswer w (numberOf bs) ≡ Accepted = rw q at (number-fits-back k w bs n) in
-        (then-accepts (widthAnswer w (numberOf bs)) (kindAnswer k (writtenOf k w piece (numberOf bs))) .1 (wide, ap (kindAnswer k) e ∙ a), e)
+        (then-accepts (widthAnswer w (numberOf bs)) (kindAnswer t k (writtenOf k w piece (numberOf bs))) .1 (wide, ap (kindAnswer t k) e ∙ a), e)
     go false q =
         let f = other-is k w piece (getD rest 0 0) q ∙ sym (other-is k w piece (numberOf bs) q) ∙ e in
-        (ap (kindAnswer k) f ∙ a, f)
+        (ap (kindAnswer t k) f ∙ a, f)
 
 seam : (place last : ℕ) → 1 ≤ place → place ≤ last → last + 1 - 1 ≡ (place - 1) + (last - (place - 1))
 seam place last h k = omega arith
 
 -- Trip one, from a field on.
-made-from : (fs : List Field) (place : ℕ) (rec : List ℕ) → 1 ≤ place → length rec ≡ recordLength → covers place fs ≡ true → every fitsField fs ≡ true
-    → firstRefusal (fieldAnswer rec) fs ≡ Accepted
-    → (makingAnswer fs (gather (map givenAt fs) rec) (amountsIn fs rec) ≡ Accepted) × (madeOf fs (gather (map givenAt fs) rec) (amountsIn fs rec) ≡ drop (place - 1) rec)
+made-from : (t : Terms) (fs : List Field) (place : ℕ) (rec : List ℕ) → 1 ≤ place → length rec ≡ recordLength → covers place fs ≡ true → every fitsField fs ≡ true
+    → firstRefusal (fieldAnswer t rec) fs ≡ Accepted
+    → (makingAnswer t fs (gather (map givenAt fs) rec) (amountsIn fs rec) ≡ Accepted) × (madeOf fs (gather (map givenAt fs) rec) (amountsIn fs rec) ≡ drop (place - 1) rec)
 unfolding fieldAnswer
-made-from [] place rec h n t q a =
-    let l : length rec ≤ place - 1 = omega (arith, eqb-true place (recordLength + 1) t) in
+made-from t [] place rec h n cv q a =
+    let l : length rec ≤ place - 1 = omega (arith, eqb-true place (recordLength + 1) cv) in
     (refl, sym (drop-of-length-le rec l))
-made-from (f ∷ fs) place rec h n t q a =
-    let x = next place f fs t in
+made-from t (f ∷ fs) place rec h n cv q a =
+    let x = next place f fs cv in
     let fit = and-eq-true-iff (fitsField f) (every fitsField fs) .0 q in
-    let both = then-accepts (fieldAnswer rec f) (firstRefusal (fieldAnswer rec) fs) .0 a in
-    let k = moved-accepts (behind (f .first - 1)) (kindAnswer (f .kind) (fieldBytes f rec)) .0 (both .0) in
+    let both = then-accepts (fieldAnswer t rec f) (firstRefusal (fieldAnswer t rec) fs) .0 a in
+    let k = moved-accepts (behind (f .first - 1)) (kindAnswer t (f .kind) (fieldBytes f rec)) .0 (both .0) in
     let one : 1 ≤ f .first = omega (arith, x .here) in
     let end : f .last ≤ recordLength = omega (arith, covers-end fs (f .last + 1) (x .rest)) in
     let w = widthOf (stretchOf f) in
@@ -133,20 +134,20 @@ made-from (f ∷ fs) place rec h n t q a =
     let amounts = amountsIn fs rec in
     let gp = given-part f rec one (fit .0) in
     let wb : writtenOf (f .kind) w g (numberOf (fieldBytes f rec)) ≡ fieldBytes f rec =
-    ap (λ (l : List ℕ). writtenOf (f .kind) w l (numberOf (fieldBytes f rec))) (sym gp) ∙ written-back (f .kind) w (fieldBytes f rec) lb (fit .0) k in
-    let p = put-back (f .kind) w g amounts (fieldBytes f rec) lb k wb in
+    ap (λ (l : List ℕ). writtenOf (f .kind) w l (numberOf (fieldBytes f rec))) (sym gp) ∙ written-back t (f .kind) w (fieldBytes f rec) lb (fit .0) k in
+    let p = put-back t (f .kind) w g amounts (fieldBytes f rec) lb k wb in
     let lg : length g ≡ givenWidth f = given-length f rec one (fit .0) (omega (arith, x .here, x .wide)) end n in
     let tg : take (givenWidth f) (g ++ rest) ≡ g = take-at g rest (givenWidth f) lg in
     let dg : drop (givenWidth f) (g ++ rest) ≡ rest = drop-at g rest (givenWidth f) lg in
     let am = after-is (isMoney (f .kind)) (numberOf (fieldBytes f rec)) amounts in
-    let ih = made-from fs (f .last + 1) rec (omega arith) n (x .rest) (fit .1) (both .1) in
+    let ih = made-from t fs (f .last + 1) rec (omega arith) n (x .rest) (fit .1) (both .1) in
     let e = seam place (f .last) h (x .wide) in (
       rw (tg, dg, am) (then-accepts _ _ .1 (ap (movedBy (behind (f .first - 1))) (p .0), ih .0)),
       rw (tg, dg, am, p .1, ih .1, x .here, e, ← drop-drop (f .last - (place - 1)) (place - 1) rec) (take-append-drop (f .last - (place - 1)) (drop (place - 1) rec)),
     )
 
 pub fields-make-the-record : FieldsMakeTheRecord
-fields-make-the-record r rec n a = made-from (layoutOf r) 1 rec (omega arith) n (fields-cover r) (layout-fits r .0) a
+fields-make-the-record t r rec n a = made-from t (layoutOf r) 1 rec (omega arith) n (fields-cover r) (layout-fits r .0) a
 
 no-bytes : (l : List ℕ) → length l ≡ 0 → l ≡ []
 no-bytes [] e = refl
@@ -163,7 +164,7 @@ joint p w a z e h k = omega arith
 written-given : (k : Kind) (w : ℕ) (piece : List ℕ) (n : ℕ) → length piece ≡ givenOf k w .to - givenOf k w .from
     → take (givenOf k w .to - givenOf k w .from) (drop (givenOf k w .from) (writtenOf k w piece n)) ≡ piece
 written-given (kind.Mark byte) w piece n e = sym (no-bytes piece e)
-written-given kind.Version w piece n e = sym (no-bytes piece e)
+written-given kind.Version w piece n e = take-all (w - 0) piece (omega arith)
 written-given kind.Service w piece n e = one-byte piece e
 written-given kind.Blank w piece n e = sym (no-bytes piece e)
 written-given kind.Text w piece n e = take-all (w - 0) piece (omega arith)
@@ -179,23 +180,23 @@ module _ (pre piece rest : List ℕ) (a w : ℕ) (lp : length pre ≡ a) (lw : l
   middle : take w (drop a (pre ++ (piece ++ rest))) ≡ piece
   middle = rw (drop-at pre (piece ++ rest) a lp) (take-at piece rest w lw)
 
-checked-kind : (k : Kind) (w : ℕ) (piece : List ℕ) (n : ℕ) → writtenAnswer k w piece n ≡ Accepted → kindAnswer k (writtenOf k w piece n) ≡ Accepted
+checked-kind : (t : Terms) (k : Kind) (w : ℕ) (piece : List ℕ) (n : ℕ) → writtenAnswer t k w piece n ≡ Accepted → kindAnswer t k (writtenOf k w piece n) ≡ Accepted
 unfolding writtenAnswer
-checked-kind k w piece n e = then-accepts (cond (isMoney k) (widthAnswer w n) Accepted) (kindAnswer k (writtenOf k w piece n)) .0 e .1
+checked-kind t k w piece n e = then-accepts (cond (isMoney k) (widthAnswer w n) Accepted) (kindAnswer t k (writtenOf k w piece n)) .0 e .1
 
-made-accepts : (fs : List Field) (pre given amounts : List ℕ) → covers (length pre + 1) fs ≡ true → every fitsField fs ≡ true → widthsOf (map givenAt fs) ≡ length given
-    → makingAnswer fs given amounts ≡ Accepted
+made-accepts : (t : Terms) (fs : List Field) (pre given amounts : List ℕ) → covers (length pre + 1) fs ≡ true → every fitsField fs ≡ true → widthsOf (map givenAt fs) ≡ length given
+    → makingAnswer t fs given amounts ≡ Accepted
     → (length (pre ++ madeOf fs given amounts) ≡ recordLength)
-    × (firstRefusal (fieldAnswer (pre ++ madeOf fs given amounts)) fs ≡ Accepted)
+    × (firstRefusal (fieldAnswer t (pre ++ madeOf fs given amounts)) fs ≡ Accepted)
     × (gather (map givenAt fs) (pre ++ madeOf fs given amounts) ≡ given)
 unfolding fieldAnswer
-made-accepts [] pre given amounts t q n a =
+made-accepts t [] pre given amounts cv q n a =
     let z : given ≡ [] = no-bytes given (sym n) in
-    (rw append-nil (omega (arith, eqb-true (length pre + 1) (recordLength + 1) t)), refl, sym z)
-made-accepts (f ∷ fs) pre given amounts t q n a =
-    let x = next (length pre + 1) f fs t in
+    (rw append-nil (omega (arith, eqb-true (length pre + 1) (recordLength + 1) cv)), refl, sym z)
+made-accepts t (f ∷ fs) pre given amounts cv q n a =
+    let x = next (length pre + 1) f fs cv in
     let fit = and-eq-true-iff (fitsField f) (every fitsField fs) .0 q in
-    let both = then-accepts (fieldMadeAnswer f given amounts) (makingAnswer fs (drop (givenWidth f) given) (amountsAfter f amounts)) .0 a in
+    let both = then-accepts (fieldMadeAnswer t f given amounts) (makingAnswer t fs (drop (givenWidth f) given) (amountsAfter f amounts)) .0 a in
     let w = widthOf (stretchOf f) in
     let one : 1 ≤ f .first = omega (arith, x .here) in
     let front : length pre ≡ f .first - 1 = omega (arith, x .here) in
@@ -204,12 +205,12 @@ made-accepts (f ∷ fs) pre given amounts t q n a =
     let piece = fieldMade f given amounts in
     let lw : length piece ≡ w = written-length (f .kind) w (take (givenWidth f) given) (getD amounts 0 0) (fit .0) lg in
     let rest = madeOf fs (drop (givenWidth f) given) (amountsAfter f amounts) in
-    let k = checked-kind (f .kind) w (take (givenWidth f) given) (getD amounts 0 0) (moved-accepts (behind (f .first - 1)) (writtenAnswer (f .kind) w (take (givenWidth f) given) (getD amounts 0 0)) .0 (both .0)) in
+    let k = checked-kind t (f .kind) w (take (givenWidth f) given) (getD amounts 0 0) (moved-accepts (behind (f .first - 1)) (writtenAnswer t (f .kind) w (take (givenWidth f) given) (getD amounts 0 0)) .0 (both .0)) in
     let m : fieldBytes f (pre ++ (piece ++ rest)) ≡ piece = middle pre piece rest (f .first - 1) w front lw in
     let lp : length (pre ++ piece) + 1 ≡ f .last + 1 = ap (λ (v : ℕ). v + 1) (length-append pre piece) ∙ joint (length pre) (length piece) (f .first) (f .last) (x .here) (x .wide) lw in
-    let cv : covers (length (pre ++ piece) + 1) fs ≡ true = rw lp (x .rest) in
+    let on : covers (length (pre ++ piece) + 1) fs ≡ true = rw lp (x .rest) in
     let ln : widthsOf (map givenAt fs) ≡ length (drop (givenWidth f) given) = rw (length-drop (givenWidth f) given) (omega arith) in
-    let ih = made-accepts fs (pre ++ piece) (drop (givenWidth f) given) (amountsAfter f amounts) cv (fit .1) ln (both .1) in
+    let ih = made-accepts t fs (pre ++ piece) (drop (givenWidth f) given) (amountsAfter f amounts) on (fit .1) ln (both .1) in
     let al : (pre ++ piece) ++ rest ≡ pre ++ (piece ++ rest) = append-assoc pre piece rest in
     let i0 = rw al at (ih .0) in
     let i1 = rw al at (ih .1) in
@@ -217,10 +218,10 @@ made-accepts (f ∷ fs) pre given amounts t q n a =
     let g : partAt (givenAt f) (pre ++ (piece ++ rest)) ≡ take (givenWidth f) given =
     sym (given-part f (pre ++ (piece ++ rest)) one (fit .0)) ∙ rw m (written-given (f .kind) w (take (givenWidth f) given) (getD amounts 0 0) lg) in (
       i0,
-      then-accepts _ _ .1 (ap (movedBy (behind (f .first - 1))) (ap (kindAnswer (f .kind)) m ∙ k), i1),
+      then-accepts _ _ .1 (ap (movedBy (behind (f .first - 1))) (ap (kindAnswer t (f .kind)) m ∙ k), i1),
       rw (g, i2) (take-append-drop (givenWidth f) given),
     )
 
 pub made-is-accepted : MadeIsAccepted
 unfolding givenLength
-made-is-accepted r given amounts n a = made-accepts (layoutOf r) [] given amounts (fields-cover r) (layout-fits r .0) (sym n) a
+made-is-accepted t r given amounts n a = made-accepts t (layoutOf r) [] given amounts (fields-cover r) (layout-fits r .0) (sym n) a

@@ -23,6 +23,7 @@ use Rattle.decimal.specs.Places.{putAt}
 use Rattle.decimal.proofs.Places.{put-whole, copied-whole}
 use Rattle.layout.specs.declared.Kind.{Kind}
 use Rattle.layout.specs.declared.Kind.the-variants as kind
+use Rattle.kinds.specs.Terms.{Terms}
 use Rattle.kinds.specs.Kinds.{kindAnswer}
 use Rattle.kinds.proofs.KindLaws.{kind-place}
 use Rattle.fields.specs.Making.{writtenOf, isMoney, writtenAnswer}
@@ -71,29 +72,29 @@ other-is kind.Barcode w given n e = refl
 other-is kind.Capture w given n e = refl
 other-is kind.Form w given n e = refl
 
-digits-accepted : (w n : ℕ) → kindAnswer kind.Money (digitsOf w n) ≡ Accepted
+digits-accepted : (t : Terms) (w n : ℕ) → kindAnswer t kind.Money (digitsOf w n) ≡ Accepted
 unfolding kindAnswer
-digits-accepted w n = each-accepts (isOf Digit) NoDigit 1 (digitsOf w n) .1 (digits-fill w n .1)
+digits-accepted t w n = each-accepts (isOf Digit) NoDigit 1 (digitsOf w n) .1 (digits-fill w n .1)
 
-module _ (k : Kind) (w : ℕ) (given : List ℕ) (n : ℕ) where
-  pub put-money : {r : Answer} → isMoney k ≡ true → r ≡ widthAnswer w n → r ≡ writtenAnswer k w given n
+module _ (t : Terms) (k : Kind) (w : ℕ) (given : List ℕ) (n : ℕ) where
+  pub put-money : {r : Answer} → isMoney k ≡ true → r ≡ widthAnswer w n → r ≡ writtenAnswer t k w given n
   unfolding writtenAnswer
-  put-money e q = rw (money-is k e, digits-accepted w n, then-accepted (widthAnswer w n)) q
+  put-money e q = rw (money-is k e, digits-accepted t w n, then-accepted (widthAnswer w n)) q
 
   pub put-money-bytes : (r : Answer) (old : List ℕ) {new : List ℕ} → isMoney k ≡ true → length old ≡ w → new ≡ ifAccepted r (putAt 0 (digitsOf w n) old) old → r ≡ Accepted
       → new ≡ writtenOf k w given n
   put-money-bytes r old e l q a =
       rw (money-is k e) (q ∙ accepted-takes r (putAt 0 (digitsOf w n) old) old a ∙ put-whole (digitsOf w n) old (digits-fill w n .0 ∙ sym l))
 
-  pub put-other : {r : Answer} {new : List ℕ} → isMoney k ≡ false → new ≡ writtenOf k w given 0 → r ≡ kindAnswer k new → r ≡ writtenAnswer k w given n
+  pub put-other : {r : Answer} {new : List ℕ} → isMoney k ≡ false → new ≡ writtenOf k w given 0 → r ≡ kindAnswer t k new → r ≡ writtenAnswer t k w given n
   unfolding writtenAnswer
-  put-other e q a = rw e (a ∙ ap (kindAnswer k) (q ∙ sym (other-is k w given n e)))
+  put-other e q a = rw e (a ∙ ap (kindAnswer t k) (q ∙ sym (other-is k w given n e)))
 
 -- a refusal of a field in the record is within the record
-pub put-place : (k : Kind) (w : ℕ) (piece : List ℕ) (n : ℕ) → length (writtenOf k w piece n) ≡ w → w ≤ 150 → answerPlace (writtenAnswer k w piece n) ≤ 151
+pub put-place : (t : Terms) (k : Kind) (w : ℕ) (piece : List ℕ) (n : ℕ) → length (writtenOf k w piece n) ≡ w → w ≤ 150 → answerPlace (writtenAnswer t k w piece n) ≤ 151
 unfolding writtenAnswer
-put-place k w piece n e h =
-    let wide : (t : Bool) → answerPlace (cond t (widthAnswer w n) Accepted) ≤ 151 =
-    λ t. elim t as (λ (b : Bool). answerPlace (cond b (widthAnswer w n) Accepted) ≤ 151) [ true ↦ require-place 151 (ltb n (10 ^ w)) TooWide 1 (omega arith) | false ↦ omega arith ] in
-    then-place 151 (cond (isMoney k) (widthAnswer w n) Accepted) (kindAnswer k (writtenOf k w piece n)) (wide (isMoney k))
-    (kind-place k (writtenOf k w piece n) (omega arith))
+put-place t k w piece n e h =
+    let wide : (m : Bool) → answerPlace (cond m (widthAnswer w n) Accepted) ≤ 151 =
+    λ m. elim m as (λ (b : Bool). answerPlace (cond b (widthAnswer w n) Accepted) ≤ 151) [ true ↦ require-place 151 (ltb n (10 ^ w)) TooWide 1 (omega arith) | false ↦ omega arith ] in
+    then-place 151 (cond (isMoney k) (widthAnswer w n) Accepted) (kindAnswer t k (writtenOf k w piece n)) (wide (isMoney k))
+    (kind-place t k (writtenOf k w piece n) (omega arith))

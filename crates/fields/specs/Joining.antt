@@ -14,6 +14,7 @@ use Rattle.layout.specs.declared.MaybeRecord.the-variants.{Is, Other}
 use Rattle.layout.specs.declared.Record.{Record}
 use Rattle.layout.specs.declared.Record.the-variants.{Header, Payment, Trailer}
 use Rattle.layout.specs.Layouts.{recordLength, namedBy, givenLength, joinedOf}
+use Rattle.kinds.specs.Terms.{Terms, termsAnswer}
 use Rattle.record.specs.Records.{layoutAnswer}
 
 -- A and G have field bytes; a Z is the writer's own
@@ -22,16 +23,20 @@ isGiven Header = true
 isGiven Payment = true
 isGiven Trailer = false
 
--- 9 for a record that has no field bytes, 1 for a buffer of another length, then the fields
-abbrev pub namedJoin : MaybeRecord → List ℕ → ℕ → Answer
-namedJoin (Is r) rec size =
-    require (isGiven r) NotExpected 1 then require (eqb size (givenLength r)) WrongLength 0 then layoutAnswer r rec
-namedJoin Other rec size = Refused NotExpected 1
+-- 9 for a record that has no field bytes, 1 for a buffer of another length, 10 for a G that is told a number other than
+-- 4 and 6, then the fields
+abbrev pub namedJoin : Terms → MaybeRecord → List ℕ → ℕ → Answer
+namedJoin t (Is r) rec size =
+    require (isGiven r) NotExpected 1
+    then require (eqb size (givenLength r)) WrongLength 0
+    then termsAnswer t r
+    then layoutAnswer t r rec
+namedJoin t Other rec size = Refused NotExpected 1
 
 -- 1 for the record's length, then as above
-unfoldable pub joinAnswer : List ℕ → ℕ → Answer
-joinAnswer rec size =
-    require (eqb (length rec) recordLength) WrongLength 0 then namedJoin (namedBy (getD rec 0 0)) rec size
+unfoldable pub joinAnswer : Terms → List ℕ → ℕ → Answer
+joinAnswer t rec size =
+    require (eqb (length rec) recordLength) WrongLength 0 then namedJoin t (namedBy (getD rec 0 0)) rec size
 
 -- the field bytes of the record that a first byte names
 abbrev pub joinedIn : MaybeRecord → List ℕ → List ℕ

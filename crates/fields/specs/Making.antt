@@ -16,12 +16,13 @@ use Rattle.layout.specs.declared.Kind.the-variants.{Mark, Version, Service, Bla
 use Rattle.layout.specs.declared.Kind.the-variants.{Date, Barcode, Capture, Form}
 use Rattle.layout.specs.declared.Record.{Record}
 use Rattle.layout.specs.Layouts.{recordLength, layoutOf, stretchOf, givenAt, givenLength}
-use Rattle.kinds.specs.Kinds.{version, serviceOf, kindAnswer}
+use Rattle.kinds.specs.Terms.{Terms, termsAnswer}
+use Rattle.kinds.specs.Kinds.{serviceOf, kindAnswer}
 
 -- a field's bytes: what is fixed, the digits of an amount, else the bytes that are given for it
 abbrev pub writtenOf : Kind → ℕ → List ℕ → ℕ → List ℕ
 writtenOf (Mark byte) width given amount = byte ∷ []
-writtenOf Version width given amount = version
+writtenOf Version width given amount = given
 writtenOf Service width given amount = serviceOf (getD given 0 0)
 writtenOf Blank width given amount = replicate width 32
 writtenOf Text width given amount = given
@@ -47,9 +48,9 @@ isMoney Capture = false
 isMoney Form = false
 
 -- the answer to writing them: 21 for an amount that is too wide, then the kind's own check of the bytes
-unfoldable pub writtenAnswer : Kind → ℕ → List ℕ → ℕ → Answer
-writtenAnswer kind width given amount =
-    cond (isMoney kind) (widthAnswer width amount) Accepted then kindAnswer kind (writtenOf kind width given amount)
+unfoldable pub writtenAnswer : Terms → Kind → ℕ → List ℕ → ℕ → Answer
+writtenAnswer t kind width given amount =
+    cond (isMoney kind) (widthAnswer width amount) Accepted then kindAnswer t kind (writtenOf kind width given amount)
 
 -- how many of the given bytes are for a field
 abbrev pub givenWidth : Field → ℕ
@@ -59,10 +60,10 @@ givenWidth f = widthOf (givenAt f)
 abbrev pub fieldMade : Field → List ℕ → List ℕ → List ℕ
 fieldMade f given amounts = writtenOf (f .kind) (widthOf (stretchOf f)) (take (givenWidth f) given) (getD amounts 0 0)
 
-abbrev pub fieldMadeAnswer : Field → List ℕ → List ℕ → Answer
-fieldMadeAnswer f given amounts =
+abbrev pub fieldMadeAnswer : Terms → Field → List ℕ → List ℕ → Answer
+fieldMadeAnswer t f given amounts =
     movedBy (behind (f .first - 1))
-    (writtenAnswer (f .kind) (widthOf (stretchOf f)) (take (givenWidth f) given) (getD amounts 0 0))
+    (writtenAnswer t (f .kind) (widthOf (stretchOf f)) (take (givenWidth f) given) (getD amounts 0 0))
 
 -- the amounts left after a field: a money field takes the next one
 abbrev pub amountsAfter : Field → List ℕ → List ℕ
@@ -75,13 +76,15 @@ madeOf (f ∷ fs) given amounts =
     fieldMade f given amounts ++ madeOf fs (drop (givenWidth f) given) (amountsAfter f amounts)
 
 -- the first refusal among them
-abbrev pub makingAnswer : List Field → List ℕ → List ℕ → Answer
-makingAnswer [] given amounts = Accepted
-makingAnswer (f ∷ fs) given amounts =
-    fieldMadeAnswer f given amounts then makingAnswer fs (drop (givenWidth f) given) (amountsAfter f amounts)
+abbrev pub makingAnswer : Terms → List Field → List ℕ → List ℕ → Answer
+makingAnswer t [] given amounts = Accepted
+makingAnswer t (f ∷ fs) given amounts =
+    fieldMadeAnswer t f given amounts then makingAnswer t fs (drop (givenWidth f) given) (amountsAfter f amounts)
 
--- 1 for the length of the caller's buffer and of the field bytes, then the fields
-unfoldable pub makeAnswer : Record → List ℕ → List ℕ → ℕ → Answer
-makeAnswer r given amounts size =
+-- 1 for the length of the caller's buffer and of the field bytes, then 10 for a G under a number other than 4 and 6,
+-- then the fields
+unfoldable pub makeAnswer : Terms → Record → List ℕ → List ℕ → ℕ → Answer
+makeAnswer t r given amounts size =
     require (eqb size recordLength && eqb (length given) (givenLength r)) WrongLength 0
-    then makingAnswer (layoutOf r) given amounts
+    then termsAnswer t r
+    then makingAnswer t (layoutOf r) given amounts

@@ -1,16 +1,21 @@
 -- Claims: a record's fields make it again, and what is made has the fields it was given. Assumes nothing.
 use Prim.Native.Nat.{ℕ}
-use mathlib.Core.Bool.{cond}
+use mathlib.Core.Bool.{false, cond}
 use mathlib.Core.List.{List, [], _∷_}
 use mathlib.Core.Path.{_≡_}
-use lib.ListN.{length}
-use Rattle.answer.specs.declared.Answer.the-variants.{Accepted}
+use lib.ListN.{length, getD}
+use Rattle.answer.specs.declared.Reason.the-variants.{FixedDiffers}
+use Rattle.answer.specs.declared.Answer.the-variants.{Accepted, Refused}
 use Rattle.decimal.specs.Numbers.{numberOf}
 use Rattle.layout.specs.declared.Field.{Field}
+use Rattle.layout.specs.declared.MaybeRecord.the-variants.{Is}
 use Rattle.layout.specs.declared.Record.{Record}
-use Rattle.layout.specs.Layouts.{recordLength, layoutOf, givenLength, joinedOf}
-use Rattle.record.specs.Records.{fieldBytes, layoutAnswer}
-use Rattle.fields.specs.Making.{isMoney, madeOf, makingAnswer}
+use Rattle.layout.specs.declared.Record.the-variants.{Payment}
+use Rattle.layout.specs.Layouts.{recordLength, namedBy, layoutOf, rowAt, versionRow, givenLength, joinedOf}
+use Rattle.kinds.specs.Terms.{Terms, isVersion}
+use Rattle.record.specs.Records.{fieldBytes, layoutAnswer, isPayment}
+use Rattle.fields.specs.Joining.{joinAnswer}
+use Rattle.fields.specs.Making.{isMoney, madeOf, makingAnswer, makeAnswer}
 
 -- the amounts of the money fields of a record, in record order
 abbrev pub amountsIn : List Field → List ℕ → List ℕ
@@ -20,15 +25,33 @@ amountsIn (f ∷ fs) rec = cond (isMoney (f .kind)) (numberOf (fieldBytes f rec)
 -- the fields of an accepted record write back the same bytes
 abbrev pub FieldsMakeTheRecord : Type 0
 FieldsMakeTheRecord =
-    (r : Record) (rec : List ℕ) → length rec ≡ recordLength → layoutAnswer r rec ≡ Accepted
-    → (makingAnswer (layoutOf r) (joinedOf r rec) (amountsIn (layoutOf r) rec) ≡ Accepted)
+    (t : Terms) (r : Record) (rec : List ℕ) → length rec ≡ recordLength → layoutAnswer t r rec ≡ Accepted
+    → (makingAnswer t (layoutOf r) (joinedOf r rec) (amountsIn (layoutOf r) rec) ≡ Accepted)
     × (madeOf (layoutOf r) (joinedOf r rec) (amountsIn (layoutOf r) rec) ≡ rec)
 
 -- what is made is accepted, and its field bytes are those that were given
 abbrev pub MadeIsAccepted : Type 0
 MadeIsAccepted =
-    (r : Record) (given amounts : List ℕ) → length given ≡ givenLength r
-    → makingAnswer (layoutOf r) given amounts ≡ Accepted
+    (t : Terms) (r : Record) (given amounts : List ℕ) → length given ≡ givenLength r
+    → makingAnswer t (layoutOf r) given amounts ≡ Accepted
     → (length (madeOf (layoutOf r) given amounts) ≡ recordLength)
-    × (layoutAnswer r (madeOf (layoutOf r) given amounts) ≡ Accepted)
+    × (layoutAnswer t r (madeOf (layoutOf r) given amounts) ≡ Accepted)
     × (joinedOf r (madeOf (layoutOf r) given amounts) ≡ given)
+
+-- only a G needs its terms, to be joined or made: any other record ignores them
+abbrev pub OtherJoinsIgnoreTerms : Type 0
+OtherJoinsIgnoreTerms =
+    (t u : Terms) (rec : List ℕ) (size : ℕ) → isPayment (namedBy (getD rec 0 0)) ≡ false
+    → joinAnswer t rec size ≡ joinAnswer u rec size
+
+abbrev pub OtherMakesIgnoreTerms : Type 0
+OtherMakesIgnoreTerms =
+    (t u : Terms) (r : Record) (given amounts : List ℕ) (size : ℕ) → isPayment (Is r) ≡ false
+    → makeAnswer t r given amounts size ≡ makeAnswer u r given amounts size
+
+-- a G that is told a number other than 4 and 6 is refused 10 at the version's place in a header, behind every 1
+abbrev pub PaymentsJoinUnderAVersion : Type 0
+PaymentsJoinUnderAVersion =
+    (t : Terms) (rec : List ℕ) → length rec ≡ recordLength → namedBy (getD rec 0 0) ≡ Is Payment
+    → isVersion (t .version) ≡ false
+    → joinAnswer t rec (givenLength Payment) ≡ Refused FixedDiffers (rowAt versionRow .first)

@@ -5,6 +5,7 @@ ghost use lib.ListN.{length, getD};
 ghost use Rattle.answer.specs.Orders.{ifAccepted};
 ghost use Rattle.decimal.specs.Places.{partAt};
 ghost use Rattle.layout.specs.Layouts.{recordLength, namedBy, givenAt, givenLength, joinedOf, InRecord};
+ghost use Rattle.kinds.specs.Terms.{told};
 ghost use Rattle.fields.specs.Making.{givenWidth};
 ghost use Rattle.fields.specs.Joining.{isGiven, namedJoin, joinAnswer, joinedIn};
 ghost use Rattle.layout.specs.declared.MaybeRecord.the-variants as named;
@@ -61,12 +62,13 @@ fn join_rows(which: Record, rec: &[u8], out: &mut [u8])
     }
 }
 
-// The record that its first byte names: 9 for a Z, 1 unless the buffer has the length of its field bytes, then its
-// fields. A refusal leaves the buffer unchanged.
-fn join_named(which: Record, rec: &[u8], out: &mut [u8]) -> Answer
+// The record that its first byte names: 9 for a Z, 1 unless the buffer has the length of its field bytes, then the
+// record's own. A refusal leaves the buffer unchanged.
+fn join_named(which: Record, rec: &[u8], version: u64, out: &mut [u8]) -> Answer
     requires { ⌜ length (now rec) ≡ recordLength ⌝ }
     requires { ⌜ namedBy (getD (now rec) 0 0) ≡ named.Is which ⌝ }
-    ensures answer { λ r. ⌜ r ≡ namedJoin (named.Is which) (now (rec .entry)) (length (now (out .entry))) ⌝ }
+    ensures answer { λ r. ⌜ r ≡ namedJoin (told version) (named.Is which) (now (rec .entry))
+        (length (now (out .entry))) ⌝ }
     ensures bytes { λ r. ⌜ now (out .exit) ≡ ifAccepted r (joinedOf which (now (rec .entry))) (now (out .entry)) ⌝ }
 {
     if !is_given(which) {
@@ -75,7 +77,7 @@ fn join_named(which: Record, rec: &[u8], out: &mut [u8]) -> Answer
     if out.len() != layout::given_length(which) {
         return Answer::Refused(Reason::WrongLength, 0);
     }
-    let a = record::check(rec);
+    let a = record::check(rec, version);
     match a {
         Answer::Accepted => {
             join_rows(which, rec, out);
@@ -85,11 +87,11 @@ fn join_named(which: Record, rec: &[u8], out: &mut [u8]) -> Answer
     }
 }
 
-// Writes the field bytes of an accepted A or G, 78 or 121, into the caller's buffer, which must be exactly as long. A
+// Writes the field bytes of an accepted A or G, 80 or 121, into the caller's buffer, which must be exactly as long. A
 // refusal leaves the buffer unchanged: 1 for the record's length, 9 for a Z or a byte that names no record, 1 for the
-// buffer's length, then the record's own.
-pub fn join(rec: &[u8], out: &mut [u8]) -> Answer
-    ensures answer { λ r. ⌜ r ≡ joinAnswer (now (rec .entry)) (length (now (out .entry))) ⌝ }
+// buffer's length, then the record's own under this version, which an A ignores.
+pub fn join(rec: &[u8], version: u64, out: &mut [u8]) -> Answer
+    ensures answer { λ r. ⌜ r ≡ joinAnswer (told version) (now (rec .entry)) (length (now (out .entry))) ⌝ }
     ensures bytes { λ r. ⌜ now (out .exit) ≡ ifAccepted r
         (joinedIn (namedBy (getD (now (rec .entry)) 0 0)) (now (rec .entry))) (now (out .entry)) ⌝ }
 {
@@ -97,7 +99,7 @@ pub fn join(rec: &[u8], out: &mut [u8]) -> Answer
         return Answer::Refused(Reason::WrongLength, 0);
     }
     match layout::named_by(rec[0]) {
-        MaybeRecord::Is(which) => join_named(which, rec, out),
+        MaybeRecord::Is(which) => join_named(which, rec, version, out),
         MaybeRecord::Other => Answer::Refused(Reason::NotExpected, 1),
     }
 }

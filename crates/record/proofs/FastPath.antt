@@ -17,6 +17,7 @@ use Rattle.layout.specs.Layouts.{rowAt, accountRow, receivedRow, numberRow, bra
 use Rattle.layout.specs.declared.MaybeRecord.{MaybeRecord}
 use Rattle.layout.specs.declared.MaybeRecord.the-variants.{Is, Other}
 use Rattle.layout.specs.declared.Record.the-variants.{Header, Payment, Trailer}
+use Rattle.kinds.specs.Terms.{Terms}
 use Rattle.kinds.specs.Kinds.{isCapture, isForm}
 use Rattle.record.specs.FastPath.{columnHolds, SixteenEach, rowsHold, partsHold, spanOf, isPlain, isCoded}
 use Rattle.record.specs.Records.{fieldBytes}
@@ -97,13 +98,14 @@ module _ (rec : List ℕ) where
   unfolding isPlain
   blanks-are e f k = rw (sym e ∙ f, k)
 
-  pub capture-fails : {t : Bool} → t ≡ isCapture (getD (fieldBytes (rowAt captureRow) rec) 0 0) → t ≡ false → false ≡ isCoded rec
+  pub capture-fails : (t : Terms) {u : Bool} → u ≡ isCapture (t .version) (getD (fieldBytes (rowAt captureRow) rec) 0 0) → u ≡ false → false ≡ isCoded t rec
   unfolding isCoded
-  capture-fails e f = rw (sym e ∙ f)
+  capture-fails t e f = rw (sym e ∙ f)
 
-  pub form-is : {t u : Bool} → t ≡ isCapture (getD (fieldBytes (rowAt captureRow) rec) 0 0) → t ≡ true → u ≡ isForm (getD (fieldBytes (rowAt formRow) rec) 0 0) → u ≡ isCoded rec
+  pub form-is : (t : Terms) {u v : Bool} → u ≡ isCapture (t .version) (getD (fieldBytes (rowAt captureRow) rec) 0 0) → u ≡ true
+      → v ≡ isForm (t .version) (getD (fieldBytes (rowAt formRow) rec) 0 0) → v ≡ isCoded t rec
   unfolding isCoded
-  form-is e f g = rw (sym e ∙ f, g)
+  form-is t e f g = rw (sym e ∙ f, g)
 
 pub named-payment : (b : ℕ) → namedBy b ≡ Is Payment → b ≡ 71
 unfolding namedBy

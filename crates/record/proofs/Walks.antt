@@ -23,6 +23,7 @@ use Rattle.layout.specs.declared.Rows.{Rows}
 use Rattle.layout.specs.Layouts.{layoutOf, table, noField, rowAt, rowsOf, InRecord}
 use Rattle.layout.proofs.Layouts.{row-lies, rows-are}
 use Rattle.decimal.proofs.Finite.{never}
+use Rattle.kinds.specs.Terms.{Terms}
 use Rattle.record.specs.Records.{fieldAnswer, layoutAnswer}
 use Rattle.record.specs.Values.{hasRow}
 
@@ -50,23 +51,23 @@ rows-end Payment = (lit≤ tt, lit≤ tt)
 rows-end Trailer = (lit≤ tt, lit≤ tt)
 
 -- A record's rows in a copy of the table.
-module _ (which : Record) {rows : Rows} {copy : List Field} (t : copy ≡ table) (e : rows ≡ rowsOf which) where
+module _ (which : Record) {rows : Rows} {copy : List Field} (tb : copy ≡ table) (e : rows ≡ rowsOf which) where
   pub in-order : rows .from ≤ rows .to
   in-order = rw e (rows-end which .0)
 
   pub in-table : rows .to ≤ length copy
-  in-table = rw (e, t) (rows-end which .1)
+  in-table = rw (e, tb) (rows-end which .1)
 
   pub row-placed : (i : ℕ) (d : Field) → i < rows .to → InRecord (getD copy i d)
   row-placed i d h =
       let l : rows .to ≤ length table = rw e (rows-end which .1) in
-      rw t (row-lies i d (omega arith))
+      rw tb (row-lies i d (omega arith))
 
   pub rows-here : slice (rows .from) (rows .to) copy ≡ layoutOf which
-  rows-here = rw (t, e) (rows-are which)
+  rows-here = rw (tb, e) (rows-are which)
 
-  pub walked : (rec : List ℕ) → firstRefusal (fieldAnswer rec) (slice (rows .from) (rows .to) copy) ≡ layoutAnswer which rec
-  walked rec = ap (firstRefusal (fieldAnswer rec)) rows-here
+  pub walked : (t : Terms) (rec : List ℕ) → firstRefusal (fieldAnswer t rec) (slice (rows .from) (rows .to) copy) ≡ layoutAnswer t which rec
+  walked t rec = ap (firstRefusal (fieldAnswer t rec)) rows-here
 
 row-shown : (which : Record) {rows : Rows} {f : Field} (i : ℕ) → rows ≡ rowsOf which → f ≡ rowAt i → i < rows .to → InRecord f
 unfolding rowAt

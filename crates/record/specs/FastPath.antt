@@ -9,6 +9,7 @@ use Rattle.decimal.specs.declared.Class.the-variants.{Digit, Blank, Text}
 use Rattle.decimal.specs.Bytes.{isOf, all}
 use Rattle.decimal.specs.Places.{places}
 use Rattle.calendar.specs.Dates.{dateOf, isFound}
+use Rattle.kinds.specs.Terms.{Terms}
 use Rattle.kinds.specs.Kinds.{isCapture, isForm}
 use Rattle.layout.specs.declared.Field.{Field}
 use Rattle.layout.specs.Layouts.{namedBy, rowAt, accountRow, paidRow, creditedRow, receivedRow, numberRow}
@@ -57,14 +58,15 @@ isPlain rec =
     (spanOf (rowAt receivedRow) (rowAt numberRow) rec)
     && all (isOf Blank) (fieldBytes (rowAt paymentBlankRow) rec)
 
--- capture and payment form are known
-unfoldable pub isCoded : List ℕ → Bool
-isCoded rec =
-    isCapture (getD (fieldBytes (rowAt captureRow) rec) 0 0) && isForm (getD (fieldBytes (rowAt formRow) rec) 0 0)
+-- capture and payment form are codes of the version; a number that is none has no codes
+unfoldable pub isCoded : Terms → List ℕ → Bool
+isCoded t rec =
+    isCapture (t .version) (getD (fieldBytes (rowAt captureRow) rec) 0 0)
+    && isForm (t .version) (getD (fieldBytes (rowAt formRow) rec) 0 0)
 
 -- all fields but the dates and the barcode
-abbrev pub looksLikePayment : List ℕ → Bool
-looksLikePayment rec = isPayment (namedBy (getD rec 0 0)) && (isPlain rec && isCoded rec)
+abbrev pub looksLikePayment : Terms → List ℕ → Bool
+looksLikePayment t rec = isPayment (namedBy (getD rec 0 0)) && (isPlain rec && isCoded t rec)
 
 abbrev pub isDated : List ℕ → Bool
 isDated rec =

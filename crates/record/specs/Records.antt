@@ -15,6 +15,7 @@ use Rattle.layout.specs.declared.MaybeRecord.the-variants.{Is, Other}
 use Rattle.layout.specs.declared.Record.{Record}
 use Rattle.layout.specs.declared.Record.the-variants.{Header, Payment, Trailer}
 use Rattle.layout.specs.Layouts.{recordLength, namedBy, layoutOf, stretchOf}
+use Rattle.kinds.specs.Terms.{Terms, termsAnswer}
 use Rattle.kinds.specs.Kinds.{kindAnswer}
 
 -- a field's bytes
@@ -22,21 +23,22 @@ abbrev pub fieldBytes : Field → List ℕ → List ℕ
 fieldBytes f rec = partAt (stretchOf f) rec
 
 -- a field checked by its kind, with places of the record
-unfoldable pub fieldAnswer : List ℕ → Field → Answer
-fieldAnswer rec f = movedBy (behind (f .first - 1)) (kindAnswer (f .kind) (fieldBytes f rec))
+unfoldable pub fieldAnswer : Terms → List ℕ → Field → Answer
+fieldAnswer t rec f = movedBy (behind (f .first - 1)) (kindAnswer t (f .kind) (fieldBytes f rec))
 
 -- the fields from left to right: the first refusal
-abbrev pub layoutAnswer : Record → List ℕ → Answer
-layoutAnswer r rec = firstRefusal (fieldAnswer rec) (layoutOf r)
+abbrev pub layoutAnswer : Terms → Record → List ℕ → Answer
+layoutAnswer t r rec = firstRefusal (fieldAnswer t rec) (layoutOf r)
 
--- the layout of the record that a first byte names; 9 where it names none
-abbrev pub namedAnswer : MaybeRecord → List ℕ → Answer
-namedAnswer (Is r) rec = layoutAnswer r rec
-namedAnswer Other rec = answer.Refused NotExpected 1
+-- the layout of the record that a first byte names, behind what it needs of its terms; 9 where it names none
+abbrev pub namedAnswer : Terms → MaybeRecord → List ℕ → Answer
+namedAnswer t (Is r) rec = termsAnswer t r then layoutAnswer t r rec
+namedAnswer t Other rec = answer.Refused NotExpected 1
 
--- record: 1, 9, then the fields
-unfoldable pub recordAnswer : List ℕ → Answer
-recordAnswer rec = require (eqb (length rec) recordLength) WrongLength 0 then namedAnswer (namedBy (getD rec 0 0)) rec
+-- record: 1, 9, then 10 for a G that is told a number other than 4 and 6, then the fields
+unfoldable pub recordAnswer : Terms → List ℕ → Answer
+recordAnswer t rec =
+    require (eqb (length rec) recordLength) WrongLength 0 then namedAnswer t (namedBy (getD rec 0 0)) rec
 
 -- whether a first byte names G, and whether it names Z
 abbrev pub isPayment : MaybeRecord → Bool

@@ -17,8 +17,9 @@ use Rattle.barcode.specs.Codes.{fieldsOf}
 use Rattle.layout.specs.declared.MaybeRecord.{MaybeRecord}
 use Rattle.layout.specs.declared.MaybeRecord.the-variants.{Is, Other}
 use Rattle.layout.specs.declared.Record.the-variants as layout
-use Rattle.layout.specs.Layouts.{rowAt, rowsOf, namedBy, bankRow, fileDateRow, sequenceRow, countRow, totalRow}
-use Rattle.layout.specs.Layouts.{paidRow, creditedRow, barcodeRow, receivedRow, tariffRow, numberRow}
+use Rattle.layout.specs.Layouts.{rowAt, rowsOf, namedBy, bankRow, fileDateRow, sequenceRow, versionRow, countRow}
+use Rattle.layout.specs.Layouts.{paidRow, creditedRow, barcodeRow, receivedRow, tariffRow, numberRow, totalRow}
+use Rattle.kinds.specs.Terms.{Terms}
 use Rattle.record.specs.declared.Header.{Header}
 use Rattle.record.specs.declared.Payment.{Payment}
 use Rattle.record.specs.declared.Trailer.{Trailer}
@@ -40,9 +41,18 @@ dayOf NoDate = record { year = 0; month = 0; day = 0 }
 abbrev pub dateIn : ℕ → List ℕ → Date
 dateIn row rec = dayOf (dateOf (fieldBytes (rowAt row) rec))
 
+-- the version that a header names
+abbrev pub versionIn : List ℕ → ℕ
+versionIn rec = numberIn versionRow rec
+
 abbrev pub headerShown : List ℕ → Header
 headerShown rec =
-    record { bank = numberIn bankRow rec; date = dateIn fileDateRow rec; sequence = numberIn sequenceRow rec }
+    record {
+      bank = numberIn bankRow rec;
+      date = dateIn fileDateRow rec;
+      sequence = numberIn sequenceRow rec;
+      version = versionIn rec;
+    }
 
 abbrev pub paymentShown : List ℕ → Payment
 paymentShown rec =
@@ -70,8 +80,8 @@ abbrev pub shownUnlessRefused : Answer → Decoded → Decoded
 shownUnlessRefused answer.Accepted shown = shown
 shownUnlessRefused (answer.Refused why place) shown = decoded.Refused why place
 
-abbrev pub decodedRecord : List ℕ → Decoded
-decodedRecord rec = shownUnlessRefused (recordAnswer rec) (recordShown (namedBy (getD rec 0 0)) rec)
+abbrev pub decodedRecord : Terms → List ℕ → Decoded
+decodedRecord t rec = shownUnlessRefused (recordAnswer t rec) (recordShown (namedBy (getD rec 0 0)) rec)
 
 -- the answer of a decoded record, which gives it its refusal number and place (SPEC.md, "Refusals")
 abbrev pub answerOfRecord : Decoded → Answer
@@ -96,5 +106,5 @@ hasRow Other row = false
 abbrev pub fieldIn : MaybeRecord → ℕ → List ℕ → List ℕ
 fieldIn named row rec = cond (hasRow named row) (fieldBytes (rowAt row) rec) []
 
-abbrev pub shownField : ℕ → List ℕ → List ℕ
-shownField row rec = ifAccepted (recordAnswer rec) (fieldIn (namedBy (getD rec 0 0)) row rec) []
+abbrev pub shownField : Terms → ℕ → List ℕ → List ℕ
+shownField t row rec = ifAccepted (recordAnswer t rec) (fieldIn (namedBy (getD rec 0 0)) row rec) []

@@ -8,14 +8,15 @@
 //   specs/FastPath.antt, and the places in proofs/Exact.antt (`holds`, `seen`). A span keeps from 16 to 32 bytes.
 // - A kind gets another rule (kinds::check): what checks that kind here, and its law in proofs/KindRules.antt. The
 //   capture is checked as text too, since it is inside the span from branch to authentication: each code must be text
-//   (`captured`).
-// The proof that ties the two is proofs/Exact.antt: `accepted_payment` is `paymentDueOf (decodedRecord rec)` and
-// `decode_payment` is `fastDecodedOf (decodedRecord rec)`, where `decodedRecord` is defined by the walk's answer.
+//   (`captured`). That the version is one is not checked by itself: what is none has no captures (`versioned`).
+// The proof that ties the two is proofs/Exact.antt: `accepted_payment` is `paymentDueOf (decodedRecord t rec)` and
+// `decode_payment` is `fastDecodedOf (decodedRecord t rec)`, where `decodedRecord` is defined by the walk's answer.
 ghost use Prim.Native.Nat.{_-_, _≤_};
 ghost use mathlib.Core.Bool.{cond};
 ghost use mathlib.Core.Path.{_≡_};
 ghost use lib.ListN.{length, take, drop};
 ghost use Rattle.layout.specs.Layouts.{recordLength, namedBy, InRecord};
+ghost use Rattle.kinds.specs.Terms.{told};
 ghost use Rattle.record.specs.Records.{isPayment};
 ghost use Rattle.record.specs.Values.{decodedRecord, paymentDueOf};
 ghost use Rattle.record.specs.FastPath.{columnHolds, SixteenEach, rowsHold, partsHold, TwoRows, spanOf};
@@ -119,15 +120,18 @@ fn is_plain(rec: &[u8]) -> bool
     decimal::all_of(Class::Blank, parts::field_bytes(rec, g::BLANK))
 }
 
-// Capture and payment form are known codes.
-fn is_coded(rec: &[u8]) -> bool
+// Capture and payment form are codes of the version. What is no version has none, so this tests the version too.
+fn is_coded(rec: &[u8], version: u64) -> bool
     requires { ⌜ length (now rec) ≡ recordLength ⌝ }
-    ensures { λ r. ⌜ r ≡ isCoded (now (rec .entry)) ⌝ }
+    ensures { λ r. ⌜ r ≡ isCoded (told version) (now (rec .entry)) ⌝ }
 {
-    if !kinds::is_capture(kinds::byte_at(parts::field_bytes(rec, g::CAPTURE), 0)) {
+    if !kinds::is_capture(
+        kinds::byte_at(parts::field_bytes(rec, g::CAPTURE), 0),
+        version,
+    ) {
         return false;
     }
-    kinds::is_form(kinds::byte_at(parts::field_bytes(rec, g::FORM), 0))
+    kinds::is_form(kinds::byte_at(parts::field_bytes(rec, g::FORM), 0), version)
 }
 
 // Both dates are dates.
@@ -156,9 +160,9 @@ fn is_payment(mark: u8) -> bool
 }
 
 // All fields of a G but its dates and its barcode.
-fn looks_like_payment(rec: &[u8]) -> bool
+fn looks_like_payment(rec: &[u8], version: u64) -> bool
     requires { ⌜ length (now rec) ≡ recordLength ⌝ }
-    ensures { λ r. ⌜ r ≡ looksLikePayment (now (rec .entry)) ⌝ }
+    ensures { λ r. ⌜ r ≡ looksLikePayment (told version) (now (rec .entry)) ⌝ }
 {
     if !is_payment(rec[0]) {
         return false;
@@ -166,18 +170,18 @@ fn looks_like_payment(rec: &[u8]) -> bool
     if !is_plain(rec) {
         return false;
     }
-    is_coded(rec)
+    is_coded(rec, version)
 }
 
 // The issuer and the centavos received of an accepted G; Nothing for every other record, of any length. It is what a
-// session needs of a G: decoding all of it would cost as much again.
-pub fn accepted_payment(rec: &[u8]) -> PaymentDue
-    ensures { λ r. ⌜ r ≡ paymentDueOf (decodedRecord (now (rec .entry))) ⌝ }
+// session needs of a G: decoding all of it would cost as much again. The version is as in `check`.
+pub fn accepted_payment(rec: &[u8], version: u64) -> PaymentDue
+    ensures { λ r. ⌜ r ≡ paymentDueOf (decodedRecord (told version) (now (rec .entry))) ⌝ }
 {
     if rec.len() != layout::LENGTH {
         return PaymentDue::Nothing;
     }
-    if !looks_like_payment(rec) {
+    if !looks_like_payment(rec, version) {
         return PaymentDue::Nothing;
     }
     if !is_dated(rec) {
@@ -190,13 +194,13 @@ pub fn accepted_payment(rec: &[u8]) -> PaymentDue
 }
 
 // All that an accepted G shows; Other for every other record, of any length.
-pub(crate) fn decode_payment(rec: &[u8]) -> FastDecoded
-    ensures { λ r. ⌜ r ≡ fastDecodedOf (decodedRecord (now (rec .entry))) ⌝ }
+pub(crate) fn decode_payment(rec: &[u8], version: u64) -> FastDecoded
+    ensures { λ r. ⌜ r ≡ fastDecodedOf (decodedRecord (told version) (now (rec .entry))) ⌝ }
 {
     if rec.len() != layout::LENGTH {
         return FastDecoded::Other;
     }
-    if !looks_like_payment(rec) {
+    if !looks_like_payment(rec, version) {
         return FastDecoded::Other;
     }
     let MaybeDate::On(paid) = parts::date_in(rec, g::PAID) else {

@@ -14,12 +14,13 @@ pub use operations::check;
 pub use operations::decode;
 pub use operations::field;
 
-// What an accepted A shows.
+// What an accepted A shows. Its version is the one to pass with each G of the same file.
 #[repr(C)]
 pub struct Header {
     pub bank: u64,
     pub date: Date,
     pub sequence: u64,
+    pub version: u64,
 }
 
 // What an accepted G shows. Received and tariff are centavos; number is the record's own, which nobody counts.

@@ -6,6 +6,7 @@ ghost use lib.ListN.{length, getD};
 ghost use Rattle.answer.specs.declared.Answer.the-variants as answers;
 ghost use Rattle.layout.specs.declared.Record.the-variants as layouts;
 ghost use Rattle.layout.specs.Layouts.{recordLength, namedBy};
+ghost use Rattle.kinds.specs.Terms.{Terms, told};
 ghost use Rattle.record.specs.Records.{isPayment, isTrailer, layoutAnswer, recordAnswer};
 ghost use Rattle.record.specs.Values.{dayOf, headerShown, trailerShown, recordShown, decodedRecord};
 ghost use Rattle.record.specs.declared.fast.FastDecoded.the-variants as fasts;
@@ -27,13 +28,14 @@ use layout::Record;
 use layout::a;
 use layout::z;
 
-// The answer to a record alone, of any length: accepted, or the first refusal with its place in the record.
-pub fn check(rec: &[u8]) -> Answer
-    ensures { λ r. ⌜ r ≡ recordAnswer (now (rec .entry)) ⌝ }
+// The answer to a record alone, of any length: accepted, or the first refusal with its place in the record. The version
+// is that of the record's file, 4 or 6: a G that is told any other number is 10 at 80, an A or a Z ignores it.
+pub fn check(rec: &[u8], version: u64) -> Answer
+    ensures { λ r. ⌜ r ≡ recordAnswer (told version) (now (rec .entry)) ⌝ }
 {
-    match fast::accepted_payment(rec) {
+    match fast::accepted_payment(rec, version) {
         PaymentDue::To(_, _) => Answer::Accepted,
-        PaymentDue::Nothing => walk::check_in_order(rec),
+        PaymentDue::Nothing => walk::check_in_order(rec, version),
     }
 }
 
@@ -54,20 +56,21 @@ fn day_of(found: MaybeDate) -> Date
 // What an accepted A shows: its numbers are known to be digits.
 fn read_header(rec: &[u8]) -> Header
     requires { ⌜ length (now rec) ≡ recordLength ⌝ }
-    requires { ⌜ layoutAnswer layouts.Header (now rec) ≡ answers.Accepted ⌝ }
+    requires { ⌜ ((t : Terms) → layoutAnswer t layouts.Header (now rec) ≡ answers.Accepted) ⌝ }
     ensures { λ r. ⌜ r ≡ headerShown (now (rec .entry)) ⌝ }
 {
     Header {
         bank: parts::number_in(rec, a::BANK),
         date: day_of(parts::date_in(rec, a::DATE)),
         sequence: parts::number_in(rec, a::SEQUENCE),
+        version: parts::number_in(rec, a::VERSION),
     }
 }
 
 // What an accepted Z shows.
 fn read_trailer(rec: &[u8]) -> Trailer
     requires { ⌜ length (now rec) ≡ recordLength ⌝ }
-    requires { ⌜ layoutAnswer layouts.Trailer (now rec) ≡ answers.Accepted ⌝ }
+    requires { ⌜ ((t : Terms) → layoutAnswer t layouts.Trailer (now rec) ≡ answers.Accepted) ⌝ }
     ensures { λ r. ⌜ r ≡ trailerShown (now (rec .entry)) ⌝ }
 {
     Trailer {
@@ -90,9 +93,9 @@ fn is_trailer(mark: u8) -> bool
     }
 }
 
-// What an accepted record shows that is no G, and so an A or a Z.
+// What an accepted record shows that is no G, and so an A or a Z, whatever its terms.
 fn header_or_trailer(rec: &[u8]) -> Decoded
-    requires { ⌜ recordAnswer (now rec) ≡ answers.Accepted ⌝ }
+    requires { ⌜ ((t : Terms) → recordAnswer t (now rec) ≡ answers.Accepted) ⌝ }
     requires { ⌜ isPayment (namedBy (getD (now rec) 0 0)) ≡ false ⌝ }
     ensures { λ r. ⌜ r ≡ recordShown (namedBy (getD (now (rec .entry)) 0 0)) (now (rec .entry)) ⌝ }
 {
@@ -103,22 +106,23 @@ fn header_or_trailer(rec: &[u8]) -> Decoded
 }
 
 // A record that the fast path does not recognize: it is refused, or an accepted A or Z.
-fn decode_in_order(rec: &[u8]) -> Decoded
-    requires { ⌜ fasts.Other ≡ fastDecodedOf (decodedRecord (now rec)) ⌝ }
-    ensures { λ r. ⌜ r ≡ decodedRecord (now (rec .entry)) ⌝ }
+fn decode_in_order(rec: &[u8], version: u64) -> Decoded
+    requires { ⌜ fasts.Other ≡ fastDecodedOf (decodedRecord (told version) (now rec)) ⌝ }
+    ensures { λ r. ⌜ r ≡ decodedRecord (told version) (now (rec .entry)) ⌝ }
 {
-    match walk::check_in_order(rec) {
+    match walk::check_in_order(rec, version) {
         Answer::Accepted => header_or_trailer(rec),
         Answer::Refused(why, place) => Decoded::Refused(why, place),
     }
 }
 
 // Everything that a record shows, or why and where it is refused; `check` gives the same refusal. Any length is taken.
-pub fn decode(rec: &[u8]) -> Decoded
-    ensures { λ r. ⌜ r ≡ decodedRecord (now (rec .entry)) ⌝ }
+// The version is as in `check`.
+pub fn decode(rec: &[u8], version: u64) -> Decoded
+    ensures { λ r. ⌜ r ≡ decodedRecord (told version) (now (rec .entry)) ⌝ }
 {
-    let FastDecoded::Paid(payment) = fast::decode_payment(rec) else {
-        return decode_in_order(rec);
+    let FastDecoded::Paid(payment) = fast::decode_payment(rec, version) else {
+        return decode_in_order(rec, version);
     };
     Decoded::Payment(payment)
 }
@@ -149,11 +153,11 @@ fn field_of_row(rec: &[u8], row: usize) -> &[u8]
 }
 
 // A field of an accepted record by its row in layout's table, as a part of the caller's bytes. The part is empty for a
-// refused record, for a row of another record and for a row past the table.
-pub fn field(rec: &[u8], row: usize) -> &[u8]
-    ensures { λ r. ⌜ now r ≡ shownField row (now (rec .entry)) ⌝ }
+// refused record, for a row of another record and for a row past the table. The version is as in `check`.
+pub fn field(rec: &[u8], version: u64, row: usize) -> &[u8]
+    ensures { λ r. ⌜ now r ≡ shownField (told version) row (now (rec .entry)) ⌝ }
 {
-    match check(rec) {
+    match check(rec, version) {
         Answer::Accepted => field_of_row(rec, row),
         Answer::Refused(_, _) => &rec[0..0],
     }

@@ -44,7 +44,7 @@ returns-3 c =
     let start = testing .before .before .before .before in
     let given = sym (testing .before .is-given .ensures) ∙ not-false _ (testing .if1 .left) in
     let sized = eq-eqb _ _ (sizing .if2 .left ∙ sizing .before .given-length .ensures) in
-    let checked = checking .check .ensures ∙ named-is _ _ (start .pre .0) (start .pre .1) in
+    let checked = checking .check .ensures ∙ named-is _ _ _ (start .pre .0) (start .pre .1) in
     (rw (given, sized) checked, rw (c .before .before .before .before .enum-told .given .1) (c .before .before .join-rows .ensures))
 
 returns-4 : tie.Need-returns-4
@@ -55,7 +55,7 @@ returns-4 c =
     let start = testing .before .before .before .before in
     let given = sym (testing .before .is-given .ensures) ∙ not-false _ (testing .if1 .left) in
     let sized = eq-eqb _ _ (sizing .if2 .left ∙ sizing .before .given-length .ensures) in
-    let checked = checking .check .ensures ∙ named-is _ _ (start .pre .0) (start .pre .1) in
+    let checked = checking .check .ensures ∙ named-is _ _ _ (start .pre .0) (start .pre .1) in
     (rw (given, sized) checked, rw (c .enum-told2 .given .1))
 
 pub join-named-spec : {M : Type 1} → statement M

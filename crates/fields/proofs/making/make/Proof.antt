@@ -2,6 +2,7 @@
 use mathlib.Core.List.{[], _∷_}
 use mathlib.Core.Path.{refl, _∙_}
 use borrow.Author.Needs.{needs}
+use Rattle.kinds.specs.Terms.{told}
 use Rattle.fields.proofs.Makes.{wrong-size, wrong-given, goes-on}
 use Rattle.fields.proofs.Writes.{made-copied}
 use Rattle.fields.proofs.making.make.Statement.{statement}
@@ -10,7 +11,7 @@ use Rattle.fields.proofs.making.make.Tie as tie
 returns : tie.Need-returns
 returns c =
     let a = c .before .before .before .args in
-    (wrong-size (a .which) (a .given .now) (a .first ∷ a .second ∷ []) (c .if1 .taken), refl)
+    (wrong-size (told (a .version)) (a .which) (a .given .now) (a .first ∷ a .second ∷ []) (c .if1 .taken), refl)
 
 given-length-requires : tie.Need-given-length-requires
 given-length-requires c κs = search needs
@@ -19,13 +20,13 @@ returns-2 : tie.Need-returns-2
 returns-2 c =
     let a = c .before .before .before .before .before .args in
     let size = c .before .before .if1 .left in
-    (wrong-given (a .which) (a .given .now) (a .first ∷ a .second ∷ []) size (c .before .given-length .ensures) (c .if2 .taken), refl)
+    (wrong-given (told (a .version)) (a .which) (a .given .now) (a .first ∷ a .second ∷ []) size (c .before .given-length .ensures) (c .if2 .taken), refl)
 
-slice-aggregate-make-rows : tie.Need-slice-aggregate-make-rows
-slice-aggregate-make-rows c = search needs
+slice-aggregate-make-named : tie.Need-slice-aggregate-make-named
+slice-aggregate-make-named c = search needs
 
-make-rows-requires : tie.Need-make-rows-requires
-make-rows-requires c κs = search needs
+make-named-requires : tie.Need-make-named-requires
+make-named-requires c κs = search needs
 
 enum-told : tie.Need-enum-told
 enum-told c = search needs
@@ -50,9 +51,9 @@ returns-3 c =
     let testing = lengths .before .before in
     let a = testing .before .before .before .args in
     let given = lengths .if2 .left ∙ lengths .before .given-length .ensures in
-    let told = telling .enum-told .given .1 in
-    let answer = goes-on (a .which) (a .given .now) (a .first ∷ a .second ∷ []) (testing .if1 .left) given (making .make-rows .ensures .0) in
-    (answer, made-copied _ _ (search needs) told (making .make-rows .ensures .1 told) (c .before .before .copy .ensures .1))
+    let accepted = telling .enum-told .given .1 in
+    let answer = goes-on (told (a .version)) (a .which) (a .given .now) (a .first ∷ a .second ∷ []) (testing .if1 .left) given (making .make-named .ensures .0) in
+    (answer, made-copied _ _ (search needs) accepted (making .make-named .ensures .1 accepted) (c .before .before .copy .ensures .1))
 
 returns-4 : tie.Need-returns-4
 returns-4 c =
@@ -61,7 +62,7 @@ returns-4 c =
     let testing = lengths .before .before in
     let a = testing .before .before .before .args in
     let given = lengths .if2 .left ∙ lengths .before .given-length .ensures in
-    (goes-on (a .which) (a .given .now) (a .first ∷ a .second ∷ []) (testing .if1 .left) given (making .make-rows .ensures .0), rw (c .enum-told2 .given .1))
+    (goes-on (told (a .version)) (a .which) (a .given .now) (a .first ∷ a .second ∷ []) (testing .if1 .left) given (making .make-named .ensures .0), rw (c .enum-told2 .given .1))
 
 pub make-spec : {M : Type 1} → statement M
 make-spec =
@@ -70,8 +71,8 @@ make-spec =
     returns
     given-length-requires
     returns-2
-    slice-aggregate-make-rows
-    make-rows-requires
+    slice-aggregate-make-named
+    make-named-requires
     enum-told
     slice-aggregate-copy
     copy-requires

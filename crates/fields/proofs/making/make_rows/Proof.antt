@@ -8,6 +8,7 @@ use lib.Seq.{slice}
 use Rattle.answer.proofs.Orders.{not-both}
 use Rattle.answer.specs.Orders.{movedBy, cappedBehind}
 use Rattle.layout.specs.declared.Field.{Field}
+use Rattle.kinds.specs.Terms.{told}
 use Rattle.fields.proofs.Makes.{at-row, at-end, ends, placed, in-given, fits-part, refuses, step, Making, start}
 use Rattle.record.proofs.Walks.{in-order, in-table, rows-here}
 use Rattle.fields.specs.Making.{madeOf, makingAnswer}
@@ -15,13 +16,13 @@ use Rattle.fields.proofs.making.make_rows.Statement.{statement}
 use Rattle.fields.proofs.making.make_rows.Tie as tie
 
 abbrev Inv-loop : tie.InvT-loop
-Inv-loop given first second made₀ table to i₀ done₀ at₀ used₀ made i done at used =
+Inv-loop given version first second made₀ table to i₀ done₀ at₀ used₀ made i done at used =
     (i ≤ to)
-    × Making (slice i to table) given (first ∷ second ∷ []) made done at used (makingAnswer (slice i₀ to table) given (first ∷ second ∷ []))
+    × Making (told version) (slice i to table) given (first ∷ second ∷ []) made done at used (makingAnswer (told version) (slice i₀ to table) given (first ∷ second ∷ []))
     (madeOf (slice i₀ to table) given (first ∷ second ∷ []))
 
 abbrev μ-loop : tie.MeasureT-loop
-μ-loop given first second made₀ table to i₀ done₀ at₀ used₀ made i done at used = to - i
+μ-loop given version first second made₀ table to i₀ done₀ at₀ used₀ made i done at used = to - i
 
 table-requires : tie.Need-table-requires Inv-loop μ-loop
 table-requires c κs = search needs
@@ -34,7 +35,7 @@ loop-holds c =
     let table = c .before .table .ensures in
     let rows = c .rows-of .ensures in
     let lengths = c .before .before .before .before .pre in
-    (in-order _ table rows, start _ _ _ _ (rows-here _ table rows) (lengths .0) (lengths .1))
+    (in-order _ table rows, start _ _ _ _ _ (rows-here _ table rows) (lengths .0) (lengths .1))
 
 mul-f : tie.Need-mul-f Inv-loop μ-loop
 mul-f c = omega (arith, in-table _ (c .before .before .before .table .ensures) (c .before .before .rows-of .ensures), c .loop-test .taken)
@@ -55,6 +56,9 @@ add-next c =
     let width = c .given-width .ensures in
     omega (arith, in-given here width, turn .before .before .before .before .before .before .good)
 
+amount-at-requires : tie.Need-amount-at-requires Inv-loop μ-loop
+amount-at-requires c κs = search needs
+
 sub-put-field : tie.Need-sub-put-field Inv-loop μ-loop
 sub-put-field c = search needs
 
@@ -63,12 +67,9 @@ part-put-field-start c = search needs
 
 part-put-field-end : tie.Need-part-put-field-end Inv-loop μ-loop
 part-put-field-end c =
-    let turn = c .before .before in
+    let turn = c .before .before .before in
     let here = at-row _ (turn .before .before .before .table .ensures) (turn .before .before .rows-of .ensures) (turn .loop-test .taken) (turn .before .loop .inv .1) in
-    in-given here (c .given-width .ensures)
-
-amount-at-requires : tie.Need-amount-at-requires Inv-loop μ-loop
-amount-at-requires c κs = search needs
+    in-given here (c .before .given-width .ensures)
 
 sub-put-field-2 : tie.Need-sub-put-field-2 Inv-loop μ-loop
 sub-put-field-2 c =
@@ -92,7 +93,7 @@ put-field-requires : tie.Need-put-field-requires Inv-loop μ-loop
 put-field-requires c κs =
     let turn = c .before .before .before .before .before in
     let here = at-row _ (turn .before .before .before .table .ensures) (turn .before .before .rows-of .ensures) (turn .loop-test .taken) (turn .before .loop .inv .1) in
-    fits-part here (c .before .before .before .given-width .ensures) (c .before .amount-at .result)
+    fits-part here (c .before .before .before .given-width .ensures) (c .before .before .amount-at .result)
 
 enum-told : tie.Need-enum-told Inv-loop μ-loop
 enum-told c = search needs
@@ -112,10 +113,10 @@ loop-again c =
     let taking = putting .before .before .before .before in
     let turn = taking .before .before in
     let here = at-row _ (turn .before .before .before .table .ensures) (turn .before .before .rows-of .ensures) (turn .loop-test .taken) (turn .before .loop .inv .1) in
-    let amount = putting .before .before .amount-at .ensures in
-    let told = c .before .enum-told .given .1 in
-    let bytes = putting .put-field .ensures .1 told in
-    (search needs, step here (taking .given-width .ensures) amount (putting .put-field .ensures .0) told refl (c .used-after .ensures) bytes)
+    let amount = putting .before .before .before .amount-at .ensures in
+    let accepted = c .before .enum-told .given .1 in
+    let bytes = putting .put-field .ensures .1 accepted in
+    (search needs, step here (taking .given-width .ensures) amount (putting .put-field .ensures .0) accepted refl (c .used-after .ensures) bytes)
 
 enum-told-2 : tie.Need-enum-told-2 Inv-loop μ-loop
 enum-told-2 c = search needs
@@ -135,11 +136,11 @@ returns c =
     let table = turn .before .before .before .table .ensures in
     let rows = turn .before .before .rows-of .ensures in
     let here = at-row _ table rows (turn .loop-test .taken) (turn .before .loop .inv .1) in
-    let amount = putting .before .before .amount-at .ensures in
-    let told = c .before .enum-told2 .given .1 in
-    let refused = refuses here (taking .given-width .ensures) amount (putting .put-field .ensures .0) told (c .behind .ensures) in (
-      refused ∙ ap (λ (l : List Field). makingAnswer l (a .given .now) (a .first ∷ a .second ∷ [])) (rows-here _ table rows),
-      λ h. not-both _ (c .behind .ensures ∙ ap (movedBy (cappedBehind _)) told) h,
+    let amount = putting .before .before .before .amount-at .ensures in
+    let stops = c .before .enum-told2 .given .1 in
+    let refused = refuses here (taking .given-width .ensures) amount (putting .put-field .ensures .0) stops (c .behind .ensures) in (
+      refused ∙ ap (λ (l : List Field). makingAnswer (told (a .version)) l (a .given .now) (a .first ∷ a .second ∷ [])) (rows-here _ table rows),
+      λ h. not-both _ (c .behind .ensures ∙ ap (movedBy (cappedBehind _)) stops) h,
     )
 
 same-length-2 : tie.Need-same-length-2 Inv-loop μ-loop
@@ -150,7 +151,7 @@ returns-2 c =
     let a = c .before .before .before .before .before .before .args in
     let whole = rows-here _ (c .before .before .before .table .ensures) (c .before .before .rows-of .ensures) in
     let ended = at-end _ _ _ (c .before .loop .inv .0) (c .loop-test .left) (c .before .loop .inv .1) in (
-      ended .0 ∙ ap (λ (l : List Field). makingAnswer l (a .given .now) (a .first ∷ a .second ∷ [])) whole,
+      ended .0 ∙ ap (λ (l : List Field). makingAnswer (told (a .version)) l (a .given .now) (a .first ∷ a .second ∷ [])) whole,
       λ h. ended .1 ∙ ap (λ (l : List Field). madeOf l (a .given .now) (a .first ∷ a .second ∷ [])) whole,
     )
 
@@ -167,22 +168,22 @@ make-rows-spec =
     array-copy-out-f
     given-width-requires
     add-next
+    amount-at-requires
     sub-put-field
     part-put-field-start
     part-put-field-end
-    amount-at-requires
     sub-put-field-2
     part-put-field-start-2
     part-put-field-end-2
     put-field-requires
     enum-told
-    used-after-requires
-    add-i
-    loop-less
-    loop-again
     enum-told-2
     behind-requires
     same-length
     returns
+    used-after-requires
+    add-i
+    loop-less
+    loop-again
     same-length-2
     returns-2)

@@ -4,6 +4,7 @@ use native.Mathlib.Omega.{arith}
 use borrow.Author.Needs.{needs}
 use lib.ListN.{length}
 use Rattle.decimal.proofs.Numbers.{room-answer}
+use Rattle.kinds.specs.Terms.{told}
 use Rattle.fields.proofs.Writes.{put-money, put-money-bytes, put-other, other-is}
 use Rattle.fields.proofs.making.put_field.Statement.{statement}
 use Rattle.fields.proofs.making.put_field.Tie as tie
@@ -24,8 +25,8 @@ returns c =
     let a = testing .before .before .before .before .args in
     let money = sym (testing .before .is-money .ensures) ∙ testing .if1 .taken in
     let w = length (a .out .now) in (
-      put-money (a .kind) w (a .given .now) (a .amount) money (putting .put-number .ensures .0 ∙ room-answer w 0 w (a .amount) (omega arith)),
-      put-money-bytes (a .kind) w (a .given .now) (a .amount) _ _ money refl (putting .put-number .ensures .1),
+      put-money (told (a .version)) (a .kind) w (a .given .now) (a .amount) money (putting .put-number .ensures .0 ∙ room-answer w 0 w (a .amount) (omega arith)),
+      put-money-bytes (told (a .version)) (a .kind) w (a .given .now) (a .amount) _ _ money refl (putting .put-number .ensures .1),
     )
 
 put-bytes-requires : tie.Need-put-bytes-requires
@@ -50,7 +51,7 @@ returns-2 c =
     let other = sym (testing .before .is-money .ensures) ∙ testing .if1 .left in
     let bytes = putting .put-bytes .ensures in
     let w = length (a .out .now) in (
-      put-other (a .kind) w (a .given .now) (a .amount) other bytes (c .check .ensures),
+      put-other (told (a .version)) (a .kind) w (a .given .now) (a .amount) other bytes (c .check .ensures),
       λ e. bytes ∙ sym (other-is (a .kind) w (a .given .now) (a .amount) other),
     )
 

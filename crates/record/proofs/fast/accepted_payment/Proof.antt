@@ -11,13 +11,13 @@ use Rattle.record.proofs.fast.accepted_payment.Statement.{statement}
 use Rattle.record.proofs.fast.accepted_payment.Tie as tie
 
 returns : tie.Need-returns
-returns c = not-sized (c .before .before .args .rec .now) (c .if1 .taken) .0
+returns c = not-sized _ (c .before .before .args .rec .now) (c .if1 .taken) .0
 
 looks-like-payment-requires : tie.Need-looks-like-payment-requires
 looks-like-payment-requires c κs = search needs
 
 returns-2 : tie.Need-returns-2
-returns-2 c = not-looking (c .before .before .before .before .args .rec .now) (c .before .before .if1 .left) (sym (c .before .looks-like-payment .ensures) ∙ not-true _ (c .if2 .taken)) .0
+returns-2 c = not-looking _ (c .before .before .before .before .args .rec .now) (c .before .before .if1 .left) (sym (c .before .looks-like-payment .ensures) ∙ not-true _ (c .if2 .taken)) .0
 
 is-dated-requires : tie.Need-is-dated-requires
 is-dated-requires c κs = search needs
@@ -26,7 +26,7 @@ returns-3 : tie.Need-returns-3
 returns-3 c =
     let sized = c .before .before .before .before in
     let undated = sym (c .before .is-dated .ensures) ∙ not-true _ (c .if3 .taken) in
-    not-dated (sized .before .before .args .rec .now) (sized .if1 .left) undated .0
+    not-dated _ (sized .before .before .args .rec .now) (sized .if1 .left) undated .0
 
 field-bytes-requires : tie.Need-field-bytes-requires
 field-bytes-requires c κs = search needs
@@ -56,7 +56,7 @@ returns-4 c =
     let looks = sym (looked .before .looks-like-payment .ensures) ∙ not-false _ (looked .if2 .left) in
     let dates = sym (dated .before .is-dated .ensures) ∙ not-false _ (dated .if3 .left) in
     let told = issuer-tells part to in
-    pays-it rec (sized .if1 .left) looks dates (told .0) (told .1) (c .number-in .ensures)
+    pays-it _ rec (sized .if1 .left) looks dates (told .0) (told .1) (c .number-in .ensures)
 
 returns-5 : tie.Need-returns-5
 unfolding rowAt table layoutOf
@@ -64,7 +64,7 @@ returns-5 c =
     let paid = c .before .before in
     let sized = paid .before .before .before .before .before .before in
     let none = sym (c .enum-told .given .1) ∙ paid .accepted-issuer .ensures ∙ ap acceptedIssuer (paid .before .field-bytes .ensures) in
-    no-payee (sized .before .before .args .rec .now) (sized .if1 .left) none .0
+    no-payee _ (sized .before .before .args .rec .now) (sized .if1 .left) none .0
 
 pub accepted-payment-spec : {M : Type 1} → statement M
 accepted-payment-spec =

@@ -4,6 +4,7 @@ use Prim.Native.Nat.{ℕ}
 use mathlib.Core.List.{List}
 use mathlib.Core.Path.{ap, _∙_}
 use lib.ListN.{getD}
+use Rattle.kinds.specs.Terms.{told}
 use Rattle.kinds.specs.Kinds.{isCapture, isForm}
 use borrow.Author.Tests.{not-true, not-false}
 use Rattle.layout.specs.Layouts.{rowAt, table, layoutOf}
@@ -25,7 +26,8 @@ unfolding rowAt table layoutOf
 returns c =
     let part = c .before .before .before in
     let byte = c .before .before .byte-at .ensures ∙ ap (λ (l : List ℕ). getD l 0 0) (part .field-bytes .ensures) in
-    capture-fails (part .before .before .args .rec .now) (c .before .is-capture .ensures ∙ ap isCapture byte) (not-true _ (c .if1 .taken))
+    let args = part .before .before .args in
+    capture-fails (args .rec .now) (told (args .version)) (c .before .is-capture .ensures ∙ ap (isCapture (args .version)) byte) (not-true _ (c .if1 .taken))
 
 field-bytes-requires-2 : tie.Need-field-bytes-requires-2
 field-bytes-requires-2 c κs = search needs
@@ -42,10 +44,11 @@ returns-2 c =
     let capture = c .before .before .before in
     let part = capture .before .before .before in
     let byte = capture .before .before .byte-at .ensures ∙ ap (λ (l : List ℕ). getD l 0 0) (part .field-bytes .ensures) in
-    let captured = capture .before .is-capture .ensures ∙ ap isCapture byte in
+    let args = part .before .before .args in
+    let captured = capture .before .is-capture .ensures ∙ ap (isCapture (args .version)) byte in
     let other = c .before .byte-at2 .ensures ∙ ap (λ (l : List ℕ). getD l 0 0) (c .before .before .field-bytes2 .ensures) in
-    let formed = c .is-form .ensures ∙ ap isForm other in
-    form-is (part .before .before .args .rec .now) captured (not-false _ (capture .if1 .left)) formed
+    let formed = c .is-form .ensures ∙ ap (isForm (args .version)) other in
+    form-is (args .rec .now) (told (args .version)) captured (not-false _ (capture .if1 .left)) formed
 
 pub is-coded-spec : {M : Type 1} → statement M
 is-coded-spec =

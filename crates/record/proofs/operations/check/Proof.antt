@@ -18,7 +18,7 @@ check-in-order-requires : tie.Need-check-in-order-requires
 check-in-order-requires c κs = search needs
 
 returns : tie.Need-returns
-returns c = paid-accepted (c .before .before .before .before .args .rec .now) (sym (c .enum-told .given .1) ∙ c .before .before .accepted-payment .ensures)
+returns c = paid-accepted _ (c .before .before .before .before .args .rec .now) (sym (c .enum-told .given .1) ∙ c .before .before .accepted-payment .ensures)
 
 returns-2 : tie.Need-returns-2
 returns-2 c = search needs

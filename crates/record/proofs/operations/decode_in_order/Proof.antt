@@ -2,6 +2,7 @@
 use mathlib.Core.Path.{sym, _∙_}
 use borrow.Author.Needs.{needs}
 use Rattle.record.proofs.Exact.{other-shown}
+use Rattle.record.proofs.Shown.{other-records-ignore-terms}
 use Rattle.record.proofs.operations.decode_in_order.Statement.{statement}
 use Rattle.record.proofs.operations.decode_in_order.Tie as tie
 
@@ -15,7 +16,8 @@ header-or-trailer-requires : tie.Need-header-or-trailer-requires
 header-or-trailer-requires c κs =
     let start = c .before .before .before .before in
     let accepted = sym (c .before .before .check-in-order .ensures) ∙ c .enum-told .given .1 in
-    (accepted, other-shown (start .args .rec .now) (start .pre) accepted)
+    let none = other-shown _ (start .args .rec .now) (start .pre) accepted in
+    (λ t. other-records-ignore-terms t _ (start .args .rec .now) none ∙ accepted, none)
 
 enum-known-why : tie.Need-enum-known-why
 enum-known-why c = search needs

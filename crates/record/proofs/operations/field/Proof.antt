@@ -12,7 +12,7 @@ enum-told : tie.Need-enum-told
 enum-told c = search needs
 
 field-of-row-requires : tie.Need-field-of-row-requires
-field-of-row-requires c κs = accepted-is _ (sym (c .before .before .check .ensures) ∙ c .enum-told .given .1) .0
+field-of-row-requires c κs = accepted-is _ _ (sym (c .before .before .check .ensures) ∙ c .enum-told .given .1) .0
 
 enum-told-2 : tie.Need-enum-told-2
 enum-told-2 c = search needs

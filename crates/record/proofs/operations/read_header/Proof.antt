@@ -2,6 +2,7 @@
 use mathlib.Core.Path.{ap, _∙_}
 use borrow.Author.Needs.{needs}
 use Rattle.layout.specs.Layouts.{rowAt, table, layoutOf}
+use Rattle.kinds.specs.Terms.{told}
 use Rattle.record.specs.Values.{dayOf}
 use Rattle.record.proofs.Shown.{header-read}
 use Rattle.record.proofs.operations.read_header.Statement.{statement}
@@ -19,17 +20,21 @@ day-of-requires c κs = search needs
 number-in-requires-2 : tie.Need-number-in-requires-2
 number-in-requires-2 c κs = search needs
 
+number-in-requires-3 : tie.Need-number-in-requires-3
+number-in-requires-3 c κs = search needs
+
 returns : tie.Need-returns
 unfolding rowAt table layoutOf
 returns c =
-    let day = c .before in
+    let sequence = c .before in
+    let day = sequence .before in
     let date = day .before in
     let bank = date .before in
     let start = bank .before .before in
-    header-read (start .args .rec .now) (start .pre .0) (start .pre .1) (bank .number-in .ensures)
-    (day .day-of .ensures ∙ ap dayOf (date .date-in .ensures)) (c .number-in2 .ensures)
+    header-read (told 0) (start .args .rec .now) (start .pre .0) (start .pre .1 (told 0)) (bank .number-in .ensures)
+    (day .day-of .ensures ∙ ap dayOf (date .date-in .ensures)) (sequence .number-in2 .ensures) (c .number-in3 .ensures)
 
 pub read-header-spec : {M : Type 1} → statement M
 read-header-spec =
     tie.close
-    (tie.spec number-in-requires date-in-requires day-of-requires number-in-requires-2 returns)
+    (tie.spec number-in-requires date-in-requires day-of-requires number-in-requires-2 number-in-requires-3 returns)

@@ -19,8 +19,8 @@ named-by-requires c κs = search needs
 enum-known-which : tie.Need-enum-known-which
 enum-known-which c = search needs
 
-layout-answer-requires : tie.Need-layout-answer-requires
-layout-answer-requires c κs = search needs
+named-answer-requires : tie.Need-named-answer-requires
+named-answer-requires c κs = search needs
 
 enum-told : tie.Need-enum-told
 enum-told c = search needs
@@ -30,7 +30,7 @@ unfolding recordAnswer
 returns-2 c =
     let which = c .before .before in
     let named = sym (which .before .before .named-by .ensures) ∙ which .which .given .1 in
-    rw (eq-eqb _ _ (which .before .before .before .before .if1 .left), named) (c .layout-answer .ensures)
+    rw (eq-eqb _ _ (which .before .before .before .before .if1 .left), named) (c .named-answer .ensures)
 
 returns-3 : tie.Need-returns-3
 unfolding recordAnswer
@@ -44,7 +44,7 @@ check-in-order-spec =
     shared-slice-read-named-by
     named-by-requires
     enum-known-which
-    layout-answer-requires
+    named-answer-requires
     enum-told
     returns-2
     returns-3)

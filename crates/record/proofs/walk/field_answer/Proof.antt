@@ -7,6 +7,7 @@ use Rattle.answer.specs.Orders.{movedBy, cappedBehind}
 use Rattle.answer.proofs.Orders.{behind-is-exact}
 use Rattle.kinds.proofs.KindLaws.{kind-place}
 use Rattle.record.proofs.FieldBytes.{part-length}
+use Rattle.kinds.specs.Terms.{told}
 use Rattle.kinds.specs.Kinds.{kindAnswer}
 use Rattle.record.specs.Records.{fieldBytes, fieldAnswer}
 use Rattle.record.proofs.walk.field_answer.Statement.{statement}
@@ -29,11 +30,12 @@ unfolding fieldAnswer
 returns c =
     let s = c .before .before .before .before .before in
     let f = s .args .f in
-    let k = c .before .before .check .ensures ∙ ap (kindAnswer (f .kind)) (c .before .before .before .field-bytes .ensures) in
+    let t = told (s .args .version) in
+    let k = c .before .before .check .ensures ∙ ap (kindAnswer t (f .kind)) (c .before .before .before .field-bytes .ensures) in
     let bs = fieldBytes f (s .args .rec .now) in
     let n = part-length f (s .args .rec .now) (s .pre .1) (s .pre .0) in
-    let near = kind-place (f .kind) bs (omega (arith, n, s .pre .1 .end)) in
-    let held = behind-is-exact (f .first - 1) (kindAnswer (f .kind) bs) (omega (arith, near, s .pre .1 .order, s .pre .1 .end)) in
+    let near = kind-place t (f .kind) bs (omega (arith, n, s .pre .1 .end)) in
+    let held = behind-is-exact (f .first - 1) (kindAnswer t (f .kind) bs) (omega (arith, near, s .pre .1 .order, s .pre .1 .end)) in
     c .behind .ensures ∙ ap (movedBy (cappedBehind (f .first - 1))) k ∙ held
 
 pub field-answer-spec : {M : Type 1} → statement M

@@ -6,15 +6,17 @@ use borrow.Author.Needs.{needs}
 use lib.Seq.{slice}
 use Rattle.answer.specs.Orders.{firstRefusal}
 use Rattle.record.proofs.Walks.{later, here, none, in-order, in-table, row-placed, walked}
+use Rattle.kinds.specs.Terms.{told}
 use Rattle.record.specs.Records.{fieldAnswer}
 use Rattle.record.proofs.walk.layout_answer.Statement.{statement}
 use Rattle.record.proofs.walk.layout_answer.Tie as tie
 
 abbrev Inv-loop : tie.InvT-loop
-Inv-loop rec table to i₀ i = (i ≤ to) × (firstRefusal (fieldAnswer rec) (slice i to table) ≡ firstRefusal (fieldAnswer rec) (slice i₀ to table))
+Inv-loop rec version table to i₀ i =
+    (i ≤ to) × (firstRefusal (fieldAnswer (told version) rec) (slice i to table) ≡ firstRefusal (fieldAnswer (told version) rec) (slice i₀ to table))
 
 abbrev μ-loop : tie.MeasureT-loop
-μ-loop rec table to i₀ i = to - i
+μ-loop rec version table to i₀ i = to - i
 
 table-requires : tie.Need-table-requires Inv-loop μ-loop
 table-requires c κs = search needs
@@ -61,11 +63,11 @@ returns c =
     let loop = test .before in
     let rows = loop .before in
     let fits = in-table _ (rows .before .table .ensures) (rows .rows-of .ensures) in
-    let all = loop .loop .inv .1 ∙ walked _ (rows .before .table .ensures) (rows .rows-of .ensures) _ in
+    let all = loop .loop .inv .1 ∙ walked _ (rows .before .table .ensures) (rows .rows-of .ensures) _ _ in
     here _ _ _ _ _ (test .loop-test .taken) fits (c .before .before .field-answer .ensures) (c .enum-told2 .given .1) all
 
 returns-2 : tie.Need-returns-2 Inv-loop μ-loop
-returns-2 c = none _ _ _ _ (c .before .loop .inv .0) (c .loop-test .left) (c .before .loop .inv .1 ∙ walked _ (c .before .before .before .table .ensures) (c .before .before .rows-of .ensures) _)
+returns-2 c = none _ _ _ _ (c .before .loop .inv .0) (c .loop-test .left) (c .before .loop .inv .1 ∙ walked _ (c .before .before .before .table .ensures) (c .before .before .rows-of .ensures) _ _)
 
 pub layout-answer-spec : {M : Type 1} → statement M
 layout-answer-spec =
