@@ -39,7 +39,7 @@ pub refusal-keeps-file : RefusalKeepsFile
 refusal-keeps-file f received h = refusal-keeps (fileAnswer f received) (fileWith f received) f h
 
 pub stays-within : StaysWithin
-stays-within = (record { taken = omega arith; total = omega arith }, λ f received w. go f received w (fileAnswer f received) refl)
+stays-within = (λ version. record { taken = omega arith; total = omega arith }, λ f received w. go f received w (fileAnswer f received) refl)
   where
     go : (f : File) (received : ℕ) → FileWithin f → (a : Answer) → fileAnswer f received ≡ a
         → FileWithin (ifAccepted a (fileWith f received) f)
@@ -66,21 +66,22 @@ takes f w (x ∷ xs) =
     )
 
 pub fresh-file-takes : FreshFileTakes
-fresh-file-takes xs =
-    let h = takes freshFile (stays-within .0) xs in
+fresh-file-takes version xs =
+    let h = takes (freshFile version) (stays-within .0 version) xs in
     (λ e. let k = h .0 e in (omega arith, omega arith), λ k. h .1 (omega arith, omega arith))
 
--- two files with equal numbers are equal
-alike : {f g : File} → f .taken ≡ g .taken → f .total ≡ g .total → f ≡ g
-alike e d = ap₂ {C = File} (λ (n m : ℕ). record { taken = n; total = m }) e d
+-- two files of a version with equal figures are equal
+alike : (version : ℕ) {m n c d : ℕ} → m ≡ n → c ≡ d
+    → _≡_ {A = File} (record { taken = m; total = c; version = version }) (record { taken = n; total = d; version = version })
+alike version e q = ap₂ {C = File} (λ (n d : ℕ). record { taken = n; total = d; version = version }) e q
 
 holds : (f : File) (xs : List ℕ)
-    → fileWithAll f xs ≡ record { taken = f .taken + length xs; total = f .total + receivedOf xs }
-holds f [] = alike (omega arith) (omega arith)
-holds f (x ∷ xs) = holds (fileWith f x) xs ∙ alike (omega arith) (omega arith)
+    → fileWithAll f xs ≡ record { taken = f .taken + length xs; total = f .total + receivedOf xs; version = f .version }
+holds f [] = alike (f .version) (omega arith) (omega arith)
+holds f (x ∷ xs) = holds (fileWith f x) xs ∙ alike (f .version) (omega arith) (omega arith)
 
 pub fresh-file-holds : FreshFileHolds
-fresh-file-holds xs = holds freshFile xs ∙ alike (omega arith) (omega arith)
+fresh-file-holds version xs = holds (freshFile version) xs ∙ alike version (omega arith) (omega arith)
 
 pub one-right-trailer : OneRightTrailer
 unfolding figuresAnswer

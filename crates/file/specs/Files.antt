@@ -22,8 +22,13 @@ mostPayments = 999_997
 abbrev pub mostCentavos : ℕ
 mostCentavos = 99_999_999_999_999_999
 
-abbrev pub freshFile : File
-freshFile = record { taken = 0; total = 0 }
+-- a file without payments, whose header names this version
+abbrev pub freshFile : ℕ → File
+freshFile version = record { taken = 0; total = 0; version = version }
+
+-- where no file is open: no version either
+abbrev pub noFile : File
+noFile = freshFile 0
 
 -- 15 for a payment when the most were taken, then 16 for one that takes the total past the most
 unfoldable pub fileAnswer : File → ℕ → Answer
@@ -33,7 +38,7 @@ fileAnswer f received =
 
 -- the file with one payment more
 abbrev pub fileWith : File → ℕ → File
-fileWith f received = record { taken = f .taken + 1; total = f .total + received }
+fileWith f received = record { taken = f .taken + 1; total = f .total + received; version = f .version }
 
 abbrev pub fileResultOf : File → ℕ → FileResult
 fileResultOf f received =
@@ -98,18 +103,21 @@ RefusalKeepsFile =
 
 abbrev pub StaysWithin : Type 0
 StaysWithin =
-    FileWithin freshFile × ((f : File) (received : ℕ) → FileWithin f → FileWithin (fileResultOf f received .file))
+    ((version : ℕ) → FileWithin (freshFile version))
+    × ((f : File) (received : ℕ) → FileWithin f → FileWithin (fileResultOf f received .file))
 
 -- Promises: of all payments of a file. A fresh file takes a list of them exactly where it is within the limits, counts
 -- it and adds it up.
 
 abbrev pub FreshFileTakes : Type 0
 FreshFileTakes =
-    (xs : List ℕ)
-    → (fileAnswers freshFile xs ≡ Accepted) ↔ ((length xs ≤ mostPayments) × (receivedOf xs ≤ mostCentavos))
+    (version : ℕ) (xs : List ℕ)
+    → (fileAnswers (freshFile version) xs ≡ Accepted) ↔ ((length xs ≤ mostPayments) × (receivedOf xs ≤ mostCentavos))
 
 abbrev pub FreshFileHolds : Type 0
-FreshFileHolds = (xs : List ℕ) → fileWithAll freshFile xs ≡ record { taken = length xs; total = receivedOf xs }
+FreshFileHolds =
+    (version : ℕ) (xs : List ℕ)
+    → fileWithAll (freshFile version) xs ≡ record { taken = length xs; total = receivedOf xs; version = version }
 
 -- Promises: of the trailer. Exactly one is right, and its six and seventeen digits have room for a file within its
 -- limits.

@@ -5,11 +5,13 @@ ghost use Rattle.file.specs.Files.{freshFile, fileResultOf, figuresAnswe
 use answer::Answer;
 use answer::Reason;
 
-// How many payments were taken, and the centavos they received in all.
+// How many payments were taken, the centavos they received in all, and the version of the layout that the header names:
+// 4 or 6, and 0 where no file is open.
 #[repr(C)]
 pub struct File {
     pub taken: u64,
     pub total: u64,
+    pub version: u64,
 }
 
 // The file with the payment; a refusal leaves it as it was.
@@ -41,11 +43,16 @@ impl File {
 
     pub const MOST_CENTAVOS: u64 = 99_999_999_999_999_999;
 
-    // A file without payments.
-    pub fn new() -> Self
-        ensures { λ r. ⌜ r ≡ freshFile ⌝ }
+    // A file without payments, whose header names this version. Any number is taken; under one that is no version each
+    // payment record is refused.
+    pub fn new(version: u64) -> Self
+        ensures { λ r. ⌜ r ≡ freshFile version ⌝ }
     {
-        File { taken: 0, total: 0 }
+        File {
+            taken: 0,
+            total: 0,
+            version,
+        }
     }
 
     // Takes one payment more, which received so many centavos: refused 15 where the file has the most payments, then 16
@@ -77,6 +84,7 @@ impl File {
             file: File {
                 taken: self.taken + 1,
                 total: self.total + received,
+                version: self.version,
             },
         }
     }

@@ -14,6 +14,7 @@ use Rattle.layout.specs.declared.MaybeRecord.{MaybeRecord}
 use Rattle.layout.specs.declared.MaybeRecord.the-variants.{Is, Other}
 use Rattle.layout.specs.declared.Record.the-variants as layout
 use Rattle.layout.specs.Layouts.{recordLength, namedBy}
+use Rattle.kinds.specs.Terms.{Terms, told}
 use Rattle.record.specs.declared.Payment.{Payment}
 use Rattle.barcode.specs.declared.Issuer.{Issuer}
 use Rattle.record.specs.declared.PaymentDue.{PaymentDue}
@@ -35,7 +36,7 @@ use Rattle.session.specs.declared.leading.Progress.{Progress}
 use Rattle.session.specs.declared.leading.MaybePayment.{MaybePayment}
 use Rattle.session.specs.declared.leading.MaybePayment.the-variants as maybe
 use Rattle.session.specs.declared.leading.LeadingPayments.{LeadingPayments}
-use Rattle.session.specs.Sessions.{laneOfPayment, takeAnswer, takeOf, sessionWith}
+use Rattle.session.specs.Sessions.{sessionTerms, laneOfPayment, takeAnswer, takeOf, sessionWith}
 use Rattle.session.specs.Runs.{filesClosed}
 use Rattle.session.specs.LeadingPayments.{Taken, NextPaymentOf, withLeading, LeadingPaymentsOf}
 use Rattle.session.proofs.Steps.{posted-board, taken-file}
@@ -51,23 +52,23 @@ shown-payment answer.Accepted (Is layout.Trailer) rec h = (refl, cc)
 shown-payment answer.Accepted Other rec h = (refl, cc)
 shown-payment (answer.Refused why place) n rec h = (cc, cc)
 
-module _ (rec : List ℕ) {p : Payment} (is : decodedRecord rec ≡ decoded.Payment p) where
+module _ (t : Terms) (rec : List ℕ) {p : Payment} (is : decodedRecord t rec ≡ decoded.Payment p) where
   pub payment-named : namedBy (getD rec 0 0) ≡ Is layout.Payment
-  payment-named = shown-payment (recordAnswer rec) (namedBy (getD rec 0 0)) rec is .1
+  payment-named = shown-payment (recordAnswer t rec) (namedBy (getD rec 0 0)) rec is .1
 
   payment-long : eqb (length rec) recordLength ≡ true
   unfolding recordAnswer
-  payment-long = passed _ _ _ (shown-payment (recordAnswer rec) (namedBy (getD rec 0 0)) rec is .0) .0
+  payment-long = passed _ _ _ (shown-payment (recordAnswer t rec) (namedBy (getD rec 0 0)) rec is .0) .0
 
-  -- in an open session, with a file and a slot that take it
-  module _ (s : Session) (opened : s .opened ≡ true) (fits : fileAnswer (s .file) (p .received) ≡ answer.Accepted)
+  -- in an open session of its version, with a file and a slot that take it
+  module _ (s : Session) (terms : sessionTerms s ≡ t) (opened : s .opened ≡ true) (fits : fileAnswer (s .file) (p .received) ≡ answer.Accepted)
       {at : ℕ} (found : at ≡ indexOf (p .barcode .issuer) (lanesOf (s .work))) {e : SlotResult} (posted : e ≡ slotResultOf (slotAt (s .work) at) (laneOfPayment p))
       (accepted : e .answer ≡ answer.Accepted) where
     pub payment-taken : takeAnswer s rec ≡ answer.Accepted
     payment-taken =
         let b : postAnswer (s .work) (laneOfPayment p) ≡ answer.Accepted =
         sym (ap (λ (x : PostResult). x .answer) (put-back (s .work) (laneOfPayment p) at e found posted)) ∙ accepted in
-        rw (is, payment-long, payment-named, opened, fits, b)
+        rw (terms, is, payment-long, payment-named, opened, fits, b)
 
     pub payment-leaves : _≡_ {A = Session}
         (record {
@@ -77,9 +78,9 @@ module _ (rec : List ℕ) {p : Payment} (is : decodedRecord rec ≡ decoded.Paym
           opened = s .opened;
           file = fileWith (s .file) (p .received);
         })
-        (sessionWith s (decodedRecord rec))
+        (sessionWith s (decodedRecord (sessionTerms s) rec))
     payment-leaves =
-        rw (is, posted-board (s .work) (laneOfPayment p) (put-back (s .work) (laneOfPayment p) at e found posted) accepted)
+        rw (terms, is, posted-board (s .work) (laneOfPayment p) (put-back (s .work) (laneOfPayment p) at e found posted) accepted)
 
 -- what `accepted_payment` reads is a payment
 record PaidTo (d : Decoded) (i : Issuer) (x : ℕ) : Type 0 where
@@ -98,12 +99,12 @@ paid-to (decoded.Refused why place) e = let z : _≡_ {A = ℕ} 0 1 = cc in absu
 pub next-is : {opened : Bool} {before : Progress} {bytes : List ℕ} {end : ℕ} → opened ≡ true → before .at < length bytes
     → end ≡ before .at + min recordLength (length bytes - before .at)
     → {d : PaymentDue} {i : Issuer} {x : ℕ}
-    → d ≡ paymentDueOf (decodedRecord (take (end - before .at) (drop (before .at) bytes))) → d ≡ due.To i x
+    → d ≡ paymentDueOf (decodedRecord (told (before .file .version)) (take (end - before .at) (drop (before .at) bytes))) → d ≡ due.To i x
     → {t : FileResult} → t ≡ fileResultOf (before .file) x → t .answer ≡ answer.Accepted → {l : Lane}
     → l ≡ laneOfOne i x
     → Taken opened before bytes l (record { file = t .file; records = before .records + 1; at = end })
-next-is {before = before} {bytes} {end} going inside ends read told {t} took fits paid =
-    let payment = paid-to (decodedRecord (take (end - before .at) (drop (before .at) bytes))) (sym read ∙ told) in
+next-is {before = before} {bytes} {end} going inside ends read found {t} took fits paid =
+    let payment = paid-to (decodedRecord (told (before .file .version)) (take (end - before .at) (drop (before .at) bytes))) (sym read ∙ found) in
     let took′ : t ≡ fileResultOf (before .file) (payment .shown .received) = rw (payment .received) took in
     record {
       going = going;
@@ -138,15 +139,15 @@ one-more self bytes b inv {paid} {next} took {at} found {e} posted accepted =
     let found′ : at ≡ indexOf (p .barcode .issuer) (lanesOf (b .work)) = rw (took .lane) at found in
     let posted′ : e ≡ slotResultOf (slotAt (b .work) at) (laneOfPayment p) = rw (took .lane) at posted in
     let accepts : takeAnswer s piece ≡ answer.Accepted =
-    payment-taken piece (took .is) s (took .going) (took .fits) found′ posted′ accepted in
+    payment-taken (sessionTerms s) piece (took .is) s refl (took .going) (took .fits) found′ posted′ accepted in
     let next′ =
-    payment-leaves piece (took .is) s (took .going) (took .fits) found′ posted′ accepted
-    ∙ ap (λ (a : Answer). ifAccepted a (sessionWith s (decodedRecord piece)) s) (sym accepts) in
+    payment-leaves (sessionTerms s) piece (took .is) s refl (took .going) (took .fits) found′ posted′ accepted
+    ∙ ap (λ (a : Answer). ifAccepted a (sessionWith s (decodedRecord (sessionTerms s) piece)) s) (sym accepts) in
     let first : getD piece 0 0 ≡ getD bytes from 0 =
     ap (λ (x : List ℕ). getD x 0 0) (piece-part bytes from (took .inside) (took .ends))
     ∙ piece-first bytes from (took .inside) (took .ends) in
     let none : filesClosed (namedBy (getD bytes from 0)) ≡ 0 =
-    ap (λ (x : ℕ). filesClosed (namedBy x)) (sym first) ∙ ap filesClosed (payment-named piece (took .is)) in
+    ap (λ (x : ℕ). filesClosed (namedBy x)) (sym first) ∙ ap filesClosed (payment-named (sessionTerms s) piece (took .is)) in
     record {
       within = omega (arith, took .ends, took .inside);
       few = omega (arith, inv .few, took .ends, took .inside, took .counts);

@@ -18,7 +18,7 @@ use Rattle.session.specs.declared.Session.{Session}
 use Rattle.session.specs.declared.RunResult.{RunResult}
 use Rattle.session.specs.declared.TakeResult.{TakeResult}
 use Rattle.session.specs.declared.leading.LeadingPayments.{LeadingPayments}
-use Rattle.session.specs.Sessions.{takeAnswer, sessionWith, takeOf}
+use Rattle.session.specs.Sessions.{sessionTerms, takeAnswer, sessionWith, takeOf}
 use Rattle.session.specs.Runs.{piecesUpTo, piecesOf, filesClosed, emptyRun, addCounts, stoppedIfRefused, runAll, runOf, AllTaken, sessionAfterAll, nextAnswer, RunIsItsTakes}
 use Rattle.session.specs.LeadingPayments.{withLeading, LeadingPaymentsOf}
 
@@ -53,7 +53,7 @@ module _ (s : Session) (bytes : List ℕ) (more : 0 < length bytes) where
   pub run-on : takeAnswer s (take recordLength bytes) ≡ Accepted
       → runOf s bytes
       ≡ addCounts 1 (filesClosed (namedBy (getD (take recordLength bytes) 0 0)))
-      (runOf (sessionWith s (decodedRecord (take recordLength bytes))) (drop recordLength bytes))
+      (runOf (sessionWith s (decodedRecord (sessionTerms s) (take recordLength bytes))) (drop recordLength bytes))
   run-on g = rw (pieces-cons bytes more, g)
 
 pub counts-add : (a b c d : ℕ) (r : RunResult) → addCounts a b (addCounts c d r) ≡ addCounts (a + c) (b + d) r
@@ -134,12 +134,12 @@ module _ (self s : Session) (bytes : List ℕ) (at records files : ℕ)
     run-goes {k} f g =
         let r = take recordLength (drop at bytes) in
         let a : takeAnswer s r ≡ Accepted = sym answered ∙ f in
-        let next : t .session ≡ sessionWith s (decodedRecord r) =
+        let next : t .session ≡ sessionWith s (decodedRecord (sessionTerms s) r) =
         ap (λ (x : TakeResult). x .session) took
         ∙ ap (λ (x : List ℕ). takeOf s x .session) (piece-part bytes at inside e) ∙ rw a in
         let n : filesClosed (namedBy (getD r 0 0)) ≡ k =
         ap (λ (b : ℕ). filesClosed (namedBy b)) (piece-first bytes at inside e) ∙ sym g in
-        rw (next, ← piece-rest bytes at inside e, ← n, ← counts-add records files 1 (filesClosed (namedBy (getD r 0 0))) (runOf (sessionWith s (decodedRecord r)) (drop recordLength (drop at bytes))))
+        rw (next, ← piece-rest bytes at inside e, ← n, ← counts-add records files 1 (filesClosed (namedBy (getD r 0 0))) (runOf (sessionWith s (decodedRecord (sessionTerms s) r)) (drop recordLength (drop at bytes))))
         (ap (addCounts records files) (sym (run-on s (drop at bytes) more a)) ∙ inv)
 
 -- What is known of the records that a run took.
@@ -167,12 +167,12 @@ taken-by [] s = record { taken = tt; session = refl; answer = refl; whole = λ e
 taken-by (rec ∷ recs) s = go (takeAnswer s rec) refl (taken-by recs)
   where
     go : (a : Answer) → takeAnswer s rec ≡ a → ((s : Session) → TakenBy s recs (runAll s recs))
-        → TakenBy s (rec ∷ recs) (stoppedIfRefused a s (addCounts 1 (filesClosed (namedBy (getD rec 0 0))) (runAll (sessionWith s (decodedRecord rec)) recs)))
+        → TakenBy s (rec ∷ recs) (stoppedIfRefused a s (addCounts 1 (filesClosed (namedBy (getD rec 0 0))) (runAll (sessionWith s (decodedRecord (sessionTerms s) rec)) recs)))
     go (Refused why p) e later = record { taken = tt; session = refl; answer = sym e; whole = λ x. not-both _ refl x }
     go Accepted e later =
-        let next = accepted-takes (takeAnswer s rec) (sessionWith s (decodedRecord rec)) s e in
-        taken-more rec recs s (filesClosed (namedBy (getD rec 0 0))) (runAll (sessionWith s (decodedRecord rec)) recs) e
-        (subst (λ (x : Session). TakenBy x recs (runAll (sessionWith s (decodedRecord rec)) recs)) (sym next) (later (sessionWith s (decodedRecord rec))))
+        let next = accepted-takes (takeAnswer s rec) (sessionWith s (decodedRecord (sessionTerms s) rec)) s e in
+        taken-more rec recs s (filesClosed (namedBy (getD rec 0 0))) (runAll (sessionWith s (decodedRecord (sessionTerms s) rec)) recs) e
+        (subst (λ (x : Session). TakenBy x recs (runAll (sessionWith s (decodedRecord (sessionTerms s) rec)) recs)) (sym next) (later (sessionWith s (decodedRecord (sessionTerms s) rec))))
 
 pub run-is-its-takes : RunIsItsTakes
 run-is-its-takes s bytes = let t = taken-by (piecesOf bytes) s in (t .taken, t .session, t .answer, t .whole)

@@ -18,7 +18,7 @@ use Rattle.record.specs.declared.Decoded.{Decoded}
 use Rattle.record.specs.Values.{decodedRecord}
 use Rattle.session.specs.declared.Session.{Session}
 use Rattle.session.specs.declared.TakeResult.{TakeResult}
-use Rattle.session.specs.Sessions.{sessionAnswer, sessionWith, takeResult}
+use Rattle.session.specs.Sessions.{sessionTerms, sessionAnswer, sessionWith, takeResult}
 
 -- an answer passed on, with the old session or with the next
 pub took-refused : {a b : Answer} {why : Reason} {p : ℕ} (new old : Session) → a ≡ b → a ≡ Refused why p
@@ -58,7 +58,7 @@ taken-file {r} f x e h =
     ap (λ (t : FileResult). t .file) e ∙ rw g
 
 -- a record by what it was decoded as
-pub decoded-as : (s : Session) (rec : List ℕ) {e d : Decoded} {r : TakeResult} → e ≡ decodedRecord rec → e ≡ d
+pub decoded-as : (s : Session) (rec : List ℕ) {e d : Decoded} {r : TakeResult} → e ≡ decodedRecord (sessionTerms s) rec → e ≡ d
     → r ≡ takeResult (sessionAnswer s d) (sessionWith s d) s
-    → r ≡ takeResult (sessionAnswer s (decodedRecord rec)) (sessionWith s (decodedRecord rec)) s
-decoded-as s rec {e} {d} q f h = let g : decodedRecord rec ≡ d = sym q ∙ f in rw g h
+    → r ≡ takeResult (sessionAnswer s (decodedRecord (sessionTerms s) rec)) (sessionWith s (decodedRecord (sessionTerms s) rec)) s
+decoded-as s rec {e} {d} q f h = let g : decodedRecord (sessionTerms s) rec ≡ d = sym q ∙ f in rw g h

@@ -6,6 +6,7 @@ use mathlib.Core.Path.{_≡_}
 use lib.ListN.{length, take, drop}
 use Rattle.answer.specs.declared.Answer.the-variants.{Accepted}
 use Rattle.layout.specs.Layouts.{recordLength}
+use Rattle.kinds.specs.Terms.{told}
 use Rattle.record.specs.declared.Payment.{Payment}
 use Rattle.record.specs.declared.Decoded.the-variants as decoded
 use Rattle.record.specs.Values.{decodedRecord}
@@ -25,7 +26,9 @@ pub record Taken (opened : Bool) (before : Progress) (bytes : List ℕ) (payment
   pub inside : before .at < length bytes
   pub ends : next .at ≡ before .at + min recordLength (length bytes - before .at)
   pub shown : Payment
-  pub is : decodedRecord (take (next .at - before .at) (drop (before .at) bytes)) ≡ decoded.Payment shown
+  pub is :
+      decodedRecord (told (before .file .version)) (take (next .at - before .at) (drop (before .at) bytes))
+      ≡ decoded.Payment shown
   pub lane : payment ≡ laneOfPayment shown
   pub fits : fileAnswer (before .file) (shown .received) ≡ Accepted
   pub file : next .file ≡ fileWith (before .file) (shown .received)

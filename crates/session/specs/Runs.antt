@@ -12,7 +12,7 @@ use Rattle.layout.specs.Layouts.{recordLength, namedBy}
 use Rattle.record.specs.Values.{decodedRecord}
 use Rattle.session.specs.declared.Session.{Session}
 use Rattle.session.specs.declared.RunResult.{RunResult}
-use Rattle.session.specs.Sessions.{takeAnswer, sessionWith, takeOf}
+use Rattle.session.specs.Sessions.{sessionTerms, takeAnswer, sessionWith, takeOf}
 
 -- records follow each other with nothing between them; a short last piece is a record of wrong length
 abbrev pub piecesUpTo : ℕ → List ℕ → List (List ℕ)
@@ -49,7 +49,7 @@ abbrev pub runAll : Session → List (List ℕ) → RunResult
 runAll s [] = emptyRun Accepted s
 runAll s (r ∷ rs) =
     stoppedIfRefused (takeAnswer s r) s
-    (addCounts 1 (filesClosed (namedBy (getD r 0 0))) (runAll (sessionWith s (decodedRecord r)) rs))
+    (addCounts 1 (filesClosed (namedBy (getD r 0 0))) (runAll (sessionWith s (decodedRecord (sessionTerms s) r)) rs))
 
 abbrev pub runOf : Session → List ℕ → RunResult
 runOf s bytes = runAll s (piecesOf bytes)

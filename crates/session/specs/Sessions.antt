@@ -16,10 +16,11 @@ use Rattle.record.specs.declared.Payment.{Payment}
 use Rattle.record.specs.declared.Trailer.{Trailer}
 use Rattle.record.specs.declared.Decoded.{Decoded}
 use Rattle.record.specs.declared.Decoded.the-variants as decoded
+use Rattle.kinds.specs.Terms.{Terms, told}
 use Rattle.record.specs.Values.{decodedRecord}
 use Rattle.file.specs.declared.File.{File}
 use Rattle.file.specs.declared.Figures.{Figures}
-use Rattle.file.specs.Files.{mostPayments, mostCentavos, freshFile, fileAnswer, fileWith, figuresAnswer}
+use Rattle.file.specs.Files.{mostPayments, mostCentavos, freshFile, noFile, fileAnswer, fileWith, figuresAnswer}
 use Rattle.board.specs.declared.Lane.{Lane}
 use Rattle.board.specs.declared.Board.{Board}
 use Rattle.board.specs.Lanes.{mostLanes, limit, laneOfOne}
@@ -41,15 +42,19 @@ sessionLimits =
 
 -- no file open, and this board shown; the working board is the board shown
 abbrev pub closedAt : Board → Session
-closedAt b = record { shown = b; work = b; opened = false; file = freshFile }
+closedAt b = record { shown = b; work = b; opened = false; file = noFile }
 
 -- a fresh session: no file open and an empty board
 abbrev pub freshSession : Session
 freshSession = closedAt freshBoard
 
--- a file just opened, and this board shown: the working board starts from it
-abbrev pub openedAt : Board → Session
-openedAt b = record { shown = b; work = b; opened = true; file = freshFile }
+-- a file just opened by a header of this version, and this board shown: the working board starts from it
+abbrev pub openedAt : Board → ℕ → Session
+openedAt b version = record { shown = b; work = b; opened = true; file = freshFile version }
+
+-- what the session knows of the records to come: the version of its open file
+abbrev pub sessionTerms : Session → Terms
+sessionTerms s = told (s .file .version)
 
 -- with no file open A is expected; in an open file G or Z
 abbrev pub sessionExpects : Bool → MaybeRecord → Bool
@@ -86,7 +91,7 @@ sessionAnswer s (decoded.Refused why place) = answer.Refused why place
 
 -- the session with an accepted record: payments of an open file are shown together when its Z is accepted
 abbrev pub sessionWith : Session → Decoded → Session
-sessionWith s (decoded.Header h) = openedAt (s .shown)
+sessionWith s (decoded.Header h) = openedAt (s .shown) (h .version)
 sessionWith s (decoded.Payment p) = sessionWithPayment s (laneOfPayment p)
 sessionWith s (decoded.Trailer t) = closedAt (s .work)
 sessionWith s (decoded.Refused why place) = s
@@ -108,15 +113,15 @@ trailerResult s shown = takeResult (figuresAnswer (s .file) shown) (closedAt (s 
 abbrev pub recordResult : Session → Decoded → TakeResult
 recordResult s d = takeResult (sessionAnswer s d) (sessionWith s d) s
 
--- taking a record: 1, 9, then its own refusals and the session's
+-- taking a record: 1, 9, then its own refusals, under the version of the open file, and the session's
 abbrev pub takeAnswer : Session → List ℕ → Answer
 takeAnswer s rec =
     require (eqb (length rec) recordLength) WrongLength 0
     then require (sessionExpects (s .opened) (namedBy (getD rec 0 0))) NotExpected 1
-    then sessionAnswer s (decodedRecord rec)
+    then sessionAnswer s (decodedRecord (sessionTerms s) rec)
 
 abbrev pub takeOf : Session → List ℕ → TakeResult
-takeOf s rec = takeResult (takeAnswer s rec) (sessionWith s (decodedRecord rec)) s
+takeOf s rec = takeResult (takeAnswer s rec) (sessionWith s (decodedRecord (sessionTerms s) rec)) s
 
 -- abandoning drops an open file and does nothing otherwise
 abbrev pub abandonOf : Session → Session

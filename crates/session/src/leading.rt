@@ -81,10 +81,11 @@ fn next_payment(opened: bool, done: Progress, bytes: &[u8]) -> MaybePayment
         return MaybePayment::Other;
     }
     let end = pieces::piece_end(at, bytes.len());
-    let PaymentDue::To(issuer, received) = record::accepted_payment(&bytes[at..end]) else {
+    let file = done.file;
+    let PaymentDue::To(issuer, received) = record::accepted_payment(&bytes[at..end], file.version)
+    else {
         return MaybePayment::Other;
     };
-    let file = done.file;
     let taken = file.take(received);
     let answer = taken.answer;
     let Answer::Accepted = answer else {

@@ -11,7 +11,8 @@ use board::Board;
 use file::File;
 
 // The board shown has the payments of accepted files only. While a file is open, the working board has its payments
-// too, and `file` their number and sum; otherwise the working board equals the board shown and `file` is fresh.
+// too, and `file` their number, their sum and the version that the header names; otherwise the working board equals the
+// board shown and `file` is all zeros.
 #[repr(C)]
 pub struct Session {
     pub shown: Board,

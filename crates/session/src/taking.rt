@@ -2,8 +2,8 @@
 ghost use mathlib.Core.Path.{_≡_};
 ghost use Rattle.record.specs.Values.{decodedRecord};
 ghost use Rattle.board.specs.Lanes.{laneOfOne};
-ghost use Rattle.session.specs.Sessions.{freshSession, openedAt, sessionExpects, paymentResult, postingResult};
-ghost use Rattle.session.specs.Sessions.{trailerResult, recordResult, takeOf, abandonOf, finishOf};
+ghost use Rattle.session.specs.Sessions.{freshSession, openedAt, sessionTerms, sessionExpects, paymentResult};
+ghost use Rattle.session.specs.Sessions.{postingResult, trailerResult, recordResult, takeOf, abandonOf, finishOf};
 use crate::Session;
 use crate::TakeResult;
 use answer::Answer;
@@ -39,20 +39,21 @@ impl Session {
             shown: Board::new(),
             work: Board::new(),
             opened: false,
-            file: File::new(),
+            file: File::new(0),
         }
     }
 
-    // The session with a file just opened: its working board starts from the board shown.
-    fn with_file_open(self) -> Session
-        ensures { λ r. ⌜ r ≡ openedAt (self .shown) ⌝ }
+    // The session with a file just opened, whose header names this version: its working board starts from the board
+    // shown.
+    fn with_file_open(self, version: u64) -> Session
+        ensures { λ r. ⌜ r ≡ openedAt (self .shown) version ⌝ }
     {
         let shown = self.shown;
         Session {
             shown,
             work: shown,
             opened: true,
-            file: File::new(),
+            file: File::new(version),
         }
     }
 
@@ -119,7 +120,7 @@ impl Session {
                         shown: work,
                         work,
                         opened: false,
-                        file: File::new(),
+                        file: File::new(0),
                     },
                 }
             }
@@ -128,16 +129,16 @@ impl Session {
 
     // Takes a record of the right length whose kind is expected: its own refusal, or what the session makes of it.
     fn take_expected(self, rec: &[u8]) -> TakeResult
-        ensures { λ r. ⌜ r ≡ recordResult self (decodedRecord (now (rec .entry))) ⌝ }
+        ensures { λ r. ⌜ r ≡ recordResult self (decodedRecord (sessionTerms self) (now (rec .entry))) ⌝ }
     {
-        match record::decode(rec) {
+        match record::decode(rec, self.file.version) {
             Decoded::Refused(why, place) => TakeResult {
                 answer: Answer::Refused(why, place),
                 session: self,
             },
-            Decoded::Header(_) => TakeResult {
+            Decoded::Header(h) => TakeResult {
                 answer: Answer::Accepted,
-                session: self.with_file_open(),
+                session: self.with_file_open(h.version),
             },
             Decoded::Payment(p) => self.take_payment(p.barcode.issuer, p.received),
             Decoded::Trailer(t) => self.take_trailer(Figures {
@@ -178,7 +179,7 @@ impl Session {
                 shown,
                 work: shown,
                 opened: false,
-                file: File::new(),
+                file: File::new(0),
             };
         }
         self

@@ -20,6 +20,7 @@ use Rattle.layout.specs.declared.Kind.the-variants as kind
 use Rattle.layout.specs.declared.Record.{Record}
 use Rattle.layout.specs.declared.Record.the-variants.{Payment, Trailer}
 use Rattle.layout.specs.Layouts.{layoutOf, stretchOf, givenLength, joinedOf, rowAt, table, countRow}
+use Rattle.kinds.specs.Terms.{Terms}
 use Rattle.kinds.specs.Kinds.{kindAnswer}
 use Rattle.record.specs.Records.{fieldBytes}
 use Rattle.record.specs.Values.{trailerShown}
@@ -29,7 +30,7 @@ use Rattle.fields.proofs.Trips.{fields-make-the-record, made-is-accepted}
 use Rattle.file.specs.Files.{figuresOf, closingAnswer}
 use Rattle.file.proofs.Files.{closing-accepts, figures-fit}
 use Rattle.writer.specs.declared.Writer.{Writer}
-use Rattle.writer.specs.Writers.{callAnswer, countBytes, trailerBytes}
+use Rattle.writer.specs.Writers.{writerTerms, callAnswer, countBytes, trailerBytes}
 use Rattle.writer.specs.Promises.{WrittenAmountsAreRead, TrailerShowsTheFigures}
 use Rattle.writer.proofs.Written.{making-is, written-is-accepted}
 
@@ -48,25 +49,25 @@ module _ (w : ℕ) (g : List ℕ) (m n : ℕ) where
   same-length kind.Capture = refl
   same-length kind.Form = refl
 
-fits : (w : ℕ) (g : List ℕ) (n : ℕ) → writtenAnswer kind.Money w g n ≡ Accepted → n < 10 ^ w
+fits : (t : Terms) (w : ℕ) (g : List ℕ) (n : ℕ) → writtenAnswer t kind.Money w g n ≡ Accepted → n < 10 ^ w
 unfolding writtenAnswer
-fits w g n a =
-    ltb-true n (10 ^ w) (require-accepts (ltb n (10 ^ w)) TooWide 1 .0 (then-accepts (widthAnswer w n) (kindAnswer kind.Money (digitsOf w n)) .0 a .0))
+fits t w g n a =
+    ltb-true n (10 ^ w) (require-accepts (ltb n (10 ^ w)) TooWide 1 .0 (then-accepts (widthAnswer w n) (kindAnswer t kind.Money (digitsOf w n)) .0 a .0))
 
-same-amount : (k : Kind) (w : ℕ) (g : List ℕ) (m n : ℕ) → isMoney k ≡ true → writtenAnswer k w g m ≡ Accepted → writtenAnswer k w g n ≡ Accepted
+same-amount : (t : Terms) (k : Kind) (w : ℕ) (g : List ℕ) (m n : ℕ) → isMoney k ≡ true → writtenAnswer t k w g m ≡ Accepted → writtenAnswer t k w g n ≡ Accepted
     → writtenOf k w g m ≡ writtenOf k w g n → m ≡ n
-same-amount (kind.Mark byte) w g m n t a b e = cc
-same-amount kind.Version w g m n t a b e = cc
-same-amount kind.Service w g m n t a b e = cc
-same-amount kind.Blank w g m n t a b e = cc
-same-amount kind.Text w g m n t a b e = cc
-same-amount kind.Digits w g m n t a b e = cc
-same-amount kind.Money w g m n t a b e =
-    sym (number-of-digits w m (fits w g m a)) ∙ ap numberOf e ∙ number-of-digits w n (fits w g n b)
-same-amount kind.Date w g m n t a b e = cc
-same-amount kind.Barcode w g m n t a b e = cc
-same-amount kind.Capture w g m n t a b e = cc
-same-amount kind.Form w g m n t a b e = cc
+same-amount t (kind.Mark byte) w g m n y a b e = cc
+same-amount t kind.Version w g m n y a b e = cc
+same-amount t kind.Service w g m n y a b e = cc
+same-amount t kind.Blank w g m n y a b e = cc
+same-amount t kind.Text w g m n y a b e = cc
+same-amount t kind.Digits w g m n y a b e = cc
+same-amount t kind.Money w g m n y a b e =
+    sym (number-of-digits w m (fits t w g m a)) ∙ ap numberOf e ∙ number-of-digits w n (fits t w g n b)
+same-amount t kind.Date w g m n y a b e = cc
+same-amount t kind.Barcode w g m n y a b e = cc
+same-amount t kind.Capture w g m n y a b e = cc
+same-amount t kind.Form w g m n y a b e = cc
 
 split : (p q x y : List ℕ) → length p ≡ length q → p ++ x ≡ q ++ y → (p ≡ q) × (x ≡ y)
 split p q x y n e = (
@@ -83,41 +84,41 @@ abbrev moneys : List Field → List ℕ → List ℕ
 moneys [] amounts = []
 moneys (f ∷ fs) amounts = cond (isMoney (f .kind)) (getD amounts 0 0 ∷ moneys fs (amountsAfter f amounts)) (moneys fs (amountsAfter f amounts))
 
-module _ (f : Field) (given xs ys : List ℕ) where
-  put-accepts : (l : List ℕ) → fieldMadeAnswer f given l ≡ Accepted → writtenAnswer (f .kind) (widthOf (stretchOf f)) (take (givenWidth f) given) (getD l 0 0) ≡ Accepted
-  put-accepts l e = moved-accepts (behind (f .first - 1)) (writtenAnswer (f .kind) (widthOf (stretchOf f)) (take (givenWidth f) given) (getD l 0 0)) .0 e
+module _ (t : Terms) (f : Field) (given xs ys : List ℕ) where
+  put-accepts : (l : List ℕ) → fieldMadeAnswer t f given l ≡ Accepted → writtenAnswer t (f .kind) (widthOf (stretchOf f)) (take (givenWidth f) given) (getD l 0 0) ≡ Accepted
+  put-accepts l e = moved-accepts (behind (f .first - 1)) (writtenAnswer t (f .kind) (widthOf (stretchOf f)) (take (givenWidth f) given) (getD l 0 0)) .0 e
 
-  amount-back : fieldMadeAnswer f given xs ≡ Accepted → fieldMadeAnswer f given ys ≡ Accepted → fieldMade f given xs ≡ fieldMade f given ys → isMoney (f .kind) ≡ true → getD xs 0 0 ≡ getD ys 0 0
-  amount-back a b e t =
-      same-amount (f .kind) (widthOf (stretchOf f)) (take (givenWidth f) given) (getD xs 0 0) (getD ys 0 0) t (put-accepts xs a) (put-accepts ys b) e
+  amount-back : fieldMadeAnswer t f given xs ≡ Accepted → fieldMadeAnswer t f given ys ≡ Accepted → fieldMade f given xs ≡ fieldMade f given ys → isMoney (f .kind) ≡ true → getD xs 0 0 ≡ getD ys 0 0
+  amount-back a b e y =
+      same-amount t (f .kind) (widthOf (stretchOf f)) (take (givenWidth f) given) (getD xs 0 0) (getD ys 0 0) y (put-accepts xs a) (put-accepts ys b) e
 
-amounts-back : (rows : List Field) (given xs ys : List ℕ) → makingAnswer rows given xs ≡ Accepted → makingAnswer rows given ys ≡ Accepted
+amounts-back : (t : Terms) (rows : List Field) (given xs ys : List ℕ) → makingAnswer t rows given xs ≡ Accepted → makingAnswer t rows given ys ≡ Accepted
     → madeOf rows given xs ≡ madeOf rows given ys → moneys rows xs ≡ moneys rows ys
-amounts-back [] given xs ys a b e = refl
-amounts-back (f ∷ fs) given xs ys a b e =
+amounts-back t [] given xs ys a b e = refl
+amounts-back t (f ∷ fs) given xs ys a b e =
     let rest = drop (givenWidth f) given in
-    let pa = then-accepts (fieldMadeAnswer f given xs) (makingAnswer fs rest (amountsAfter f xs)) .0 a in
-    let pb = then-accepts (fieldMadeAnswer f given ys) (makingAnswer fs rest (amountsAfter f ys)) .0 b in
+    let pa = then-accepts (fieldMadeAnswer t f given xs) (makingAnswer t fs rest (amountsAfter f xs)) .0 a in
+    let pb = then-accepts (fieldMadeAnswer t f given ys) (makingAnswer t fs rest (amountsAfter f ys)) .0 b in
     let cut =
     split (fieldMade f given xs) (fieldMade f given ys) (madeOf fs rest (amountsAfter f xs)) (madeOf fs rest (amountsAfter f ys))
     (same-length (widthOf (stretchOf f)) (take (givenWidth f) given) (getD xs 0 0) (getD ys 0 0) (f .kind)) e in
-    cons-if (isMoney (f .kind)) (getD xs 0 0) (getD ys 0 0) (moneys fs (amountsAfter f xs)) (moneys fs (amountsAfter f ys)) (amount-back f given xs ys (pa .0) (pb .0) (cut .0))
-    (amounts-back fs rest (amountsAfter f xs) (amountsAfter f ys) (pa .1) (pb .1) (cut .1))
+    cons-if (isMoney (f .kind)) (getD xs 0 0) (getD ys 0 0) (moneys fs (amountsAfter f xs)) (moneys fs (amountsAfter f ys)) (amount-back t f given xs ys (pa .0) (pb .0) (cut .0))
+    (amounts-back t fs rest (amountsAfter f xs) (amountsAfter f ys) (pa .1) (pb .1) (cut .1))
 
 -- what was made has the amounts it was made of
-read-back : (r : Record) (given amounts : List ℕ) (size : ℕ) → makeAnswer r given amounts size ≡ Accepted
+read-back : (t : Terms) (r : Record) (given amounts : List ℕ) (size : ℕ) → makeAnswer t r given amounts size ≡ Accepted
     → moneys (layoutOf r) (amountsIn (layoutOf r) (madeOf (layoutOf r) given amounts)) ≡ moneys (layoutOf r) amounts
-read-back r given amounts size e =
-    let making = making-is r given amounts size e in
-    let made = made-is-accepted r given amounts (making .0) (making .1) in
+read-back t r given amounts size e =
+    let making = making-is t r given amounts size e in
+    let made = made-is-accepted t r given amounts (making .0) (making .2) in
     let rec = madeOf (layoutOf r) given amounts in
-    let again = fields-make-the-record r rec (made .0) (made .1) in
-    amounts-back (layoutOf r) given (amountsIn (layoutOf r) rec) amounts (rw (made .2) at (again .0)) (making .1) (rw (made .2) at (again .1))
+    let again = fields-make-the-record t r rec (made .0) (made .1) in
+    amounts-back t (layoutOf r) given (amountsIn (layoutOf r) rec) amounts (rw (made .2) at (again .0)) (making .2) (rw (made .2) at (again .1))
 
 pub written-amounts-are-read : WrittenAmountsAreRead
 unfolding layoutOf rowAt table
-written-amounts-are-read given received tariff size e =
-    let back = read-back Payment given (received ∷ tariff ∷ []) size e in
+written-amounts-are-read t given received tariff size e =
+    let back = read-back t Payment given (received ∷ tariff ∷ []) size e in
     (ap (λ (l : List ℕ). getD l 0 0) back, ap (λ (l : List ℕ). getD l 1 0) back)
 
 -- The trailer: its count is its field bytes, its total its one amount.
@@ -129,15 +130,15 @@ count-written : (w : Writer) → closingAnswer (w .file) ≡ Accepted → number
 unfolding givenLength layoutOf
 count-written w c = number-of-digits 6 (figuresOf (w .file) .count) (figures-fit (w .file) (closing-accepts (w .file) .0 c) .0)
 
-total-back : (w : Writer) (size : ℕ) → makeAnswer Trailer (countBytes w) (figuresOf (w .file) .total ∷ 0 ∷ []) size ≡ Accepted → trailerShown (trailerBytes w) .total ≡ w .file .total
+total-back : (w : Writer) (size : ℕ) → makeAnswer (writerTerms w) Trailer (countBytes w) (figuresOf (w .file) .total ∷ 0 ∷ []) size ≡ Accepted → trailerShown (trailerBytes w) .total ≡ w .file .total
 unfolding layoutOf rowAt table
-total-back w size e = ap (λ (l : List ℕ). getD l 0 0) (read-back Trailer (countBytes w) (figuresOf (w .file) .total ∷ 0 ∷ []) size e)
+total-back w size e = ap (λ (l : List ℕ). getD l 0 0) (read-back (writerTerms w) Trailer (countBytes w) (figuresOf (w .file) .total ∷ 0 ∷ []) size e)
 
 pub trailer-shows-the-figures : TrailerShowsTheFigures
 trailer-shows-the-figures w size e =
     let call = callAnswer w Trailer (givenLength Trailer) size in
-    let make = makeAnswer Trailer (countBytes w) (figuresOf (w .file) .total ∷ 0 ∷ []) size in
+    let make = makeAnswer (writerTerms w) Trailer (countBytes w) (figuresOf (w .file) .total ∷ 0 ∷ []) size in
     let behind-call = then-accepts call (closingAnswer (w .file) then make) .0 e .1 in
     let both = then-accepts (closingAnswer (w .file)) make .0 behind-call in
-    let joined = written-is-accepted Trailer (countBytes w) (figuresOf (w .file) .total ∷ 0 ∷ []) size (both .1) .1 in
+    let joined = written-is-accepted (writerTerms w) Trailer (countBytes w) (figuresOf (w .file) .total ∷ 0 ∷ []) size (both .1) .1 in
     (ap numberOf (sym (count-back (trailerBytes w)) ∙ joined) ∙ count-written w (both .0), total-back w size (both .1))

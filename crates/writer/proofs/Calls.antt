@@ -19,6 +19,7 @@ use Rattle.decimal.proofs.Places.{put-whole}
 use Rattle.layout.specs.declared.Record.{Record}
 use Rattle.layout.specs.declared.Record.the-variants.{Header, Payment, Trailer}
 use Rattle.layout.specs.Layouts.{recordLength, layoutOf, givenLength}
+use Rattle.record.specs.Values.{versionIn}
 use Rattle.fields.specs.Making.{madeOf, makeAnswer}
 use Rattle.file.specs.declared.CloseResult.{CloseResult}
 use Rattle.file.specs.declared.Figures.{Figures}
@@ -29,7 +30,7 @@ use Rattle.file.proofs.Files.{closing-accepts, figures-fit}
 use Rattle.writer.specs.declared.Stage.the-variants.{Open, Closed}
 use Rattle.writer.specs.declared.Writer.{Writer}
 use Rattle.writer.specs.declared.WriteResult.{WriteResult}
-use Rattle.writer.specs.Writers.{writerExpects, callAnswer, writeResult, headerAnswer, headerWritten, headerBytes, paymentAnswer, paymentWritten, paymentBytes, countBytes, trailerAnswer, trailerWritten, trailerBytes}
+use Rattle.writer.specs.Writers.{writerTerms, writerExpects, callAnswer, writeResult, headerAnswer, headerWritten, headerBytes, paymentAnswer, paymentWritten, paymentBytes, countBytes, trailerAnswer, trailerWritten, trailerBytes}
 use Rattle.writer.specs.Promises.{RefusalKeepsWriter}
 
 pub call-size : (w : Writer) (r : Record) (given size : ℕ) → callAnswer w r given size ≡ Accepted → size ≡ recordLength
@@ -73,21 +74,21 @@ unwritten = replicate recordLength 0
 
 -- A: the call, then the fields.
 module _ (w : Writer) (given out : List ℕ) {call making a : Answer} {made : List ℕ} (c : call ≡ callAnswer w Header (length given) (length out))
-    (m : making ≡ makeAnswer Header given (0 ∷ 0 ∷ []) recordLength) (b : made ≡ ifAccepted making (headerBytes given) unwritten) (t : a ≡ call then making) where
+    (m : making ≡ makeAnswer (writerTerms w) Header given (0 ∷ 0 ∷ []) recordLength) (b : made ≡ ifAccepted making (headerBytes given) unwritten) (t : a ≡ call then making) where
   header-answers : a ≡ headerAnswer w given (length out)
   header-answers =
-      t ∙ rw (c, m) (then-if (callAnswer w Header (length given) (length out)) (λ h. ap (makeAnswer Header given (0 ∷ 0 ∷ [])) (sym (call-size w Header (length given) (length out) h))))
+      t ∙ rw (c, m) (then-if (callAnswer w Header (length given) (length out)) (λ h. ap (makeAnswer (writerTerms w) Header given (0 ∷ 0 ∷ [])) (sym (call-size w Header (length given) (length out) h))))
 
   header-made : headerAnswer w given (length out) ≡ Accepted → made ≡ headerBytes given
   header-made h = b ∙ accepted-takes making (headerBytes given) unwritten (then-accepts call making .0 (sym t ∙ header-answers ∙ h) .1)
 
-  pub header-ends : {f : File} {r : WriteResult} {new : List ℕ} → f ≡ freshFile → r ≡ writeResult a (record { stage = Open; file = f }) w → new ≡ ifAccepted a made out
+  pub header-ends : {v : ℕ} {f : File} {r : WriteResult} {new : List ℕ} → v ≡ versionIn made → f ≡ freshFile v → r ≡ writeResult a (record { stage = Open; file = f }) w → new ≡ ifAccepted a made out
       → (r ≡ headerWritten w given (length out)) × (new ≡ ifAccepted (r .answer) (headerBytes given) out)
-  header-ends e = finished w out header-answers (λ h. rw e) header-made
+  header-ends ev ef = finished w out header-answers (λ h. rw (ef, ev, header-made h)) header-made
 
 -- G: the call, the fields, then the file's limits.
 module _ (w : Writer) (given : List ℕ) (received tariff : ℕ) (out : List ℕ) {call making both a : Answer} {made : List ℕ} {taken : FileResult}
-    (c : call ≡ callAnswer w Payment (length given) (length out)) (m : making ≡ makeAnswer Payment given (received ∷ tariff ∷ []) recordLength)
+    (c : call ≡ callAnswer w Payment (length given) (length out)) (m : making ≡ makeAnswer (writerTerms w) Payment given (received ∷ tariff ∷ []) recordLength)
     (b : made ≡ ifAccepted making (paymentBytes given received tariff) unwritten) (k : taken ≡ fileResultOf (w .file) received)
     (s : both ≡ making then taken .answer) (t : a ≡ call then both) where
   payment-answers : a ≡ paymentAnswer w given received tariff (length out)
@@ -115,7 +116,7 @@ module _ (w : Writer) (out digits : List ℕ) {call width making both a : Answer
     (c : call ≡ callAnswer w Trailer 6 (length out)) (k : closed ≡ closeResultOf (w .file))
     (n : length digits ≡ 6) (q : width ≡ putNumberAnswer (length digits) 0 6 (closed .figures .count))
     (p : count ≡ ifAccepted width (putAt 0 (digitsOf 6 (closed .figures .count)) digits) digits)
-    (m : making ≡ makeAnswer Trailer count (closed .figures .total ∷ 0 ∷ []) recordLength)
+    (m : making ≡ makeAnswer (writerTerms w) Trailer count (closed .figures .total ∷ 0 ∷ []) recordLength)
     (b : made ≡ ifAccepted making (madeOf (layoutOf Trailer) count (closed .figures .total ∷ 0 ∷ [])) unwritten)
     (s : both ≡ closed .answer then making) (t : a ≡ call then both) where
   figures-are : closingAnswer (w .file) ≡ Accepted → closed .figures ≡ figuresOf (w .file)

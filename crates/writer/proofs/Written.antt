@@ -18,16 +18,17 @@ use Rattle.layout.specs.declared.Record.{Record}
 use Rattle.layout.specs.declared.Record.the-variants.{Header, Payment, Trailer}
 use Rattle.layout.specs.Layouts.{recordLength, markOf, namedBy, layoutOf, planOf, widthsOf, givenLength, joinedOf, rowAt, table}
 use Rattle.layout.proofs.Layouts.{mark-names}
-use Rattle.record.specs.Records.{layoutAnswer, recordAnswer}
+use Rattle.kinds.specs.Terms.{Terms, termsAnswer}
+use Rattle.record.specs.Records.{layoutAnswer, recordAnswer, isPayment}
 use Rattle.record.specs.Values.{paymentShown}
 use Rattle.fields.specs.Promises.{amountsIn}
 use Rattle.fields.specs.Making.{madeOf, makingAnswer, makeAnswer}
-use Rattle.record.proofs.Shown.{accepted-named, named-is}
+use Rattle.record.proofs.Shown.{accepted-named, named-is, other-records-ignore-terms}
 use Rattle.fields.proofs.Trips.{fields-make-the-record, made-is-accepted}
 use Rattle.file.specs.Files.{fileAnswer}
 use Rattle.writer.specs.declared.Writer.{Writer}
-use Rattle.writer.specs.Writers.{freshWriter, writerExpects, callAnswer}
-use Rattle.writer.specs.Promises.{WrittenIsAccepted, FieldsWriteTheHeader, FieldsWriteThePayment}
+use Rattle.writer.specs.Writers.{writerTerms, writerExpects, callAnswer, headerAnswer, headerBytes}
+use Rattle.writer.specs.Promises.{WrittenIsAccepted, FieldsWriteTheHeader, FieldsWriteThePayment, PaymentsWrittenUnderAVersion}
 
 pub first-byte : (r : Record) (given amounts : List ℕ) → getD (madeOf (layoutOf r) given amounts) 0 0 ≡ markOf r
 unfolding layoutOf
@@ -36,24 +37,28 @@ first-byte Payment given amounts = refl
 first-byte Trailer given amounts = refl
 
 -- a record of 150 bytes that its own first byte names
-accepted : (r : Record) (rec : List ℕ) → length rec ≡ recordLength → getD rec 0 0 ≡ markOf r → layoutAnswer r rec ≡ Accepted → recordAnswer rec ≡ Accepted
-accepted r rec n m b = named-is r rec n (ap namedBy m ∙ mark-names r .0) ∙ b
+accepted : (t : Terms) (r : Record) (rec : List ℕ) → length rec ≡ recordLength → getD rec 0 0 ≡ markOf r → termsAnswer t r ≡ Accepted
+    → layoutAnswer t r rec ≡ Accepted → recordAnswer t rec ≡ Accepted
+accepted t r rec n m v b =
+    named-is t r rec n (ap namedBy m ∙ mark-names r .0) ∙ then-accepts (termsAnswer t r) (layoutAnswer t r rec) .1 (v, b)
 
--- an accepted making: as many field bytes as the record takes, and every field accepted
-pub making-is : (r : Record) (given amounts : List ℕ) (size : ℕ) → makeAnswer r given amounts size ≡ Accepted
-    → (length given ≡ givenLength r) × (makingAnswer (layoutOf r) given amounts ≡ Accepted)
+-- an accepted making: as many field bytes as the record takes, its terms, and every field accepted
+pub making-is : (t : Terms) (r : Record) (given amounts : List ℕ) (size : ℕ) → makeAnswer t r given amounts size ≡ Accepted
+    → (length given ≡ givenLength r) × (termsAnswer t r ≡ Accepted) × (makingAnswer t (layoutOf r) given amounts ≡ Accepted)
 unfolding makeAnswer
-making-is r given amounts size e =
+making-is t r given amounts size e =
     let lengths = eqb size recordLength && eqb (length given) (givenLength r) in
-    let both = then-accepts (require lengths WrongLength 0) (makingAnswer (layoutOf r) given amounts) .0 e in
-    let t = require-accepts lengths WrongLength 0 .0 (both .0) in
-    (eqb-true (length given) (givenLength r) (and-eq-true-iff (eqb size recordLength) (eqb (length given) (givenLength r)) .0 t .1), both .1)
+    let making = makingAnswer t (layoutOf r) given amounts in
+    let both = then-accepts (require lengths WrongLength 0) (termsAnswer t r then making) .0 e in
+    let right = require-accepts lengths WrongLength 0 .0 (both .0) in
+    let rest = then-accepts (termsAnswer t r) making .0 (both .1) in
+    (eqb-true (length given) (givenLength r) (and-eq-true-iff (eqb size recordLength) (eqb (length given) (givenLength r)) .0 right .1), rest .0, rest .1)
 
 pub written-is-accepted : WrittenIsAccepted
-written-is-accepted r given amounts size e =
-    let making = making-is r given amounts size e in
-    let made = made-is-accepted r given amounts (making .0) (making .1) in
-    (accepted r (madeOf (layoutOf r) given amounts) (made .0) (first-byte r given amounts) (made .1), made .2)
+written-is-accepted t r given amounts size e =
+    let making = making-is t r given amounts size e in
+    let made = made-is-accepted t r given amounts (making .0) (making .2) in
+    (accepted t r (madeOf (layoutOf r) given amounts) (made .0) (first-byte r given amounts) (making .1) (made .1), made .2)
 
 -- The field bytes of a record are as many as the writer is given.
 
@@ -80,59 +85,70 @@ unfolding givenLength
 joined-length r rec n = gathered-length (planOf r) rec (rw n (lies-inside r))
 
 -- The fields of an accepted record, with any amounts that make it as its own do.
-module _ (w : Writer) (r : Record) (rec amounts : List ℕ) (accepts : recordAnswer rec ≡ Accepted) (named : namedBy (getD rec 0 0) ≡ Is r) where
-  pub body : (length rec ≡ recordLength) × (layoutAnswer r rec ≡ Accepted)
-  body = accepted-named r rec accepts named
+module _ (w : Writer) (t : Terms) (r : Record) (rec amounts : List ℕ) (accepts : recordAnswer t rec ≡ Accepted) (named : namedBy (getD rec 0 0) ≡ Is r) where
+  pub body : (length rec ≡ recordLength) × (termsAnswer t r ≡ Accepted) × (layoutAnswer t r rec ≡ Accepted)
+  body = accepted-named t r rec accepts named
 
-  pub made : (makingAnswer (layoutOf r) (joinedOf r rec) (amountsIn (layoutOf r) rec) ≡ Accepted)
+  pub made : (makingAnswer t (layoutOf r) (joinedOf r rec) (amountsIn (layoutOf r) rec) ≡ Accepted)
       × (madeOf (layoutOf r) (joinedOf r rec) (amountsIn (layoutOf r) rec) ≡ rec)
-  made = fields-make-the-record r rec (body .0) (body .1)
+  made = fields-make-the-record t r rec (body .0) (body .2)
 
   lengths-right : eqb recordLength recordLength && eqb (length (joinedOf r rec)) (givenLength r) ≡ true
   lengths-right = let n = joined-length r rec (body .0) in rw n (and-eq-true-iff (eqb recordLength recordLength) (eqb (givenLength r) (givenLength r)) .1 (refl, eq-eqb (givenLength r) (givenLength r) refl))
 
   pub call-accepted : writerExpects (w .stage) r ≡ true → callAnswer w r (length (joinedOf r rec)) recordLength ≡ Accepted
-  call-accepted t =
+  call-accepted e =
       then-accepts (require (eqb recordLength recordLength && eqb (length (joinedOf r rec)) (givenLength r)) WrongLength 0) (require (writerExpects (w .stage) r) NotExpected 1) .1
-      (require-accepts (eqb recordLength recordLength && eqb (length (joinedOf r rec)) (givenLength r)) WrongLength 0 .1 lengths-right, require-accepts (writerExpects (w .stage) r) NotExpected 1 .1 t)
+      (require-accepts (eqb recordLength recordLength && eqb (length (joinedOf r rec)) (givenLength r)) WrongLength 0 .1 lengths-right, require-accepts (writerExpects (w .stage) r) NotExpected 1 .1 e)
 
-  pub makes : makingAnswer (layoutOf r) (joinedOf r rec) amounts ≡ Accepted → makeAnswer r (joinedOf r rec) amounts recordLength ≡ Accepted
+  pub makes : makingAnswer t (layoutOf r) (joinedOf r rec) amounts ≡ Accepted → makeAnswer t r (joinedOf r rec) amounts recordLength ≡ Accepted
   unfolding makeAnswer
   makes a =
-      then-accepts (require (eqb recordLength recordLength && eqb (length (joinedOf r rec)) (givenLength r)) WrongLength 0) (makingAnswer (layoutOf r) (joinedOf r rec) amounts) .1
-      (require-accepts (eqb recordLength recordLength && eqb (length (joinedOf r rec)) (givenLength r)) WrongLength 0 .1 lengths-right, a)
+      let making = makingAnswer t (layoutOf r) (joinedOf r rec) amounts in
+      then-accepts (require (eqb recordLength recordLength && eqb (length (joinedOf r rec)) (givenLength r)) WrongLength 0) (termsAnswer t r then making) .1
+      (require-accepts (eqb recordLength recordLength && eqb (length (joinedOf r rec)) (givenLength r)) WrongLength 0 .1 lengths-right, then-accepts (termsAnswer t r) making .1 (body .1, a))
 
 -- A has no amounts; those of G are what it received and its tariff.
-header-amounts : (rec : List ℕ)
-    → (makingAnswer (layoutOf Header) (joinedOf Header rec) (amountsIn (layoutOf Header) rec) ≡ makingAnswer (layoutOf Header) (joinedOf Header rec) (0 ∷ 0 ∷ []))
+header-amounts : (t : Terms) (rec : List ℕ)
+    → (makingAnswer t (layoutOf Header) (joinedOf Header rec) (amountsIn (layoutOf Header) rec) ≡ makingAnswer t (layoutOf Header) (joinedOf Header rec) (0 ∷ 0 ∷ []))
     × (madeOf (layoutOf Header) (joinedOf Header rec) (amountsIn (layoutOf Header) rec) ≡ madeOf (layoutOf Header) (joinedOf Header rec) (0 ∷ 0 ∷ []))
 unfolding layoutOf
-header-amounts rec = (refl, refl)
+header-amounts t rec = (refl, refl)
 
 payment-amounts : (rec : List ℕ) → amountsIn (layoutOf Payment) rec ≡ paymentShown rec .received ∷ paymentShown rec .tariff ∷ []
 unfolding layoutOf rowAt table
 payment-amounts rec = refl
 
 pub fields-write-the-header : FieldsWriteTheHeader
-fields-write-the-header rec accepts named =
-    let both = made freshWriter Header rec (0 ∷ 0 ∷ []) accepts named in
-    let same = header-amounts rec in (
-      then-accepts (callAnswer freshWriter Header (length (joinedOf Header rec)) recordLength) (makeAnswer Header (joinedOf Header rec) (0 ∷ 0 ∷ []) recordLength) .1
-          (call-accepted freshWriter Header rec (0 ∷ 0 ∷ []) accepts named refl, makes freshWriter Header rec (0 ∷ 0 ∷ []) accepts named (sym (same .0) ∙ both .0)),
-      sym (same .1) ∙ both .1,
-    )
+fields-write-the-header any w rec accepted named fresh =
+    let t = writerTerms w in
+    let accepts = other-records-ignore-terms t any rec (ap isPayment named) ∙ accepted in
+    let both = made w t Header rec (0 ∷ 0 ∷ []) accepts named in
+    let same = header-amounts t rec in
+    let bytes : headerBytes (joinedOf Header rec) ≡ rec = sym (same .1) ∙ both .1 in
+    let expected : writerExpects (w .stage) Header ≡ true = rw fresh in
+    let written : headerAnswer w (joinedOf Header rec) recordLength ≡ Accepted =
+    then-accepts (callAnswer w Header (length (joinedOf Header rec)) recordLength) (makeAnswer t Header (joinedOf Header rec) (0 ∷ 0 ∷ []) recordLength) .1
+    (call-accepted w t Header rec (0 ∷ 0 ∷ []) accepts named expected, makes w t Header rec (0 ∷ 0 ∷ []) accepts named (sym (same .0) ∙ both .0)) in
+    (written, bytes, rw (written, bytes))
+
+pub payments-written-under-a-version : PaymentsWrittenUnderAVersion
+unfolding makeAnswer termsAnswer
+payments-written-under-a-version w given received tariff opened n none =
+    rw (opened, n, eq-eqb (givenLength Payment) (givenLength Payment) refl, none)
 
 pub fields-write-the-payment : FieldsWriteThePayment
 fields-write-the-payment w rec accepts named opened size =
+    let t = writerTerms w in
     let amounts = paymentShown rec .received ∷ paymentShown rec .tariff ∷ [] in
     let given = joinedOf Payment rec in
-    let both = made w Payment rec amounts accepts named in
+    let both = made w t Payment rec amounts accepts named in
     let same = payment-amounts rec in
     let expected : writerExpects (w .stage) Payment ≡ true = rw opened in
-    let makes-it : makingAnswer (layoutOf Payment) given amounts ≡ Accepted = rw same at (both .0) in (
-      then-accepts (callAnswer w Payment (length given) recordLength) (makeAnswer Payment given amounts recordLength then fileAnswer (w .file) (paymentShown rec .received)) .1 (
-        call-accepted w Payment rec amounts accepts named expected,
-        then-accepts (makeAnswer Payment given amounts recordLength) (fileAnswer (w .file) (paymentShown rec .received)) .1 (makes w Payment rec amounts accepts named makes-it, size),
+    let makes-it : makingAnswer t (layoutOf Payment) given amounts ≡ Accepted = rw same at (both .0) in (
+      then-accepts (callAnswer w Payment (length given) recordLength) (makeAnswer t Payment given amounts recordLength then fileAnswer (w .file) (paymentShown rec .received)) .1 (
+        call-accepted w t Payment rec amounts accepts named expected,
+        then-accepts (makeAnswer t Payment given amounts recordLength) (fileAnswer (w .file) (paymentShown rec .received)) .1 (makes w t Payment rec amounts accepts named makes-it, size),
       ),
       ap (madeOf (layoutOf Payment) given) (sym same) ∙ both .1,
     )

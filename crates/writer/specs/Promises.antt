@@ -1,34 +1,38 @@
 -- Claims about the writer, beside the equations of its operations' contracts. Assumes nothing.
 use Prim.Native.Nat.{ℕ, _+_}
+use mathlib.Core.Bool.{false}
 use mathlib.Core.List.{List, [], _∷_}
 use mathlib.Core.Path.{_≡_}
-use lib.ListN.{getD}
+use lib.ListN.{length, getD}
+use Rattle.answer.specs.declared.Reason.the-variants.{FixedDiffers}
 use Rattle.answer.specs.declared.Answer.{Answer}
-use Rattle.answer.specs.declared.Answer.the-variants.{Accepted}
+use Rattle.answer.specs.declared.Answer.the-variants.{Accepted, Refused}
 use Rattle.layout.specs.declared.MaybeRecord.the-variants.{Is}
 use Rattle.layout.specs.declared.Record.{Record}
 use Rattle.layout.specs.declared.Record.the-variants.{Header, Payment, Trailer}
-use Rattle.layout.specs.Layouts.{recordLength, namedBy, layoutOf, joinedOf}
+use Rattle.layout.specs.Layouts.{recordLength, namedBy, layoutOf, rowAt, versionRow, givenLength, joinedOf}
+use Rattle.kinds.specs.Terms.{Terms, told, isVersion}
 use Rattle.record.specs.Records.{recordAnswer}
-use Rattle.record.specs.Values.{paymentShown, trailerShown}
+use Rattle.record.specs.Values.{versionIn, paymentShown, trailerShown}
 use Rattle.fields.specs.Making.{madeOf, makeAnswer}
 use Rattle.file.specs.Files.{fileAnswer}
-use Rattle.writer.specs.declared.Stage.the-variants.{Open}
+use Rattle.writer.specs.declared.Stage.the-variants.{Fresh, Open}
 use Rattle.writer.specs.declared.Writer.{Writer}
-use Rattle.writer.specs.Writers.{freshWriter, writeResult, headerAnswer, headerBytes}
+use Rattle.writer.specs.Writers.{writerTerms, writeResult, headerAnswer, headerWritten, headerBytes}
 use Rattle.writer.specs.Writers.{paymentAnswer, paymentBytes, trailerAnswer, trailerBytes}
 
 -- what was written is a record that is accepted alone, and its field bytes are those that were given
 abbrev pub WrittenIsAccepted : Type 0
 WrittenIsAccepted =
-    (r : Record) (given amounts : List ℕ) (size : ℕ) → makeAnswer r given amounts size ≡ Accepted
-    → (recordAnswer (madeOf (layoutOf r) given amounts) ≡ Accepted)
+    (t : Terms) (r : Record) (given amounts : List ℕ) (size : ℕ) → makeAnswer t r given amounts size ≡ Accepted
+    → (recordAnswer t (madeOf (layoutOf r) given amounts) ≡ Accepted)
     × (joinedOf r (madeOf (layoutOf r) given amounts) ≡ given)
 
 -- what was received and the tariff are read back as they were given
 abbrev pub WrittenAmountsAreRead : Type 0
 WrittenAmountsAreRead =
-    (given : List ℕ) (received tariff size : ℕ) → makeAnswer Payment given (received ∷ tariff ∷ []) size ≡ Accepted
+    (t : Terms) (given : List ℕ) (received tariff size : ℕ)
+    → makeAnswer t Payment given (received ∷ tariff ∷ []) size ≡ Accepted
     → (paymentShown (paymentBytes given received tariff) .received ≡ received)
     × (paymentShown (paymentBytes given received tariff) .tariff ≡ tariff)
 
@@ -39,17 +43,20 @@ TrailerShowsTheFigures =
     → (trailerShown (trailerBytes w) .count ≡ w .file .taken + 2)
     × (trailerShown (trailerBytes w) .total ≡ w .file .total)
 
--- the fields of an accepted A, given to a fresh writer, write that A; those of an accepted G, given to a writer whose
--- file is open and can take it, that G
+-- the fields of an accepted A, given to a writer whose stage is fresh, write that A, and its version is then the
+-- writer's; those of a G that is accepted under the writer's version, given to a writer whose file is open and can take
+-- it, that G
 abbrev pub FieldsWriteTheHeader : Type 0
 FieldsWriteTheHeader =
-    (rec : List ℕ) → recordAnswer rec ≡ Accepted → namedBy (getD rec 0 0) ≡ Is Header
-    → (headerAnswer freshWriter (joinedOf Header rec) recordLength ≡ Accepted)
+    (t : Terms) (w : Writer) (rec : List ℕ) → recordAnswer t rec ≡ Accepted → namedBy (getD rec 0 0) ≡ Is Header
+    → w .stage ≡ Fresh
+    → (headerAnswer w (joinedOf Header rec) recordLength ≡ Accepted)
     × (headerBytes (joinedOf Header rec) ≡ rec)
+    × (writerTerms (headerWritten w (joinedOf Header rec) recordLength .writer) ≡ told (versionIn rec))
 
 abbrev pub FieldsWriteThePayment : Type 0
 FieldsWriteThePayment =
-    (w : Writer) (rec : List ℕ) → recordAnswer rec ≡ Accepted → namedBy (getD rec 0 0) ≡ Is Payment
+    (w : Writer) (rec : List ℕ) → recordAnswer (writerTerms w) rec ≡ Accepted → namedBy (getD rec 0 0) ≡ Is Payment
     → w .stage ≡ Open → fileAnswer (w .file) (paymentShown rec .received) ≡ Accepted
     → (paymentAnswer w (joinedOf Payment rec) (paymentShown rec .received) (paymentShown rec .tariff) recordLength
     ≡ Accepted)
@@ -58,9 +65,17 @@ FieldsWriteThePayment =
 -- an accepted Z that shows the writer's own figures is the Z that it writes
 abbrev pub FieldsWriteTheTrailer : Type 0
 FieldsWriteTheTrailer =
-    (w : Writer) (rec : List ℕ) → recordAnswer rec ≡ Accepted → namedBy (getD rec 0 0) ≡ Is Trailer
+    (t : Terms) (w : Writer) (rec : List ℕ) → recordAnswer t rec ≡ Accepted → namedBy (getD rec 0 0) ≡ Is Trailer
     → w .stage ≡ Open → trailerShown rec .count ≡ w .file .taken + 2 → trailerShown rec .total ≡ w .file .total
     → (trailerAnswer w recordLength ≡ Accepted) × (trailerBytes w ≡ rec)
+
+-- an open writer in an arbitrary state whose version is another number than 4 and 6 refuses every G whose lengths are
+-- right, 10 at the version's place in a header
+abbrev pub PaymentsWrittenUnderAVersion : Type 0
+PaymentsWrittenUnderAVersion =
+    (w : Writer) (given : List ℕ) (received tariff : ℕ) → w .stage ≡ Open → length given ≡ givenLength Payment
+    → isVersion (w .file .version) ≡ false
+    → paymentAnswer w given received tariff recordLength ≡ Refused FixedDiffers (rowAt versionRow .first)
 
 -- a refusal leaves the writer as it was
 abbrev pub RefusalKeepsWriter : Type 0

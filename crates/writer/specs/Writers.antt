@@ -11,15 +11,17 @@ use Rattle.decimal.specs.Numbers.{digitsOf}
 use Rattle.layout.specs.declared.Record.{Record}
 use Rattle.layout.specs.declared.Record.the-variants.{Header, Payment, Trailer}
 use Rattle.layout.specs.Layouts.{recordLength, layoutOf, givenLength}
+use Rattle.kinds.specs.Terms.{Terms, told}
+use Rattle.record.specs.Values.{versionIn}
 use Rattle.fields.specs.Making.{madeOf, makeAnswer}
-use Rattle.file.specs.Files.{freshFile, fileAnswer, fileWith, figuresOf, closingAnswer}
+use Rattle.file.specs.Files.{freshFile, noFile, fileAnswer, fileWith, figuresOf, closingAnswer}
 use Rattle.writer.specs.declared.Stage.{Stage}
 use Rattle.writer.specs.declared.Stage.the-variants.{Fresh, Open, Closed}
 use Rattle.writer.specs.declared.Writer.{Writer}
 use Rattle.writer.specs.declared.WriteResult.{WriteResult}
 
 abbrev pub freshWriter : Writer
-freshWriter = record { stage = Fresh; file = freshFile }
+freshWriter = record { stage = Fresh; file = noFile }
 
 -- a fresh writer expects A, an open file G or Z; once it is closed, nothing
 abbrev pub writerExpects : Stage → Record → Bool
@@ -41,21 +43,29 @@ callAnswer w r given size =
 abbrev pub writeResult : Answer → Writer → Writer → WriteResult
 writeResult a new old = record { answer = a; writer = ifAccepted a new old }
 
--- A: the fields
-abbrev pub headerAnswer : Writer → List ℕ → ℕ → Answer
-headerAnswer w given size = callAnswer w Header (length given) size then makeAnswer Header given (0 ∷ 0 ∷ []) size
+-- the version of its file, which its header named
+abbrev pub writerTerms : Writer → Terms
+writerTerms w = told (w .file .version)
 
-abbrev pub headerWritten : Writer → List ℕ → ℕ → WriteResult
-headerWritten w given size = writeResult (headerAnswer w given size) (record { stage = Open; file = freshFile }) w
+-- A: the fields; the file is then open under the version that they name
+abbrev pub headerAnswer : Writer → List ℕ → ℕ → Answer
+headerAnswer w given size =
+    callAnswer w Header (length given) size then makeAnswer (writerTerms w) Header given (0 ∷ 0 ∷ []) size
 
 abbrev pub headerBytes : List ℕ → List ℕ
 headerBytes given = madeOf (layoutOf Header) given (0 ∷ 0 ∷ [])
 
--- G: the fields, 21 in the money fields' turn, then 15 and 16
+abbrev pub headerWritten : Writer → List ℕ → ℕ → WriteResult
+headerWritten w given size =
+    writeResult (headerAnswer w given size)
+    (record { stage = Open; file = freshFile (versionIn (headerBytes given)) }) w
+
+-- G: 10 for a writer in an arbitrary state whose version is another number than 4 and 6, the fields, 21 in the money
+-- fields' turn, then 15 and 16
 abbrev pub paymentAnswer : Writer → List ℕ → ℕ → ℕ → ℕ → Answer
 paymentAnswer w given received tariff size =
     callAnswer w Payment (length given) size
-    then makeAnswer Payment given (received ∷ tariff ∷ []) recordLength
+    then makeAnswer (writerTerms w) Payment given (received ∷ tariff ∷ []) recordLength
     then fileAnswer (w .file) received
 
 abbrev pub paymentWritten : Writer → List ℕ → ℕ → ℕ → ℕ → WriteResult
@@ -75,7 +85,7 @@ abbrev pub trailerAnswer : Writer → ℕ → Answer
 trailerAnswer w size =
     callAnswer w Trailer (givenLength Trailer) size
     then closingAnswer (w .file)
-    then makeAnswer Trailer (countBytes w) (figuresOf (w .file) .total ∷ 0 ∷ []) size
+    then makeAnswer (writerTerms w) Trailer (countBytes w) (figuresOf (w .file) .total ∷ 0 ∷ []) size
 
 abbrev pub trailerWritten : Writer → ℕ → WriteResult
 trailerWritten w size = writeResult (trailerAnswer w size) (record { stage = Closed; file = w .file }) w

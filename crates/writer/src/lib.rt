@@ -3,6 +3,8 @@ ghost use mathlib.Core.Path.{_≡_};
 ghost use lib.ListN.{length};
 ghost use Rattle.answer.specs.declared.Answer.the-variants as answers;
 ghost use Rattle.answer.specs.Orders.{_then_, ifAccepted};
+ghost use Rattle.layout.specs.Layouts.{recordLength};
+ghost use Rattle.record.specs.Values.{versionIn};
 ghost use Rattle.writer.specs.Writers.{freshWriter, writerExpects, callAnswer, writeResult};
 ghost use Rattle.writer.specs.Writers.{headerWritten, headerBytes, paymentWritten, paymentBytes};
 ghost use Rattle.writer.specs.Writers.{trailerWritten, trailerBytes};
@@ -10,6 +12,7 @@ use answer::Answer;
 use answer::Reason;
 use file::File;
 use layout::Record;
+use layout::a;
 
 // Before its header, between header and trailer, and after its trailer, when no record is expected any more.
 pub enum Stage {
@@ -18,7 +21,7 @@ pub enum Stage {
     Closed,
 }
 
-// The stage, and what was written so far: how many payments, and their centavos.
+// The stage, and what was written so far: how many payments, their centavos, and the version that the header names.
 pub struct Writer {
     pub stage: Stage,
     pub file: File,
@@ -59,6 +62,16 @@ fn first_refusal(first: Answer, second: Answer) -> Answer
     }
 }
 
+// The version that a header names.
+fn version_in(header: &[u8]) -> u64
+    requires { ⌜ length (now header) ≡ recordLength ⌝ }
+    ensures { λ r. ⌜ r ≡ versionIn (now (header .entry)) ⌝ }
+{
+    let first = a::VERSION.first;
+    let last = a::VERSION.last;
+    decimal::number(&header[first - 1..last])
+}
+
 impl Writer {
     // The bytes of a record, and so of the buffer of each call.
     pub const RECORD: usize = layout::LENGTH;
@@ -72,7 +85,7 @@ impl Writer {
     {
         Writer {
             stage: Stage::Fresh,
-            file: File::new(),
+            file: File::new(0),
         }
     }
 
@@ -116,8 +129,8 @@ impl Writer {
         }
     }
 
-    // Writes the header with these 78 field bytes into the caller's buffer of 150 bytes; the file is open then. A
-    // refusal leaves buffer and writer unchanged: 1, 9, then the fields.
+    // Writes the header with these 80 field bytes into the caller's buffer of 150 bytes; the file is open then, under
+    // the version that they name. A refusal leaves buffer and writer unchanged: 1, 9, then the fields.
     pub fn header(self, fields: &[u8], out: &mut [u8]) -> WriteResult
         ensures answer { λ r. ⌜ r ≡ headerWritten self (now (fields .entry)) (length (now (out .entry))) ⌝ }
         ensures bytes { λ r. ⌜ now (out .exit) ≡ ifAccepted (r .answer)
@@ -125,17 +138,18 @@ impl Writer {
     {
         let call = self.check_call(Record::Header, fields.len(), out.len());
         let mut made = [0u8; Self::RECORD];
-        let making = fields::make(Record::Header, fields, 0, 0, &mut made);
+        let making = fields::make(Record::Header, fields, self.file.version, 0, 0, &mut made);
         let answer = first_refusal(call, making);
         let opened = Writer {
             stage: Stage::Open,
-            file: File::new(),
+            file: File::new(version_in(&made)),
         };
         self.finish(answer, opened, &made, out)
     }
 
     // Writes a payment with these 121 field bytes and amounts into the caller's buffer of 150 bytes and counts it. A
-    // refusal leaves buffer and writer unchanged: 1, 9, then the fields with 21 in an amount's turn, then 15 and 16.
+    // refusal leaves buffer and writer unchanged: 1, 9, 10 at 80 for a writer in an arbitrary state whose version is
+    // another number than 4 and 6, then the fields with 21 in an amount's turn, then 15 and 16.
     pub fn payment(self, fields: &[u8], received: u64, tariff: u64, out: &mut [u8]) -> WriteResult
         ensures answer { λ r. ⌜ r ≡ paymentWritten self (now (fields .entry)) received tariff
             (length (now (out .entry))) ⌝ }
@@ -144,7 +158,14 @@ impl Writer {
     {
         let call = self.check_call(Record::Payment, fields.len(), out.len());
         let mut made = [0u8; Self::RECORD];
-        let making = fields::make(Record::Payment, fields, received, tariff, &mut made);
+        let making = fields::make(
+            Record::Payment,
+            fields,
+            self.file.version,
+            received,
+            tariff,
+            &mut made,
+        );
         let stage = self.stage;
         let file = self.file;
         let taken = file.take(received);
@@ -173,7 +194,14 @@ impl Writer {
         let mut count = [48u8; Self::COUNT];
         decimal::put_number(figures.count, Self::COUNT, &mut count, 0);
         let mut made = [0u8; Self::RECORD];
-        let making = fields::make(Record::Trailer, &count, figures.total, 0, &mut made);
+        let making = fields::make(
+            Record::Trailer,
+            &count,
+            file.version,
+            figures.total,
+            0,
+            &mut made,
+        );
         let answer = first_refusal(call, first_refusal(closing, making));
         let ended = Writer {
             stage: Stage::Closed,

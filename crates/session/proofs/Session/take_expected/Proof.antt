@@ -11,8 +11,8 @@ decode-requires c κs = search needs
 enum-known-why : tie.Need-enum-known-why
 enum-known-why c = search needs
 
-enum-told : tie.Need-enum-told
-enum-told c = search needs
+enum-known-h : tie.Need-enum-known-h
+enum-known-h c = search needs
 
 with-file-open-requires : tie.Need-with-file-open-requires
 with-file-open-requires c κs = search needs
@@ -33,7 +33,7 @@ returns : tie.Need-returns
 returns c = decoded-as (c .before .before .before .before .before .args .self) (c .before .before .before .before .before .args .rec .now) (c .before .before .before .decode .ensures) (c .before .why .given .1) refl
 
 returns-2 : tie.Need-returns-2
-returns-2 c = decoded-as (c .before .before .before .before .before .args .self) (c .before .before .before .before .before .args .rec .now) (c .before .before .before .decode .ensures) (c .before .enum-told .given .1) (rw (c .with-file-open .ensures))
+returns-2 c = decoded-as (c .before .before .before .before .before .before .args .self) (c .before .before .before .before .before .before .args .rec .now) (c .before .before .before .before .decode .ensures) (c .before .before .h .given .1) (rw (c .with-file-open .ensures))
 
 returns-3 : tie.Need-returns-3
 returns-3 c = decoded-as (c .before .before .before .before .before .before .args .self) (c .before .before .before .before .before .before .args .rec .now) (c .before .before .before .before .decode .ensures) (c .before .before .p .given .1) (c .take-payment .ensures)
@@ -47,7 +47,7 @@ take-expected-spec =
     (tie.spec
     decode-requires
     enum-known-why
-    enum-told
+    enum-known-h
     with-file-open-requires
     enum-known-p
     take-payment-requires

@@ -56,9 +56,9 @@ payment-lane-requires c κs = search needs
 returns-5 : tie.Need-returns-5
 returns-5 c =
     let took = c .before .before .before .before .before in
-    let read = took .before .before .before .before .before in
-    let cut = read .before .before in
-    next-is (not-false _ (cut .before .before .if1 .left)) (cut .before .if2 .left) (cut .piece-end .ensures .0) (read .accepted-payment .ensures) (took .before .before .before .issuer .given .1)
+    let read = took .before .before .before .before in
+    let cut = read .before .before .before in
+    next-is (not-false _ (cut .before .before .if1 .left)) (cut .before .if2 .left) (cut .piece-end .ensures .0) (read .accepted-payment .ensures) (took .before .before .issuer .given .1)
     (took .take .ensures) (c .before .before .before .enum-told2 .given .1) (c .payment-lane .ensures)
 
 pub next-payment-spec : {M : Type 1} → statement M

@@ -18,6 +18,12 @@ make-requires c κs = search needs
 first-refusal-requires : tie.Need-first-refusal-requires
 first-refusal-requires c κs = search needs
 
+slice-aggregate-version-in : tie.Need-slice-aggregate-version-in
+slice-aggregate-version-in c = search needs
+
+version-in-requires : tie.Need-version-in-requires
+version-in-requires c κs = search needs
+
 new-requires : tie.Need-new-requires
 new-requires c κs = search needs
 
@@ -26,7 +32,7 @@ slice-aggregate-finish c = search needs
 
 finish-requires : tie.Need-finish-requires
 finish-requires c κs h =
-    let choosing = c .before .before .before in
+    let choosing = c .before .before .before .before .before in
     let making = choosing .before .before in
     let calling = making .before .before in
     let a = calling .before .before .before .args in
@@ -40,12 +46,12 @@ returns : tie.Need-returns
 returns c =
     let ending = c .before .before in
     let opening = ending .before .before .before in
-    let choosing = opening .before in
+    let choosing = opening .before .before .before in
     let making = choosing .before .before in
     let calling = making .before .before in
     let a = calling .before .before .before .args in
     header-ends (a .self) (a .fields .now) (a .out .now) (calling .check-call .ensures) (making .make .ensures .0)
-    (making .make .ensures .1) (choosing .first-refusal .ensures) (opening .new .ensures)
+    (making .make .ensures .1) (choosing .first-refusal .ensures) (opening .before .version-in .ensures) (opening .new .ensures)
     (ending .finish .ensures .0) (ending .finish .ensures .1)
 
 pub header-spec : {M : Type 1} → statement M
@@ -56,6 +62,8 @@ header-spec =
     slice-aggregate-make
     make-requires
     first-refusal-requires
+    slice-aggregate-version-in
+    version-in-requires
     new-requires
     slice-aggregate-finish
     finish-requires

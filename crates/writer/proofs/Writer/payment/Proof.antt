@@ -35,7 +35,7 @@ finish-requires c κs h =
     let calling = making .before .before in
     let a = calling .before .before .before .args in
     let size = size-is (a .self) Payment (length (a .fields .now)) (length (a .out .now)) (choosing .before .first-refusal .result) (calling .check-call .ensures) (choosing .first-refusal2 .ensures) h in
-    making .make .kept .1 .1 .1 .1 .0 ∙ sym size
+    making .make .kept .1 .1 .1 .1 .1 .0 ∙ sym size
 
 same-length : tie.Need-same-length
 same-length c = search needs
