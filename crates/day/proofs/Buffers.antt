@@ -13,7 +13,7 @@ use Rattle.layout.specs.Layouts.{recordLength, namedBy}
 use Rattle.record.specs.Values.{decodedRecord}
 use Rattle.session.specs.declared.Session.{Session}
 use Rattle.session.specs.declared.RunResult.{RunResult}
-use Rattle.session.specs.Sessions.{takeAnswer, sessionWith}
+use Rattle.session.specs.Sessions.{sessionTerms, takeAnswer, sessionWith}
 use Rattle.session.specs.Runs.{filesClosed, emptyRun, addCounts, runOf}
 use Rattle.session.proofs.Runs.{run-refused, run-on, counts-add, counts-none}
 use Rattle.day.specs.Days.{runBufferOf, BuffersAreOneRun}
@@ -31,7 +31,7 @@ module _ (s : Session) (front rest : List ℕ) (whole : recordLength ≤ length 
   piece = take recordLength front
 
   abbrev next : Session
-  next = sessionWith s (decodedRecord piece)
+  next = sessionWith s (decodedRecord (sessionTerms s) piece)
 
   abbrev closed : ℕ
   closed = filesClosed (namedBy (getD piece 0 0))
@@ -53,7 +53,7 @@ module _ (s : Session) (front rest : List ℕ) (whole : recordLength ≤ length 
 
   -- the run after the record `r`, over the bytes `left`
   abbrev after-record : List ℕ → List ℕ → RunResult
-  after-record r left = addCounts 1 (filesClosed (namedBy (getD r 0 0))) (runOf (sessionWith s (decodedRecord r)) left)
+  after-record r left = addCounts 1 (filesClosed (namedBy (getD r 0 0))) (runOf (sessionWith s (decodedRecord (sessionTerms s) r)) left)
 
   goes : takeAnswer s piece ≡ Accepted → runOf s front ≡ after-record piece front-left
   goes e = run-on s front more e
@@ -108,7 +108,7 @@ joins zero s [] rest h a = sym (counts-none (runOf s rest))
 joins zero s (b ∷ front) rest h a = absurd (omega arith)
 joins (suc n) s front rest h a =
     let piece = take recordLength front in
-    let on = joins n (sessionWith s (decodedRecord piece)) (drop recordLength front) rest (left n front h) in
+    let on = joins n (sessionWith s (decodedRecord (sessionTerms s) piece)) (drop recordLength front) rest (left n front h) in
     join-piece s front rest (omega arith) (takeAnswer s piece) refl on a
 
 ends :
@@ -118,7 +118,7 @@ ends zero s [] rest h a = absurd (a refl)
 ends zero s (b ∷ front) rest h a = absurd (omega arith)
 ends (suc n) s front rest h a =
     let piece = take recordLength front in
-    let on = ends n (sessionWith s (decodedRecord piece)) (drop recordLength front) rest (left n front h) in
+    let on = ends n (sessionWith s (decodedRecord (sessionTerms s) piece)) (drop recordLength front) rest (left n front h) in
     end-piece s front rest (omega arith) (takeAnswer s piece) refl on a
 
 pub buffers-are-one-run : BuffersAreOneRun

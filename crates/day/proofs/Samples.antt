@@ -6,7 +6,8 @@ use Rattle.calendar.specs.Dates.{isLeap, daysIn, isDate, dateOf}
 use Rattle.modulus.specs.Checks.{addedBy, termOf, digitOfRemainder}
 use Rattle.barcode.specs.Codes.{firstThreeAnswer, generalRight}
 use Rattle.layout.specs.Layouts.{namedBy, layoutOf, table, rowAt}
-use Rattle.kinds.specs.Kinds.{isService, isCapture, isForm, kindAnswer}
+use Rattle.kinds.specs.Terms.{termsAnswer}
+use Rattle.kinds.specs.Kinds.{isVersionText, isService, dateAnswer, isCapture, isForm, kindAnswer}
 use Rattle.record.specs.Records.{fieldAnswer, recordAnswer}
 use Rattle.file.specs.Files.{fileAnswer, figuresAnswer}
 use Rattle.board.specs.Lanes.{fits}
@@ -16,7 +17,7 @@ use Rattle.page.specs.Pages.{numberLine, issuerLine, tallyLines, laneLines, hea
 use Rattle.day.specs.Samples.{WorkedInput, OpenInput, RefusedInput}
 
 all : WorkedInput × OpenInput × RefusedInput
-unfolding recordAnswer fieldAnswer kindAnswer isService isCapture isForm namedBy layoutOf table rowAt
+unfolding recordAnswer termsAnswer fieldAnswer kindAnswer isVersionText isService dateAnswer isCapture isForm namedBy layoutOf table rowAt
     figuresAnswer fileAnswer fits ownOf usedAfter slotAnswer firstThreeAnswer generalRight
     termOf addedBy digitOfRemainder dateOf isDate daysIn isLeap digitsOf valueOf isOf
     neededIn numberLine issuerLine tallyLines laneLines headLines

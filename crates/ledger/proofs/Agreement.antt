@@ -20,7 +20,7 @@ use Rattle.layout.specs.declared.MaybeRecord.the-variants.{Is, Other}
 use Rattle.layout.specs.declared.Record.the-variants.{Header, Payment, Trailer}
 use Rattle.layout.specs.Layouts.{recordLength, namedBy}
 use Rattle.record.specs.Records.{recordAnswer}
-use Rattle.record.specs.Values.{paymentShown, trailerShown, recordShown, shownUnlessRefused, decodedRecord}
+use Rattle.record.specs.Values.{versionIn, paymentShown, trailerShown, recordShown, shownUnlessRefused, decodedRecord}
 use Rattle.file.specs.Files.{mostPayments, mostCentavos, freshFile, fileAnswer, figuresAnswer}
 use Rattle.board.specs.declared.Board.{Board}
 use Rattle.board.specs.Lanes.{placed, lanesFrom}
@@ -29,8 +29,8 @@ use Rattle.board.proofs.Lanes.{one-payment-more}
 use Rattle.board.proofs.Posting.{fit, with-sound, post-places, stays-sound}
 use Rattle.board.proofs.Boards.{answers-as-payments}
 use Rattle.session.specs.declared.Session.{Session}
-use Rattle.session.specs.Sessions.{freshSession, openedAt, closedAt, sessionExpects, figuresIn, payAnswer, sessionWithPayment, sessionAnswer, sessionWith, takeAnswer, takeOf, abandonOf}
-use Rattle.ledger.specs.Ledgers.{Opened, Filed, Ledger, freshLedger, paymentRecords, openRecords, laneOfRecord, lanesOfRecords, receivedIn, limitsAnswer, ledgerExpects, filedWith, paymentStateAnswer, trailerStateAnswer, stateAnswer, ledgerAnswer, withRecord, Step, taking, abandoning, ledgerStep, ledgerAfter, ledgerAnswers}
+use Rattle.session.specs.Sessions.{freshSession, openedAt, closedAt, sessionTerms, sessionExpects, figuresIn, payAnswer, sessionWithPayment, sessionAnswer, sessionWith, takeAnswer, takeOf, abandonOf}
+use Rattle.ledger.specs.Ledgers.{Opened, Filed, Ledger, freshLedger, paymentRecords, openRecords, laneOfRecord, lanesOfRecords, receivedIn, limitsAnswer, ledgerExpects, ledgerTerms, filedWith, paymentStateAnswer, trailerStateAnswer, stateAnswer, ledgerAnswer, withRecord, Step, taking, abandoning, ledgerStep, ledgerAfter, ledgerAnswers}
 use Rattle.ledger.specs.Promises.{sessionStep, sessionAfter, answersOf, isOpen, allRecords, Agrees, SessionAgrees, AnswersAreTheLedgers, NextAnswerIsTheLedgers}
 use Rattle.ledger.proofs.Records.{lanes-joined, limits-are-the-boards}
 
@@ -74,7 +74,8 @@ module _ (s : Session) (files : List Filed) (rec : List ℕ) where
 pub answer-agrees : (s : Session) (k : Ledger) (rec : List ℕ) → Agrees s k → takeAnswer s rec ≡ ledgerAnswer k rec
 answer-agrees s k rec h =
     ap (λ (a : Answer). require (eqb (length rec) recordLength) WrongLength 0 then a)
-    (record-answer s (k .accepted) rec (k .opened) (namedBy (getD rec 0 0)) (recordAnswer rec) h)
+    (record-answer s (k .accepted) rec (k .opened) (namedBy (getD rec 0 0)) (recordAnswer (sessionTerms s) rec) h
+    ∙ rw (h .terms))
 
 -- The records of a ledger, one more at the end.
 
@@ -95,7 +96,7 @@ received-joined (r ∷ recs) rec = omega (arith, received-joined recs rec)
 -- both boards are those of the accepted files
 at-rest : (b : Board) (files : List Filed) (o : Option Opened)
     → lanesOf b ≡ lanesFrom (lanesOfRecords (paymentRecords files)) → SoundBoard b → openRecords o ≡ []
-    → Agrees (record { shown = b; work = b; opened = isOpen o; file = freshFile }) (record { accepted = files; opened = o })
+    → Agrees (record { shown = b; work = b; opened = isOpen o; file = freshFile (ledgerTerms o .version) }) (record { accepted = files; opened = o })
 at-rest b files o e sound none-yet =
     record {
       opened = refl;
@@ -103,13 +104,14 @@ at-rest b files o e sound none-yet =
       work = rw (none-yet, append-nil (paymentRecords files)) e;
       taken = rw none-yet;
       total = rw none-yet;
+      terms = refl;
       soundShown = sound;
       soundWork = sound;
     }
 
 module _ (s : Session) (files : List Filed) (rec : List ℕ) where
   opens : (o : Option Opened) → Agrees s (record { accepted = files; opened = o })
-      → Agrees (openedAt (s .shown)) (withRecord files none (Is Header) rec)
+      → Agrees (openedAt (s .shown) (versionIn rec)) (withRecord files none (Is Header) rec)
   opens o h = at-rest (s .shown) files (some (record { header = rec; payments = [] })) (h .shown) (h .soundShown) refl
 
   drops : (o : Option Opened) → Agrees s (record { accepted = files; opened = o })
@@ -141,6 +143,7 @@ module _ (s : Session) (files : List Filed) (rec : List ℕ) where
               ap (λ (recs : List (List ℕ)). lanesFrom (lanesOfRecords recs)) (sym more);
           taken = omega (arith, h .taken, length-append (f .payments) (rec ∷ []));
           total = omega (arith, h .total, received-joined (f .payments) rec);
+          terms = h .terms;
           soundShown = h .soundShown;
           soundWork =
               with-sound (s .work) (laneOfRecord rec) (h .soundWork) (fit (s .work) (laneOfRecord rec) .0 posted);
@@ -172,12 +175,12 @@ pub take-agrees : (s : Session) (k : Ledger) (rec : List ℕ) → Agrees s k
 take-agrees s k rec h = rw (← answer-agrees s k rec h) (go (takeAnswer s rec) refl)
   where
     go : (a : Answer) → takeAnswer s rec ≡ a
-        → Agrees (ifAccepted a (sessionWith s (decodedRecord rec)) s) (ifAccepted a (withRecord (k .accepted) (k .opened) (namedBy (getD rec 0 0)) rec) k)
+        → Agrees (ifAccepted a (sessionWith s (decodedRecord (sessionTerms s) rec)) s) (ifAccepted a (withRecord (k .accepted) (k .opened) (namedBy (getD rec 0 0)) rec) k)
     go (Refused why p) e = h
     go Accepted e =
         let own = passed (eqb (length rec) recordLength) WrongLength 0 e .1 in
         let met = passed (sessionExpects (s .opened) (namedBy (getD rec 0 0))) NotExpected 1 own in
-        followed s (k .accepted) rec (k .opened) (namedBy (getD rec 0 0)) (recordAnswer rec) h (met .0) (met .1)
+        followed s (k .accepted) rec (k .opened) (namedBy (getD rec 0 0)) (recordAnswer (sessionTerms s) rec) h (met .0) (met .1)
 
 step-agrees : (s : Session) (k : Ledger) (step : Step) → Agrees s k → Agrees (sessionStep s step) (ledgerStep k step)
 step-agrees s k (taking rec) h = take-agrees s k rec h
@@ -200,7 +203,7 @@ answers-agree (abandoning ∷ steps) s k h =
 
 pub fresh-agrees : Agrees freshSession freshLedger
 fresh-agrees =
-    record { opened = refl; shown = refl; work = refl; taken = refl; total = refl; soundShown = stays-sound .0; soundWork = stays-sound .0 }
+    record { opened = refl; shown = refl; work = refl; taken = refl; total = refl; terms = refl; soundShown = stays-sound .0; soundWork = stays-sound .0 }
 
 pub session-agrees : SessionAgrees
 session-agrees steps = steps-agree steps freshSession freshLedger fresh-agrees

@@ -12,15 +12,16 @@ use Rattle.answer.proofs.Orders.{accepted-takes}
 use Rattle.layout.specs.declared.Record.{Record}
 use Rattle.layout.specs.declared.Record.the-variants.{Payment, Trailer}
 use Rattle.layout.specs.Layouts.{recordLength, namedBy}
+use Rattle.kinds.specs.Terms.{Terms}
 use Rattle.record.specs.Values.{decodedRecord}
 use Rattle.record.proofs.Shown.{accepted-is}
 use Rattle.board.specs.Boards.{boardWithAll}
 use Rattle.session.specs.declared.Session.{Session}
 use Rattle.session.specs.declared.RunResult.{RunResult}
-use Rattle.session.specs.Sessions.{closedAt, sessionWith, takeAnswer, takeOf}
+use Rattle.session.specs.Sessions.{closedAt, sessionTerms, sessionWith, takeAnswer, takeOf}
 use Rattle.session.specs.Runs.{piecesOf, filesClosed, addCounts, stoppedIfRefused, runAll}
 use Rattle.session.proofs.Runs.{pieces-cons}
-use Rattle.ledger.specs.Ledgers.{lanesOfRecords, Step, taking}
+use Rattle.ledger.specs.Ledgers.{lanesOfRecords, headerTerms, Step, taking}
 use Rattle.ledger.specs.Promises.{sessionAfter, answersOf}
 use Rattle.ledger.specs.WholeFiles.{IsRight, fileOf, AllAccepted}
 use Rattle.ledger.specs.Runs.{recordsOf, bytesOf, PiecesAreTheRecords, FileBytesRun}
@@ -49,44 +50,45 @@ run-accepted : (recs : List (List ℕ)) (s : Session) → AllAccepted (answersOf
 run-accepted [] s h = refl
 run-accepted (rec ∷ recs) s h =
     let c = filesClosed (namedBy (getD rec 0 0)) in
-    let next : takeOf s rec .session ≡ sessionWith s (decodedRecord rec) =
-    accepted-takes (takeAnswer s rec) (sessionWith s (decodedRecord rec)) s (h .0) in
+    let next : takeOf s rec .session ≡ sessionWith s (decodedRecord (sessionTerms s) rec) =
+    accepted-takes (takeAnswer s rec) (sessionWith s (decodedRecord (sessionTerms s) rec)) s (h .0) in
     let one : 1 + length recs ≡ suc (length recs) = omega arith in
-    ap (λ (a : Answer). stoppedIfRefused a s (addCounts 1 c (runAll (sessionWith s (decodedRecord rec)) recs))) (h .0)
+    ap (λ (a : Answer). stoppedIfRefused a s (addCounts 1 c (runAll (sessionWith s (decodedRecord (sessionTerms s) rec)) recs))) (h .0)
     ∙ ap (λ (x : Session). addCounts 1 c (runAll x recs)) (sym next)
     ∙ ap (addCounts 1 c) (run-accepted recs (takeOf s rec .session) (h .1))
     ∙ ap (λ (n : ℕ). taken (sessionAfter (takeOf s rec .session) (map taking recs)) n (c + closedIn recs)) one
 
 -- A file's records.
 
-one-closed : (recs : List (List ℕ)) (z : List ℕ) → Each (IsRight Payment) recs → IsRight Trailer z
+one-closed : (t : Terms) (recs : List (List ℕ)) (z : List ℕ) → Each (IsRight t Payment) recs → IsRight t Trailer z
     → closedIn (recs ++ (z ∷ [])) ≡ 1
-one-closed [] z h right = rw (right .1)
-one-closed (rec ∷ recs) z h right = rw (h .0 .1) (omega (arith, one-closed recs z (h .1) right))
+one-closed t [] z h right = rw (right .1)
+one-closed t (rec ∷ recs) z h right = rw (h .0 .1) (omega (arith, one-closed t recs z (h .1) right))
 
-long : (r : Record) (rec : List ℕ) → IsRight r rec → length rec ≡ recordLength
-long r rec h = accepted-is rec (h .0) .0
+long : (t : Terms) (r : Record) (rec : List ℕ) → IsRight t r rec → length rec ≡ recordLength
+long t r rec h = accepted-is t rec (h .0) .0
 
-all-long : (recs : List (List ℕ)) (z : List ℕ) → Each (IsRight Payment) recs → IsRight Trailer z
+all-long : (t : Terms) (recs : List (List ℕ)) (z : List ℕ) → Each (IsRight t Payment) recs → IsRight t Trailer z
     → Each (λ (rec : List ℕ). length rec ≡ recordLength) (recs ++ (z ∷ []))
-all-long [] z h right = (long Trailer z right, tt)
-all-long (rec ∷ recs) z h right = (long Payment rec (h .0), all-long recs z (h .1) right)
+all-long t [] z h right = (long t Trailer z right, tt)
+all-long t (rec ∷ recs) z h right = (long t Payment rec (h .0), all-long t recs z (h .1) right)
 
 pub file-bytes-run : FileBytesRun
-file-bytes-run b a recs z whole e =
+file-bytes-run s a recs z none-open whole e =
+    let t = headerTerms a in
     let all = recordsOf a recs z in
     let steps : map taking all ≡ fileOf a recs z =
     ap (λ (l : List Step). taking a ∷ l) (map-append taking recs (z ∷ [])) in
     let pieces =
     pieces-are-the-records all
-    (accepted-is a (whole .header .0) .0, all-long recs z (whole .payments) (whole .trailer)) in
+    (accepted-is t a (whole .header .0) .0, all-long t recs z (whole .payments) (whole .trailer)) in
     let accepted =
-    subst (λ (l : List Step). AllAccepted (answersOf (closedAt b) l)) (sym steps) e in
-    let left : sessionAfter (closedAt b) (map taking all) ≡ closedAt (boardWithAll b (lanesOfRecords recs)) =
-    ap (sessionAfter (closedAt b)) steps ∙ file-posted b a recs z whole e in
+    subst (λ (l : List Step). AllAccepted (answersOf s l)) (sym steps) e in
+    let left : sessionAfter s (map taking all) ≡ closedAt (boardWithAll (s .shown) (lanesOfRecords recs)) =
+    ap (sessionAfter s) steps ∙ file-posted s a recs z none-open whole e in
     let count : length all ≡ length recs + 2 = omega (arith, length-append recs (z ∷ [])) in
     let closed : closedIn all ≡ 1 =
-    rw (whole .header .1) (omega (arith, one-closed recs z (whole .payments) (whole .trailer))) in
-    ap (runAll (closedAt b)) pieces ∙ run-accepted all (closedAt b) accepted
-    ∙ ap (λ (s : Session). taken s (length all) (closedIn all)) left
-    ∙ ap₂ (taken (closedAt (boardWithAll b (lanesOfRecords recs)))) count closed
+    rw (whole .header .1) (omega (arith, one-closed t recs z (whole .payments) (whole .trailer))) in
+    ap (runAll s) pieces ∙ run-accepted all s accepted
+    ∙ ap (λ (x : Session). taken x (length all) (closedIn all)) left
+    ∙ ap₂ (taken (closedAt (boardWithAll (s .shown) (lanesOfRecords recs)))) count closed

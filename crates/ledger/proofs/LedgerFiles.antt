@@ -1,10 +1,10 @@
 -- Every accepted file of a ledger is whole: what holds of the open file, and of the accepted ones, is kept by each step.
 -- Assumes nothing.
 use Prim.Native.Nat.{ℕ, _+_, _≤_}
-use mathlib.Core.Bool.{true, false≢true}
+use mathlib.Core.Bool.{true, false, false≢true}
 use mathlib.Core.List.{List, [], _∷_, _++_}
 use mathlib.Core.Option.{Option, none, some}
-use mathlib.Core.Path.{_≡_, refl}
+use mathlib.Core.Path.{_≡_, refl, sym, ap, _∙_}
 use native.Mathlib.Omega.{arith}
 use borrow.Author.Tests.{ltb-true, leb-true}
 use lib.Dec.{eqb, ltb, leb}
@@ -20,18 +20,23 @@ use Rattle.layout.specs.declared.MaybeRecord.{MaybeRecord}
 use Rattle.layout.specs.declared.MaybeRecord.the-variants.{Is, Other}
 use Rattle.layout.specs.declared.Record.the-variants.{Header, Payment, Trailer}
 use Rattle.layout.specs.Layouts.{recordLength, namedBy}
+use Rattle.kinds.specs.Terms.{Terms, told, isVersion}
 use Rattle.record.specs.Records.{recordAnswer}
 use Rattle.record.specs.Values.{paymentShown}
-use Rattle.file.specs.Files.{mostPayments, mostCentavos}
-use Rattle.ledger.specs.Ledgers.{Opened, Filed, Ledger, freshLedger, receivedIn, ledgerExpects, stateAnswer, ledgerAnswer, filedWith, withRecord, Step, taking, abandoning, ledgerStep, ledgerAfter}
+use Rattle.record.proofs.Shown.{headers-name-a-version}
+use Rattle.file.specs.declared.File.{File}
+use Rattle.file.specs.Files.{mostPayments, mostCentavos, noFile}
+use Rattle.ledger.specs.Ledgers.{Opened, Filed, Ledger, freshLedger, openRecords, receivedIn, ledgerExpects, headerTerms, ledgerTerms, stateAnswer, ledgerAnswer, filedWith, withRecord, Step, taking, abandoning, ledgerStep, ledgerAfter}
+use Rattle.ledger.specs.Promises.{reached, ledgerOf, isOpen, Agrees, OpenFilesHaveAVersion}
 use Rattle.ledger.specs.WholeFiles.{IsRight, SoundFile, LedgerFilesAreWhole}
-use Rattle.ledger.proofs.Agreement.{received-joined}
+use Rattle.ledger.proofs.Agreement.{received-joined, session-agrees}
 use Rattle.ledger.proofs.Sessions.{figures-accept}
+use Rattle.ledger.proofs.WholeFiles.{right-under-any-terms}
 
 -- what holds of the open file
 record Right (f : Opened) : Type 0 where
-  header : IsRight Header (f .header)
-  payments : Each (IsRight Payment) (f .payments)
+  header : IsRight (headerTerms (f .header)) Header (f .header)
+  payments : Each (IsRight (headerTerms (f .header)) Payment) (f .payments)
   few : length (f .payments) ≤ mostPayments
   low : receivedIn (f .payments) ≤ mostCentavos
 
@@ -47,11 +52,11 @@ each-last : {A : Type 0} (P : A → Type 0) (xs : List A) (x : A) → Each P xs 
 each-last P [] x h p = (p, tt)
 each-last P (y ∷ xs) x h p = (h .0, each-last P xs x (h .1) p)
 
-module _ (files : List Filed) (rec : List ℕ) (own : recordAnswer rec ≡ Accepted) (all : Each SoundFile files) where
-  with-payment : (f : Opened) → Right f → namedBy (getD rec 0 0) ≡ Is Payment
+module _ (files : List Filed) (rec : List ℕ) (all : Each SoundFile files) where
+  with-payment : (f : Opened) → Right f → recordAnswer (headerTerms (f .header)) rec ≡ Accepted → namedBy (getD rec 0 0) ≡ Is Payment
       → stateAnswer files (some f) (Is Payment) rec ≡ Accepted
       → Kept (withRecord files (some f) (Is Payment) rec)
-  with-payment f h n e =
+  with-payment f h own n e =
       let room = passed (ltb (length (f .payments)) mostPayments) FileFull 1 e in
       let less =
       passed (leb (receivedIn (f .payments) + paymentShown rec .received) mostCentavos) FileTotalPassed receivedPlace
@@ -63,16 +68,16 @@ module _ (files : List Filed) (rec : List ℕ) (own : recordAnswer rec ≡ Accep
         opened =
             record {
               header = h .header;
-              payments = each-last (IsRight Payment) (f .payments) rec (h .payments) (own, n);
+              payments = each-last (IsRight (headerTerms (f .header)) Payment) (f .payments) rec (h .payments) (own, n);
               few = omega (arith, few, length-append (f .payments) (rec ∷ []));
               low = omega (arith, low, received-joined (f .payments) rec);
             };
       }
 
-  with-trailer : (f : Opened) → Right f → namedBy (getD rec 0 0) ≡ Is Trailer
+  with-trailer : (f : Opened) → Right f → recordAnswer (headerTerms (f .header)) rec ≡ Accepted → namedBy (getD rec 0 0) ≡ Is Trailer
       → stateAnswer files (some f) (Is Trailer) rec ≡ Accepted
       → Kept (withRecord files (some f) (Is Trailer) rec)
-  with-trailer f h n e =
+  with-trailer f h own n e =
       record {
         files =
             each-last SoundFile files (filedWith f rec) all
@@ -85,20 +90,20 @@ module _ (files : List Filed) (rec : List ℕ) (own : recordAnswer rec ≡ Accep
         opened = tt;
       }
 
-  with-record : (o : Option Opened) (n : MaybeRecord) → RightIfOpen o → namedBy (getD rec 0 0) ≡ n
+  with-record : (o : Option Opened) (n : MaybeRecord) → recordAnswer (ledgerTerms o) rec ≡ Accepted → RightIfOpen o → namedBy (getD rec 0 0) ≡ n
       → ledgerExpects o n ≡ true → stateAnswer files o n rec ≡ Accepted → Kept (withRecord files o n rec)
-  with-record none (Is Header) h is x e =
+  with-record none (Is Header) own h is x e =
       record {
         files = all;
-        opened = record { header = (own, is); payments = tt; few = omega arith; low = omega arith };
+        opened = record { header = right-under-any-terms (told 0) (headerTerms rec) Header rec refl (own, is); payments = tt; few = omega arith; low = omega arith };
       }
-  with-record none (Is Payment) h is x e = absurd (false≢true x)
-  with-record none (Is Trailer) h is x e = absurd (false≢true x)
-  with-record none Other h is x e = absurd (false≢true x)
-  with-record (some f) (Is Header) h is x e = absurd (false≢true x)
-  with-record (some f) (Is Payment) h is x e = with-payment f h is e
-  with-record (some f) (Is Trailer) h is x e = with-trailer f h is e
-  with-record (some f) Other h is x e = absurd (false≢true x)
+  with-record none (Is Payment) own h is x e = absurd (false≢true x)
+  with-record none (Is Trailer) own h is x e = absurd (false≢true x)
+  with-record none Other own h is x e = absurd (false≢true x)
+  with-record (some f) (Is Header) own h is x e = absurd (false≢true x)
+  with-record (some f) (Is Payment) own h is x e = with-payment f h own is e
+  with-record (some f) (Is Trailer) own h is x e = with-trailer f h own is e
+  with-record (some f) Other own h is x e = absurd (false≢true x)
 
 keeps : (k : Ledger) (step : Step) → Kept k → Kept (ledgerStep k step)
 keeps k abandoning h = record { files = h .files; opened = tt }
@@ -111,8 +116,8 @@ keeps k (taking rec) h = go (ledgerAnswer k rec) refl
         let n = namedBy (getD rec 0 0) in
         let long = passed (eqb (length rec) recordLength) WrongLength 0 e in
         let met = passed (ledgerExpects (k .opened) n) NotExpected 1 (long .1) in
-        let own = then-accepts (recordAnswer rec) (stateAnswer (k .accepted) (k .opened) n rec) .0 (met .1) in
-        with-record (k .accepted) rec (own .0) (h .files) (k .opened) n (h .opened) refl (met .0) (own .1)
+        let own = then-accepts (recordAnswer (ledgerTerms (k .opened)) rec) (stateAnswer (k .accepted) (k .opened) n rec) .0 (met .1) in
+        with-record (k .accepted) rec (h .files) (k .opened) n (own .0) (h .opened) refl (met .0) (own .1)
 
 all-keep : (k : Ledger) (steps : List Step) → Kept k → Kept (ledgerAfter k steps)
 all-keep k [] h = h
@@ -120,3 +125,33 @@ all-keep k (step ∷ steps) h = all-keep (ledgerStep k step) steps (keeps k step
 
 pub ledger-files-are-whole : LedgerFilesAreWhole
 ledger-files-are-whole steps = all-keep freshLedger steps (record { files = tt; opened = tt }) .files
+
+-- So the version of an open file is one, and the session's.
+
+pub open-files-have-a-version : OpenFilesHaveAVersion
+open-files-have-a-version steps = go (ledgerOf steps) (all-keep freshLedger steps (record { files = tt; opened = tt }) .opened) (session-agrees steps)
+  where
+    file-is : {f : File} → f .taken ≡ 0 → f .total ≡ 0 → f .version ≡ 0 → f ≡ noFile
+    file-is e g h i = record { taken = e i; total = g i; version = h i }
+
+    by : (o : Option Opened) (k : Ledger) → k .opened ≡ o → RightIfOpen o → Agrees (reached steps) k
+        → (reached steps .opened ≡ true → isVersion (reached steps .file .version) ≡ true)
+        × (reached steps .opened ≡ false → reached steps .file ≡ noFile)
+    by none k e right h = (
+      λ t. absurd (false≢true (sym (h .opened ∙ ap isOpen e) ∙ t)),
+      λ t.
+          file-is (h .taken ∙ ap (λ (x : Option Opened). length (openRecords x)) e)
+          (h .total ∙ ap (λ (x : Option Opened). receivedIn (openRecords x)) e)
+          (ap (λ (x : Terms). x .version) (h .terms ∙ ap ledgerTerms e)),
+    )
+    by (some f) k e right h = (
+      λ t.
+          let named = headers-name-a-version (headerTerms (f .header)) (f .header) (right .header .0) (right .header .1) in
+          ap isVersion (ap (λ (x : Terms). x .version) (h .terms ∙ ap ledgerTerms e)) ∙ named,
+      λ t. absurd (false≢true (sym t ∙ h .opened ∙ ap isOpen e)),
+    )
+
+    go : (k : Ledger) → RightIfOpen (k .opened) → Agrees (reached steps) k
+        → (reached steps .opened ≡ true → isVersion (reached steps .file .version) ≡ true)
+        × (reached steps .opened ≡ false → reached steps .file ≡ noFile)
+    go k right h = by (k .opened) k refl right h

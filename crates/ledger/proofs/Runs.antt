@@ -19,7 +19,7 @@ use Rattle.layout.specs.Layouts.{recordLength, namedBy}
 use Rattle.record.specs.Values.{decodedRecord}
 use Rattle.session.specs.declared.Session.{Session}
 use Rattle.session.specs.declared.RunResult.{RunResult}
-use Rattle.session.specs.Sessions.{freshSession, sessionWith, takeAnswer, takeOf}
+use Rattle.session.specs.Sessions.{sessionTerms, freshSession, sessionWith, takeAnswer, takeOf}
 use Rattle.session.specs.Runs.{piecesOf, filesClosed, addCounts, stoppedIfRefused, runAll}
 use Rattle.ledger.specs.Ledgers.{Opened, Filed, Ledger, freshLedger, ledgerExpects, ledgerAnswer, filedWith, withRecord, Step, taking, ledgerStep, ledgerAfter, ledgerAnswers}
 use Rattle.ledger.specs.Promises.{sessionAfter, Agrees}
@@ -80,7 +80,7 @@ run-on (rec ∷ recs) s k h = go (takeAnswer s rec) refl (run-on recs)
   where
     go : (a : Answer) → takeAnswer s rec ≡ a
         → ((s : Session) (k : Ledger) → Agrees s k → RunOn s k recs (runAll s recs))
-        → RunOn s k (rec ∷ recs) (stoppedIfRefused a s (addCounts 1 (filesClosed (namedBy (getD rec 0 0))) (runAll (sessionWith s (decodedRecord rec)) recs)))
+        → RunOn s k (rec ∷ recs) (stoppedIfRefused a s (addCounts 1 (filesClosed (namedBy (getD rec 0 0))) (runAll (sessionWith s (decodedRecord (sessionTerms s) rec)) recs)))
     go (Refused why p) e later =
         record {
           session = refl;
@@ -93,18 +93,18 @@ run-on (rec ∷ recs) s k h = go (takeAnswer s rec) refl (run-on recs)
         let n = namedBy (getD rec 0 0) in
         let after = withRecord (k .accepted) (k .opened) n rec in
         let own : ledgerAnswer k rec ≡ Accepted = sym (answer-agrees s k rec h) ∙ e in
-        let followed : takeOf s rec .session ≡ sessionWith s (decodedRecord rec) =
-        accepted-takes (takeAnswer s rec) (sessionWith s (decodedRecord rec)) s e in
+        let followed : takeOf s rec .session ≡ sessionWith s (decodedRecord (sessionTerms s) rec) =
+        accepted-takes (takeAnswer s rec) (sessionWith s (decodedRecord (sessionTerms s) rec)) s e in
         let noted : ledgerStep k (taking rec) ≡ after = accepted-takes (ledgerAnswer k rec) after k own in
-        let agrees : Agrees (sessionWith s (decodedRecord rec)) after =
+        let agrees : Agrees (sessionWith s (decodedRecord (sessionTerms s) rec)) after =
         subst (λ (x : Session). Agrees x after) followed
         (subst (λ (b : Ledger). Agrees (takeOf s rec .session) b) noted (take-agrees s k rec h)) in
         let expected =
         passed (ledgerExpects (k .opened) n) NotExpected 1
         (passed (eqb (length rec) recordLength) WrongLength 0 own .1) .0 in
-        more rec recs s (sessionWith s (decodedRecord rec)) k after (filesClosed n)
-        (runAll (sessionWith s (decodedRecord rec)) recs) followed noted own
-        (files-after (k .accepted) (k .opened) n rec expected) (later (sessionWith s (decodedRecord rec)) after agrees)
+        more rec recs s (sessionWith s (decodedRecord (sessionTerms s) rec)) k after (filesClosed n)
+        (runAll (sessionWith s (decodedRecord (sessionTerms s) rec)) recs) followed noted own
+        (files-after (k .accepted) (k .opened) n rec expected) (later (sessionWith s (decodedRecord (sessionTerms s) rec)) after agrees)
 
 pub run-is-the-ledgers : RunIsTheLedgers
 run-is-the-ledgers bytes =

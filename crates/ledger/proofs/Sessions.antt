@@ -23,12 +23,12 @@ use Rattle.layout.specs.Layouts.{recordLength, namedBy}
 use Rattle.record.specs.declared.Decoded.{Decoded}
 use Rattle.record.specs.Records.{recordAnswer}
 use Rattle.record.specs.Values.{trailerShown, recordShown, shownUnlessRefused, decodedRecord}
-use Rattle.record.proofs.Shown.{accepted-is}
+use Rattle.record.proofs.Shown.{accepted-is, payments-need-a-version}
 use Rattle.file.specs.Files.{countPlace, totalPlace}
 use Rattle.session.specs.declared.Session.{Session}
-use Rattle.session.specs.Sessions.{closedAt, sessionExpects, sessionAnswer, sessionWith, takeAnswer, takeOf, abandonOf}
-use Rattle.ledger.specs.Ledgers.{Opened, Ledger, receivedIn, trailerStateAnswer, ledgerAnswer, taking, abandoning}
-use Rattle.ledger.specs.Promises.{ledgerOf, TrueTrailersOnly, RefusalKeepsSession, OnlyTrailersShow, TrailersShowAll, NothingShowsBefore, AbandonKeepsBoard, AbandonDropsFile, AbandonNothing, FinishKeepsSession, FinishAnswers}
+use Rattle.session.specs.Sessions.{closedAt, sessionTerms, sessionExpects, sessionAnswer, sessionWith, takeAnswer, takeOf, abandonOf}
+use Rattle.ledger.specs.Ledgers.{headerTerms, Opened, Ledger, receivedIn, trailerStateAnswer, ledgerAnswer, taking, abandoning}
+use Rattle.ledger.specs.Promises.{ledgerOf, TrueTrailersOnly, RefusalKeepsSession, OnlyTrailersShow, TrailersShowAll, NothingShowsBefore, AbandonKeepsBoard, AbandonDropsFile, AbandonNothing, FinishKeepsSession, FinishAnswers, PaymentsTakenUnderAVersion}
 use Rattle.ledger.proofs.Agreement.{next-answer-is-the-ledgers}
 
 -- The trailer.
@@ -48,10 +48,10 @@ figures-accept f rec =
     )
 
 -- of a Z with right fields only the figures are checked
-trailer-answer : (k : Ledger) (f : Opened) (rec : List ℕ) → k .opened ≡ some f → recordAnswer rec ≡ Accepted
+trailer-answer : (k : Ledger) (f : Opened) (rec : List ℕ) → k .opened ≡ some f → recordAnswer (headerTerms (f .header)) rec ≡ Accepted
     → namedBy (getD rec 0 0) ≡ Is Trailer
     → ledgerAnswer k rec ≡ trailerStateAnswer f rec
-trailer-answer k f rec o e n = rw (o, e, n, eq-eqb (length rec) recordLength (accepted-is rec e .0))
+trailer-answer k f rec o e n = rw (o, e, n, eq-eqb (length rec) recordLength (accepted-is (headerTerms (f .header)) rec e .0))
 
 pub true-trailers-only : TrueTrailersOnly
 true-trailers-only steps f rec o e n =
@@ -60,7 +60,12 @@ true-trailers-only steps f rec o e n =
 -- Any session.
 
 pub refusal-keeps-session : RefusalKeepsSession
-refusal-keeps-session s rec h = refusal-keeps (takeAnswer s rec) (sessionWith s (decodedRecord rec)) s h
+refusal-keeps-session s rec h = refusal-keeps (takeAnswer s rec) (sessionWith s (decodedRecord (sessionTerms s) rec)) s h
+
+pub payments-taken-under-a-version : PaymentsTakenUnderAVersion
+payments-taken-under-a-version s rec opened none n named =
+    let own = payments-need-a-version (sessionTerms s) rec n named none in
+    rw (eq-eqb (length rec) recordLength n, named, opened, own)
 
 -- what a record leaves of the board shown
 module _ (s : Session) (rec : List ℕ) where
@@ -74,7 +79,7 @@ module _ (s : Session) (rec : List ℕ) where
   stays Other Accepted Accepted h = refl
 
 pub only-trailers-show : OnlyTrailersShow
-only-trailers-show s rec h = stays s rec (namedBy (getD rec 0 0)) (recordAnswer rec) (takeAnswer s rec) h
+only-trailers-show s rec h = stays s rec (namedBy (getD rec 0 0)) (recordAnswer (sessionTerms s) rec) (takeAnswer s rec) h
 
 own-accepts : (s : Session) (a : Answer) (d : Decoded) → sessionAnswer s (shownUnlessRefused a d) ≡ Accepted
     → a ≡ Accepted
@@ -85,7 +90,7 @@ pub trailers-show-all : TrailersShowAll
 trailers-show-all s rec n e =
     let own = passed (eqb (length rec) recordLength) WrongLength 0 e .1 in
     let met = passed (sessionExpects (s .opened) (namedBy (getD rec 0 0))) NotExpected 1 own .1 in
-    rw (e, own-accepts s (recordAnswer rec) (recordShown (namedBy (getD rec 0 0)) rec) met, n)
+    rw (e, own-accepts s (recordAnswer (sessionTerms s) rec) (recordShown (namedBy (getD rec 0 0)) rec) met, n)
 
 pub abandon-keeps-board : AbandonKeepsBoard
 abandon-keeps-board s = go (s .opened)

@@ -1,5 +1,6 @@
 -- A file that the writer closed is whole with true figures, so a fresh session accepts it. Assumes nothing.
 use Prim.Native.Nat.{ℕ, _+_, _≤_}
+use mathlib.Core.Bool.{false}
 use mathlib.Core.List.{List, [], _∷_, map}
 use mathlib.Core.Path.{_≡_, refl, sym, ap, subst, _∙_}
 use lib.ListN.{length, length-map}
@@ -10,6 +11,7 @@ use Rattle.layout.specs.declared.Record.{Record}
 use Rattle.layout.specs.declared.Record.the-variants.{Header, Payment, Trailer}
 use Rattle.layout.specs.Layouts.{recordLength, namedBy, layoutOf, givenLength, joinedOf}
 use Rattle.layout.proofs.Layouts.{mark-names}
+use Rattle.kinds.specs.Terms.{Terms, told}
 use Rattle.record.specs.Values as values
 use Rattle.fields.specs.Making.{madeOf, makeAnswer}
 use Rattle.file.specs.declared.File.{File}
@@ -17,34 +19,34 @@ use Rattle.file.specs.Files.{mostPayments, mostCentavos, freshFile, fileAnswer,
 use Rattle.file.proofs.Files.{fresh-file-takes, fresh-file-holds}
 use Rattle.writer.specs.declared.Stage.the-variants.{Open}
 use Rattle.writer.specs.declared.Writer.{Writer}
-use Rattle.writer.specs.Writers.{freshWriter, callAnswer, headerAnswer, headerBytes, paymentAnswer, paymentWritten, trailerAnswer, countBytes}
+use Rattle.writer.specs.Writers.{freshWriter, writerTerms, callAnswer, headerAnswer, headerBytes, paymentAnswer, paymentWritten, trailerAnswer, countBytes}
 use Rattle.writer.proofs.Written.{first-byte, written-is-accepted, fields-write-the-header, fields-write-the-payment}
 use Rattle.writer.proofs.Trailers.{fields-write-the-trailer}
 use Rattle.writer.proofs.Amounts.{written-amounts-are-read, trailer-shows-the-figures}
-use Rattle.board.specs.declared.Board.{Board}
-use Rattle.board.specs.Boards.{freshBoard, lanesOf, postAnswers}
+use Rattle.board.specs.Boards.{lanesOf, postAnswers}
 use Rattle.board.proofs.Boards.{fresh-board-holds}
 use Rattle.session.specs.declared.RunResult.{RunResult}
-use Rattle.session.specs.Sessions.{closedAt}
+use Rattle.session.specs.declared.Session.{Session}
+use Rattle.session.specs.Sessions.{freshSession}
 use Rattle.ledger.specs.Promises.{answersOf}
-use Rattle.ledger.specs.Ledgers.{receivedIn, lanesOfRecords}
+use Rattle.ledger.specs.Ledgers.{receivedIn, lanesOfRecords, headerTerms}
 use Rattle.ledger.specs.WholeFiles.{IsRight, Whole, fileOf, receivedEach, TrueFigures, AllAccepted}
 use Rattle.ledger.specs.WrittenFiles.{GivenPayment, recordOf, writtenRecords, writerAfterPayments, PaymentsWritten, openedBy, Closed, trailerAfter, givenBy, ClosedFileIsWhole, ClosedFileIsAccepted, ClosedFileBytesRun, FieldsWriteTheFile}
-use Rattle.ledger.proofs.WholeFiles.{received-each, file-accepted, fresh-session-accepts, fresh-session-shows}
+use Rattle.ledger.proofs.WholeFiles.{right-under-any-terms, received-each, file-accepted, fresh-session-accepts, fresh-session-shows}
 use Rattle.ledger.proofs.FileBytes.{file-bytes-run}
 
 -- a writer whose file is open
 abbrev opened : File → Writer
 opened f = record { stage = Open; file = f }
 
-right : (r : Record) (given amounts : List ℕ) → makeAnswer r given amounts recordLength ≡ Accepted
-    → IsRight r (madeOf (layoutOf r) given amounts)
-right r given amounts e =
-    (written-is-accepted r given amounts recordLength e .0, ap namedBy (first-byte r given amounts) ∙ mark-names r .0)
+right : (t : Terms) (r : Record) (given amounts : List ℕ) → makeAnswer t r given amounts recordLength ≡ Accepted
+    → IsRight t r (madeOf (layoutOf r) given amounts)
+right t r given amounts e =
+    (written-is-accepted t r given amounts recordLength e .0, ap namedBy (first-byte r given amounts) ∙ mark-names r .0)
 
 -- payments that were written to an open file
 record AllWritten (f : File) (gs : List GivenPayment) : Type 0 where
-  each : Each (IsRight Payment) (writtenRecords gs)
+  each : Each (IsRight (told (f .version)) Payment) (writtenRecords gs)
   fits : fileAnswers f (receivedEach (writtenRecords gs)) ≡ Accepted
   leaves : writerAfterPayments (opened f) gs ≡ opened (fileWithAll f (receivedEach (writtenRecords gs)))
 
@@ -52,7 +54,8 @@ write-all : (f : File) (gs : List GivenPayment) → PaymentsWritten (opened f) g
 write-all f [] p = record { each = tt; fits = refl; leaves = refl }
 write-all f (g ∷ gs) p =
     let amounts = g .received ∷ g .tariff ∷ [] in
-    let make = makeAnswer Payment (g .fields) amounts recordLength in
+    let t = told (f .version) in
+    let make = makeAnswer t Payment (g .fields) amounts recordLength in
     let own =
     then-accepts (callAnswer (opened f) Payment (length (g .fields)) recordLength)
     (make then fileAnswer f (g .received)) .0 (p .0) .1 in
@@ -60,13 +63,13 @@ write-all f (g ∷ gs) p =
     let x = values.paymentShown (recordOf g) .received in
     let xs = receivedEach (writtenRecords gs) in
     let read : x ≡ g .received =
-    written-amounts-are-read (g .fields) (g .received) (g .tariff) recordLength (both .0) .0 in
+    written-amounts-are-read t (g .fields) (g .received) (g .tariff) recordLength (both .0) .0 in
     let next : paymentWritten (opened f) (g .fields) (g .received) (g .tariff) recordLength .writer ≡ opened (fileWith f (g .received)) =
     accepted-takes (paymentAnswer (opened f) (g .fields) (g .received) (g .tariff) recordLength)
     (opened (fileWith f (g .received))) (opened f) (p .0) in
     let rest = write-all (fileWith f (g .received)) gs (subst (λ (w : Writer). PaymentsWritten w gs) next (p .1)) in
     record {
-      each = (right Payment (g .fields) amounts (both .0), rest .each);
+      each = (right t Payment (g .fields) amounts (both .0), rest .each);
       fits =
           then-accepts (fileAnswer f x) (fileAnswers (fileWith f x) xs) .1
           (ap (fileAnswer f) read ∙ both .1, ap (λ (y : ℕ). fileAnswers (fileWith f y) xs) read ∙ rest .fits);
@@ -79,46 +82,54 @@ counted : (recs : List (List ℕ)) → length (receivedEach recs) ≡ length rec
 counted recs = simp length-map
 
 -- a fresh file that took these payments
-holds-all : (recs : List (List ℕ))
-    → fileWithAll freshFile (receivedEach recs) ≡ record { taken = length recs; total = receivedIn recs }
-holds-all recs =
-    fresh-file-holds (receivedEach recs) ∙ ap (λ (n : ℕ). record { taken = length (receivedEach recs); total = n }) (received-each recs)
-    ∙ ap (λ (n : ℕ). record { taken = n; total = receivedIn recs }) (counted recs)
+holds-all : (version : ℕ) (recs : List (List ℕ))
+    → fileWithAll (freshFile version) (receivedEach recs) ≡ record { taken = length recs; total = receivedIn recs; version = version }
+holds-all version recs =
+    fresh-file-holds version (receivedEach recs)
+    ∙ ap (λ (n : ℕ). record { taken = length (receivedEach recs); total = n; version = version }) (received-each recs)
+    ∙ ap (λ (n : ℕ). record { taken = n; total = receivedIn recs; version = version }) (counted recs)
 
 module _ (header : List ℕ) (gs : List GivenPayment) (c : Closed header gs) where
-  opens : openedBy header ≡ opened freshFile
-  opens = accepted-takes (headerAnswer freshWriter header recordLength) (opened freshFile) freshWriter (c .opens)
+  -- the file under the version that the header names
+  abbrev fresh : File
+  fresh = freshFile (values.versionIn (headerBytes header))
 
-  all-written : AllWritten freshFile gs
-  all-written = write-all freshFile gs (subst (λ (w : Writer). PaymentsWritten w gs) opens (c .pays))
+  opens : openedBy header ≡ opened fresh
+  opens = accepted-takes (headerAnswer freshWriter header recordLength) (opened fresh) freshWriter (c .opens)
+
+  all-written : AllWritten fresh gs
+  all-written = write-all fresh gs (subst (λ (w : Writer). PaymentsWritten w gs) opens (c .pays))
 
   abbrev last : Writer
   last = writerAfterPayments (openedBy header) gs
 
-  file-is : last .file ≡ record { taken = length (writtenRecords gs); total = receivedIn (writtenRecords gs) }
+  file-is : last .file ≡ record { taken = length (writtenRecords gs); total = receivedIn (writtenRecords gs); version = fresh .version }
   file-is =
       ap (λ (w : Writer). writerAfterPayments w gs .file) opens ∙ ap (λ (w : Writer). w .file) (all-written .leaves)
-      ∙ holds-all (writtenRecords gs)
+      ∙ holds-all (fresh .version) (writtenRecords gs)
 
-  trailer-made : makeAnswer Trailer (countBytes last) (figuresOf (last .file) .total ∷ 0 ∷ []) recordLength ≡ Accepted
+  trailer-made : makeAnswer (writerTerms last) Trailer (countBytes last) (figuresOf (last .file) .total ∷ 0 ∷ []) recordLength ≡ Accepted
   trailer-made =
-      let make = makeAnswer Trailer (countBytes last) (figuresOf (last .file) .total ∷ 0 ∷ []) recordLength in
+      let make = makeAnswer (writerTerms last) Trailer (countBytes last) (figuresOf (last .file) .total ∷ 0 ∷ []) recordLength in
       let own =
       then-accepts (callAnswer last Trailer (givenLength Trailer) recordLength)
       (closingAnswer (last .file) then make) .0 (c .closes) .1 in
       then-accepts (closingAnswer (last .file)) make .0 own .1
 
-  header-made : makeAnswer Header header (0 ∷ 0 ∷ []) recordLength ≡ Accepted
+  header-made : makeAnswer (writerTerms freshWriter) Header header (0 ∷ 0 ∷ []) recordLength ≡ Accepted
   header-made =
       then-accepts (callAnswer freshWriter Header (length header) recordLength)
-      (makeAnswer Header header (0 ∷ 0 ∷ []) recordLength) .0 (c .opens) .1
+      (makeAnswer (writerTerms freshWriter) Header header (0 ∷ 0 ∷ []) recordLength) .0 (c .opens) .1
 
   whole : Whole (headerBytes header) (writtenRecords gs) (trailerAfter header gs)
   whole =
+      let t = headerTerms (headerBytes header) in
+      let a = right (writerTerms freshWriter) Header header (0 ∷ 0 ∷ []) header-made in
+      let z = right (writerTerms last) Trailer (countBytes last) (figuresOf (last .file) .total ∷ 0 ∷ []) trailer-made in
       record {
-        header = right Header header (0 ∷ 0 ∷ []) header-made;
+        header = right-under-any-terms (writerTerms freshWriter) t Header (headerBytes header) refl a;
         payments = all-written .each;
-        trailer = right Trailer (countBytes last) (figuresOf (last .file) .total ∷ 0 ∷ []) trailer-made;
+        trailer = right-under-any-terms (writerTerms last) t Trailer (trailerAfter header gs) refl z;
       }
 
   figures : TrueFigures (writtenRecords gs) (trailerAfter header gs)
@@ -128,7 +139,7 @@ module _ (header : List ℕ) (gs : List GivenPayment) (c : Closed header gs) whe
 
   limits : (length (writtenRecords gs) ≤ mostPayments) × (receivedIn (writtenRecords gs) ≤ mostCentavos)
   limits =
-      let both = fresh-file-takes (receivedEach (writtenRecords gs)) .0 (all-written .fits) in
+      let both = fresh-file-takes (fresh .version) (receivedEach (writtenRecords gs)) .0 (all-written .fits) in
       (subst (λ (n : ℕ). n ≤ mostPayments) (counted (writtenRecords gs)) (both .0), subst (λ (n : ℕ). n ≤ mostCentavos) (received-each (writtenRecords gs)) (both .1))
 
 pub closed-file-is-whole : ClosedFileIsWhole
@@ -148,9 +159,9 @@ closed-file-bytes-run header gs c few =
     let all = closed-file-is-accepted header gs c few .0 in
     let a = headerBytes header in
     let z = trailerAfter header gs in
-    let run = file-bytes-run freshBoard a recs z (whole header gs c) all in
+    let run = file-bytes-run freshSession a recs z refl (whole header gs c) all in
     let given : length recs ≡ length gs = simp length-map in
-    let shows = fresh-board-holds (lanesOfRecords recs) (file-accepted freshBoard a recs z (whole header gs c) .0 all .1) in (
+    let shows = fresh-board-holds (lanesOfRecords recs) (file-accepted freshSession a recs z refl (whole header gs c) .0 all .1) in (
       ap (λ (r : RunResult). r .answer) run,
       ap (λ (r : RunResult). r .records) run ∙ ap (λ (n : ℕ). n + 2) given,
       ap (λ (r : RunResult). r .files) run,
@@ -162,7 +173,7 @@ record Rewritten (f : File) (recs : List (List ℕ)) : Type 0 where
   pays : PaymentsWritten (opened f) (map givenBy recs)
   same : writtenRecords (map givenBy recs) ≡ recs
 
-rewrite-all : (f : File) (recs : List (List ℕ)) → Each (IsRight Payment) recs
+rewrite-all : (f : File) (recs : List (List ℕ)) → Each (IsRight (told (f .version)) Payment) recs
     → fileAnswers f (receivedEach recs) ≡ Accepted → Rewritten f recs
 rewrite-all f [] each room = record { pays = tt; same = refl }
 rewrite-all f (rec ∷ recs) each room =
@@ -181,47 +192,52 @@ rewrite-all f (rec ∷ recs) each room =
           ∙ ap (λ (l : List (List ℕ)). rec ∷ l) (rest .same);
     }
 
-module _ (b : Board) (a : List ℕ) (recs : List (List ℕ)) (z : List ℕ) (w : Whole a recs z)
-    (e : AllAccepted (answersOf (closedAt b) (fileOf a recs z))) where
+module _ (s : Session) (a : List ℕ) (recs : List (List ℕ)) (z : List ℕ) (closed : s .opened ≡ false) (w : Whole a recs z)
+    (e : AllAccepted (answersOf s (fileOf a recs z))) where
   abbrev header : List ℕ
   header = joinedOf Header a
 
   abbrev gs : List GivenPayment
   gs = map givenBy recs
 
-  accepted : (fileAnswers freshFile (receivedEach recs) ≡ Accepted) × (postAnswers b (lanesOfRecords recs) ≡ Accepted)
-      × TrueFigures recs z
-  accepted = file-accepted b a recs z w .0 e
+  abbrev start : File
+  start = freshFile (values.versionIn a)
 
-  again : Rewritten freshFile recs
-  again = rewrite-all freshFile recs (w .payments) (accepted .0)
+  accepted : (fileAnswers start (receivedEach recs) ≡ Accepted) × (postAnswers (s .shown) (lanesOfRecords recs) ≡ Accepted)
+      × TrueFigures recs z
+  accepted = file-accepted s a recs z closed w .0 e
+
+  again : Rewritten start recs
+  again = rewrite-all start recs (w .payments) (accepted .0)
 
   head : (headerAnswer freshWriter header recordLength ≡ Accepted) × (headerBytes header ≡ a)
-  head = fields-write-the-header a (w .header .0) (w .header .1)
+  head = let write = fields-write-the-header (headerTerms a) freshWriter a (w .header .0) (w .header .1) refl in (write .0, write .1)
 
-  starts : openedBy header ≡ opened freshFile
-  starts = accepted-takes (headerAnswer freshWriter header recordLength) (opened freshFile) freshWriter (head .0)
+  starts : openedBy header ≡ opened start
+  starts =
+      accepted-takes (headerAnswer freshWriter header recordLength) (opened (freshFile (values.versionIn (headerBytes header)))) freshWriter (head .0)
+      ∙ ap (λ (l : List ℕ). opened (freshFile (values.versionIn l))) (head .1)
 
   pays-all : PaymentsWritten (openedBy header) gs
   pays-all = subst (λ (x : Writer). PaymentsWritten x gs) (sym starts) (again .pays)
 
-  end : writerAfterPayments (openedBy header) gs ≡ opened (record { taken = length recs; total = receivedIn recs })
+  end : writerAfterPayments (openedBy header) gs ≡ opened (record { taken = length recs; total = receivedIn recs; version = start .version })
   end =
-      ap (λ (x : Writer). writerAfterPayments x gs) starts ∙ write-all freshFile gs (again .pays) .leaves
-      ∙ ap (λ (l : List (List ℕ)). opened (fileWithAll freshFile (receivedEach l))) (again .same)
-      ∙ ap opened (holds-all recs)
+      ap (λ (x : Writer). writerAfterPayments x gs) starts ∙ write-all start gs (again .pays) .leaves
+      ∙ ap (λ (l : List (List ℕ)). opened (fileWithAll start (receivedEach l))) (again .same)
+      ∙ ap opened (holds-all (start .version) recs)
 
   tail : (trailerAnswer (writerAfterPayments (openedBy header) gs) recordLength ≡ Accepted)
       × (trailerAfter header gs ≡ z)
   tail =
-      let last = opened (record { taken = length recs; total = receivedIn recs }) in
+      let last = opened (record { taken = length recs; total = receivedIn recs; version = start .version }) in
       let write =
-      fields-write-the-trailer last z (w .trailer .0) (w .trailer .1) refl (accepted .2 .0) (accepted .2 .1) in
+      fields-write-the-trailer (headerTerms a) last z (w .trailer .0) (w .trailer .1) refl (accepted .2 .0) (accepted .2 .1) in
       rw end write
 
 pub fields-write-the-file : FieldsWriteTheFile
-fields-write-the-file b a recs z w e =
-    let again = again b a recs z w e in
-    let tail = tail b a recs z w e in
-    let head = head b a recs z w e in
-    (record { opens = head .0; pays = pays-all b a recs z w e; closes = tail .0 }, rw (head .1, again .same, tail .1))
+fields-write-the-file s a recs z closed w e =
+    let again = again s a recs z closed w e in
+    let tail = tail s a recs z closed w e in
+    let head = head s a recs z closed w e in
+    (record { opens = head .0; pays = pays-all s a recs z closed w e; closes = tail .0 }, rw (tail .1, head .1, again .same))

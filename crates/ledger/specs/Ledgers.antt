@@ -18,7 +18,8 @@ use Rattle.layout.specs.declared.MaybeRecord.the-variants.{Is, Other}
 use Rattle.layout.specs.declared.Record.the-variants.{Header, Payment, Trailer}
 use Rattle.layout.specs.Layouts.{recordLength, namedBy}
 use Rattle.record.specs.Records.{recordAnswer}
-use Rattle.record.specs.Values.{paymentShown, trailerShown}
+use Rattle.kinds.specs.Terms.{Terms, told}
+use Rattle.record.specs.Values.{versionIn, paymentShown, trailerShown}
 use Rattle.file.specs.Files.{mostPayments, mostCentavos, countPlace, totalPlace}
 use Rattle.board.specs.declared.Lane.{Lane}
 use Rattle.board.specs.Lanes.{mostLanes, limit}
@@ -130,12 +131,21 @@ stateAnswer files (some f) (Is Payment) rec = paymentStateAnswer files f rec
 stateAnswer files (some f) (Is Trailer) rec = trailerStateAnswer f rec
 stateAnswer files (some f) Other rec = Accepted
 
+-- the version that a header's own bytes name; a record of the open file is read under that of its header. With no file
+-- open only an A gets this far, which ignores it.
+abbrev pub headerTerms : List ℕ → Terms
+headerTerms a = told (versionIn a)
+
+abbrev pub ledgerTerms : Option Opened → Terms
+ledgerTerms none = told 0
+ledgerTerms (some f) = headerTerms (f .header)
+
 -- taking a record: 1, 9, its own refusals, then the ledger's
 abbrev pub ledgerAnswer : Ledger → List ℕ → Answer
 ledgerAnswer k rec =
     require (eqb (length rec) recordLength) WrongLength 0
     then require (ledgerExpects (k .opened) (namedBy (getD rec 0 0))) NotExpected 1
-    then recordAnswer rec
+    then recordAnswer (ledgerTerms (k .opened)) rec
     then stateAnswer (k .accepted) (k .opened) (namedBy (getD rec 0 0)) rec
 
 -- The ledger that follows.

@@ -6,23 +6,26 @@ use mathlib.Core.Logic.{_↔_}
 use mathlib.Core.Option.{Option, none, some}
 use mathlib.Core.Path.{_≡_}
 use lib.ListN.{length, getD}
+use Rattle.answer.specs.declared.Reason.the-variants.{FixedDiffers}
 use Rattle.answer.specs.declared.Answer.{Answer}
-use Rattle.answer.specs.declared.Answer.the-variants.{Accepted}
+use Rattle.answer.specs.declared.Answer.the-variants.{Accepted, Refused}
 use Rattle.answer.specs.Refusals.{answerNumber, answerPlace}
 use Rattle.answer.specs.Orders.{Each}
 use Rattle.layout.specs.declared.MaybeRecord.the-variants.{Is}
-use Rattle.layout.specs.declared.Record.the-variants.{Trailer}
-use Rattle.layout.specs.Layouts.{namedBy}
+use Rattle.layout.specs.declared.Record.the-variants.{Payment, Trailer}
+use Rattle.layout.specs.Layouts.{recordLength, namedBy, rowAt, versionRow}
+use Rattle.kinds.specs.Terms.{isVersion}
 use Rattle.record.specs.Records.{recordAnswer}
 use Rattle.record.specs.Values.{trailerShown}
+use Rattle.file.specs.Files.{noFile}
 use Rattle.board.specs.declared.Lane.{Lane}
 use Rattle.board.specs.Lanes.{mostLanes, limit, lanesFrom, sumBy, each, issuersOf, Distinct}
 use Rattle.board.specs.Boards.{lanesOf, SoundBoard}
 use Rattle.session.specs.declared.Session.{Session}
-use Rattle.session.specs.Sessions.{freshSession, takeAnswer, takeOf, abandonOf, finishOf}
+use Rattle.session.specs.Sessions.{freshSession, sessionTerms, takeAnswer, takeOf, abandonOf, finishOf}
 use Rattle.ledger.specs.Ledgers.{Opened, Ledger, freshLedger, paymentRecords, openRecords, lanesOfRecords}
 use Rattle.ledger.specs.Ledgers.{receivedIn, ofIssuer, issuersNamed, ledgerAnswer, Step, taking, abandoning}
-use Rattle.ledger.specs.Ledgers.{ledgerAfter, ledgerAnswers}
+use Rattle.ledger.specs.Ledgers.{headerTerms, ledgerTerms, ledgerAfter, ledgerAnswers}
 
 -- The same steps through a session.
 
@@ -53,7 +56,8 @@ shownLanes steps = lanesOf (reached steps .shown)
 abbrev pub acceptedRecords : List Step → List (List ℕ)
 acceptedRecords steps = paymentRecords (ledgerOf steps .accepted)
 
--- The invariant: the board shown has the payments of the accepted files, the working board those of the open file too.
+-- The invariant: the board shown has the payments of the accepted files, the working board those of the open file too;
+-- the session's version is the one that the open file's header names.
 
 abbrev pub isOpen : Option Opened → Bool
 isOpen none = false
@@ -68,6 +72,7 @@ pub record Agrees (s : Session) (k : Ledger) : Type 0 where
   pub work : lanesOf (s .work) ≡ lanesFrom (lanesOfRecords (allRecords k))
   pub taken : s .file .taken ≡ length (openRecords (k .opened))
   pub total : s .file .total ≡ receivedIn (openRecords (k .opened))
+  pub terms : sessionTerms s ≡ ledgerTerms (k .opened)
   pub soundShown : SoundBoard (s .shown)
   pub soundWork : SoundBoard (s .work)
 
@@ -128,11 +133,26 @@ WithinLimits =
 abbrev pub TrueTrailersOnly : Type 0
 TrueTrailersOnly =
     (steps : List Step) (f : Opened) (rec : List ℕ)
-    → ledgerOf steps .opened ≡ some f → recordAnswer rec ≡ Accepted → namedBy (getD rec 0 0) ≡ Is Trailer
+    → ledgerOf steps .opened ≡ some f → recordAnswer (headerTerms (f .header)) rec ≡ Accepted
+    → namedBy (getD rec 0 0) ≡ Is Trailer
     → (takeAnswer (reached steps) rec ≡ Accepted)
     ↔ ((trailerShown rec .count ≡ length (f .payments) + 2) × (trailerShown rec .total ≡ receivedIn (f .payments)))
 
+-- a session with a file open has a version, 4 or 6; one with none open has no version, payments and centavos
+abbrev pub OpenFilesHaveAVersion : Type 0
+OpenFilesHaveAVersion =
+    (steps : List Step)
+    → (reached steps .opened ≡ true → isVersion (reached steps .file .version) ≡ true)
+    × (reached steps .opened ≡ false → reached steps .file ≡ noFile)
+
 -- Promises, of any session, one in an arbitrary state included.
+
+-- in an open file whose version is another number than 4 and 6, every G is refused 10 at the version's place in a header
+abbrev pub PaymentsTakenUnderAVersion : Type 0
+PaymentsTakenUnderAVersion =
+    (s : Session) (rec : List ℕ) → s .opened ≡ true → isVersion (s .file .version) ≡ false
+    → length rec ≡ recordLength → namedBy (getD rec 0 0) ≡ Is Payment
+    → takeAnswer s rec ≡ Refused FixedDiffers (rowAt versionRow .first)
 
 -- a refused record changes nothing
 abbrev pub RefusalKeepsSession : Type 0

@@ -1,5 +1,6 @@
 -- A run over many records against the ledger: what the program `quadro` shows. Assumes nothing.
 use Prim.Native.Nat.{ℕ, _+_}
+use mathlib.Core.Bool.{false}
 use mathlib.Core.List.{List, [], _∷_, _++_, map}
 use mathlib.Core.Path.{_≡_}
 use lib.ListN.{length, take, drop}
@@ -7,9 +8,9 @@ use Rattle.answer.specs.declared.Answer.{Answer}
 use Rattle.answer.specs.declared.Answer.the-variants.{Accepted}
 use Rattle.answer.specs.Orders.{Each}
 use Rattle.layout.specs.Layouts.{recordLength}
-use Rattle.board.specs.declared.Board.{Board}
 use Rattle.board.specs.Boards.{boardWithAll}
 use Rattle.session.specs.declared.RunResult.{RunResult}
+use Rattle.session.specs.declared.Session.{Session}
 use Rattle.session.specs.Sessions.{freshSession, closedAt}
 use Rattle.session.specs.Runs.{piecesOf, runOf}
 use Rattle.ledger.specs.Ledgers.{Ledger, freshLedger, lanesOfRecords, ledgerAnswer, Step, taking, ledgerAnswers}
@@ -40,15 +41,16 @@ abbrev pub PiecesAreTheRecords : Type 0
 PiecesAreTheRecords =
     (recs : List (List ℕ)) → Each (λ (rec : List ℕ). length rec ≡ recordLength) recs → piecesOf (bytesOf recs) ≡ recs
 
--- with no file open, a run over the bytes of a file whose records are all accepted takes them all, and that one file
+-- of any session with no file open: a run over the bytes of a file whose records are all accepted takes them all, and
+-- that one file
 abbrev pub FileBytesRun : Type 0
 FileBytesRun =
-    (b : Board) (a : List ℕ) (recs : List (List ℕ)) (z : List ℕ) → Whole a recs z
-    → AllAccepted (answersOf (closedAt b) (fileOf a recs z))
-    → runOf (closedAt b) (bytesOf (recordsOf a recs z))
+    (s : Session) (a : List ℕ) (recs : List (List ℕ)) (z : List ℕ) → s .opened ≡ false → Whole a recs z
+    → AllAccepted (answersOf s (fileOf a recs z))
+    → runOf s (bytesOf (recordsOf a recs z))
     ≡ record {
       answer = Accepted;
-      session = closedAt (boardWithAll b (lanesOfRecords recs));
+      session = closedAt (boardWithAll (s .shown) (lanesOfRecords recs));
       records = length recs + 2;
       files = 1;
     }

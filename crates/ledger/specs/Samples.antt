@@ -9,7 +9,8 @@ use Rattle.answer.specs.Refusals.{answerNumber, answerPlace}
 use Rattle.decimal.specs.Numbers.{digitsOf}
 use Rattle.barcode.specs.declared.Issuer.{Issuer}
 use Rattle.barcode.specs.Building.{builtOf}
-use Rattle.kinds.specs.Kinds.{version, serviceOf}
+use Rattle.kinds.specs.Terms.{version04, version06}
+use Rattle.kinds.specs.Kinds.{serviceOf}
 use Rattle.board.specs.declared.Tally.{Tally}
 use Rattle.board.specs.declared.Lane.{Lane}
 use Rattle.board.specs.Lanes.{emptyTally}
@@ -22,11 +23,14 @@ use Rattle.ledger.specs.Promises.{answersOf, reached, shownLanes}
 abbrev pub blanks : ℕ → List ℕ
 blanks n = replicate n 32
 
-abbrev pub header : List ℕ
-header =
+abbrev pub headerOf : ℕ → List ℕ
+headerOf version =
     65 ∷ 50 ∷ blanks 40
     ++ (digitsOf 3 1 ++ (blanks 20 ++ (digitsOf 8 20230102 ++ (digitsOf 6 1
-    ++ (version ++ (serviceOf 79 ++ blanks 52))))))
+    ++ (digitsOf 2 version ++ (serviceOf 79 ++ blanks 52))))))
+
+abbrev pub header : List ℕ
+header = headerOf version04
 
 -- the barcode of P4 (SPEC.md, "Samples"), its line without the four box checks, and its issuer
 abbrev pub code : List ℕ
@@ -35,11 +39,15 @@ code = digitsOf 44 81770000000_01093659970_41131079703_00143370831
 abbrev pub sampleIssuer : Issuer
 sampleIssuer = record { segment = 1; number = 3659 }
 
-abbrev pub paymentBy : List ℕ → ℕ → List ℕ
-paymentBy barcode received =
+abbrev pub paymentWith : List ℕ → ℕ → ℕ → ℕ → List ℕ
+paymentWith barcode received capture form =
     71 ∷ blanks 20
     ++ (digitsOf 8 20230102 ++ (digitsOf 8 20230103 ++ (barcode ++ (digitsOf 12 received ++ (digitsOf 7 0
-    ++ (digitsOf 8 1 ++ (blanks 8 ++ (49 ∷ blanks 23 ++ (49 ∷ blanks 9)))))))))
+    ++ (digitsOf 8 1 ++ (blanks 8 ++ (capture ∷ blanks 23 ++ (form ∷ blanks 9)))))))))
+
+-- capture `1` and payment form `1`
+abbrev pub paymentBy : List ℕ → ℕ → List ℕ
+paymentBy barcode received = paymentWith barcode received 49 49
 
 abbrev pub payment : ℕ → List ℕ
 payment received = paymentBy code received
@@ -180,8 +188,32 @@ crowded =
       outcome = nothing (replicate 65 accepted ++ (refused 17 53 ∷ accepted ∷ [])) (refused 19 0);
     }
 
+-- a payment of 1 centavo with these two codes, as bytes
+abbrev pub coded : ℕ → ℕ → Step
+coded capture form = taking (paymentWith code 1 capture form)
+
+-- each header decides for its own file. In a 06 file captures `7`, `9` and `i` and forms `4` and `6` are known, `j` and
+-- form `7` are not, and an A of version 04, refused there, changes nothing. A 06 file that is abandoned leaves no version
+-- behind, and a header that says 05 is refused 10 at 80. In the 04 file after that `7` and `9` are refused, 12 at 117,
+-- and form `4`, 12 at 141, while `f` and form `3` are accepted.
+abbrev pub versions : Sample
+versions =
+    record {
+      steps =
+          taking (headerOf version06) ∷ coded 55 49 ∷ taking (headerOf version04) ∷ coded 57 52 ∷ coded 105 54
+          ∷ coded 106 49 ∷ coded 49 55 ∷ taking (trailer 5 3)
+          ∷ taking (headerOf version06) ∷ abandoning ∷ taking (headerOf 5) ∷ taking (headerOf version04)
+          ∷ coded 55 49 ∷ coded 57 49 ∷ coded 49 52 ∷ coded 102 51 ∷ taking (trailer 3 1) ∷ [];
+      outcome =
+          oneLane
+          (accepted ∷ accepted ∷ refused 9 1 ∷ accepted ∷ accepted ∷ refused 12 117 ∷ refused 12 141 ∷ accepted
+          ∷ accepted ∷ refused 10 80 ∷ accepted
+          ∷ refused 12 117 ∷ refused 12 117 ∷ refused 12 141 ∷ accepted ∷ accepted ∷ [])
+          (tally 4 4);
+    }
+
 abbrev pub samples : List Sample
-samples = worked ∷ past ∷ again ∷ left ∷ astray ∷ empty ∷ ordered ∷ crowded ∷ []
+samples = worked ∷ past ∷ again ∷ left ∷ astray ∷ empty ∷ ordered ∷ crowded ∷ versions ∷ []
 
 -- Promise: each sample has its stated outcome.
 abbrev pub Hold : List Sample → Type 0

@@ -13,24 +13,25 @@ use Rattle.layout.specs.declared.Record.{Record}
 use Rattle.layout.specs.declared.Record.the-variants.{Header, Payment, Trailer}
 use Rattle.layout.specs.Layouts.{namedBy}
 use Rattle.record.specs.Records.{recordAnswer}
-use Rattle.record.specs.Values.{paymentShown, trailerShown}
+use Rattle.kinds.specs.Terms.{Terms}
+use Rattle.record.specs.Values.{versionIn, paymentShown, trailerShown}
 use Rattle.file.specs.Files.{mostPayments, mostCentavos, freshFile, fileAnswers}
-use Rattle.board.specs.declared.Board.{Board}
 use Rattle.board.specs.Lanes.{mostLanes, lanesFrom}
 use Rattle.board.specs.Boards.{postAnswers, boardWithAll}
+use Rattle.session.specs.declared.Session.{Session}
 use Rattle.session.specs.Sessions.{freshSession, closedAt}
-use Rattle.ledger.specs.Ledgers.{Filed, lanesOfRecords, receivedIn, Step, taking}
+use Rattle.ledger.specs.Ledgers.{Filed, lanesOfRecords, receivedIn, headerTerms, Step, taking}
 use Rattle.ledger.specs.Promises.{sessionAfter, answersOf, reached, ledgerOf, shownLanes}
 
--- a record of this kind that is accepted by itself
-abbrev pub IsRight : Record → List ℕ → Type 0
-IsRight r rec = (recordAnswer rec ≡ Accepted) × (namedBy (getD rec 0 0) ≡ Is r)
+-- a record of this kind that is accepted by itself, under these terms
+abbrev pub IsRight : Terms → Record → List ℕ → Type 0
+IsRight t r rec = (recordAnswer t rec ≡ Accepted) × (namedBy (getD rec 0 0) ≡ Is r)
 
--- a file: A, its payments, Z
+-- a file: A, its payments, Z, each right under the version that the header names
 pub record Whole (a : List ℕ) (recs : List (List ℕ)) (z : List ℕ) : Type 0 where
-  pub header : IsRight Header a
-  pub payments : Each (IsRight Payment) recs
-  pub trailer : IsRight Trailer z
+  pub header : IsRight (headerTerms a) Header a
+  pub payments : Each (IsRight (headerTerms a) Payment) recs
+  pub trailer : IsRight (headerTerms a) Trailer z
 
 abbrev pub fileOf : List ℕ → List (List ℕ) → List ℕ → List Step
 fileOf a recs z = taking a ∷ (map taking recs ++ (taking z ∷ []))
@@ -47,20 +48,27 @@ AllAccepted answers = Each (λ (a : Answer). a ≡ Accepted) answers
 
 -- Promises.
 
--- with no file open: a file is accepted exactly if none of its payments is refused 15 to 18 and its trailer is true;
--- the board then has them all
+-- of any session with no file open: a file is accepted exactly if none of its payments is refused 15 to 18 and its
+-- trailer is true; the board then has them all
 abbrev pub FileAccepted : Type 0
 FileAccepted =
-    (b : Board) (a : List ℕ) (recs : List (List ℕ)) (z : List ℕ) → Whole a recs z
-    → AllAccepted (answersOf (closedAt b) (fileOf a recs z))
-    ↔ ((fileAnswers freshFile (receivedEach recs) ≡ Accepted) × (postAnswers b (lanesOfRecords recs) ≡ Accepted)
-    × TrueFigures recs z)
+    (s : Session) (a : List ℕ) (recs : List (List ℕ)) (z : List ℕ) → s .opened ≡ false → Whole a recs z
+    → AllAccepted (answersOf s (fileOf a recs z))
+    ↔ ((fileAnswers (freshFile (versionIn a)) (receivedEach recs) ≡ Accepted)
+    × (postAnswers (s .shown) (lanesOfRecords recs) ≡ Accepted) × TrueFigures recs z)
 
 abbrev pub FilePosted : Type 0
 FilePosted =
-    (b : Board) (a : List ℕ) (recs : List (List ℕ)) (z : List ℕ) → Whole a recs z
-    → AllAccepted (answersOf (closedAt b) (fileOf a recs z))
-    → sessionAfter (closedAt b) (fileOf a recs z) ≡ closedAt (boardWithAll b (lanesOfRecords recs))
+    (s : Session) (a : List ℕ) (recs : List (List ℕ)) (z : List ℕ) → s .opened ≡ false → Whole a recs z
+    → AllAccepted (answersOf s (fileOf a recs z))
+    → sessionAfter s (fileOf a recs z) ≡ closedAt (boardWithAll (s .shown) (lanesOfRecords recs))
+
+-- of any session with no file open: an A, Gs and a Z that are all accepted are right under the version that the A names
+abbrev pub AcceptedFileIsWhole : Type 0
+AcceptedFileIsWhole =
+    (s : Session) (a : List ℕ) (recs : List (List ℕ)) (z : List ℕ) → s .opened ≡ false
+    → Each (λ (rec : List ℕ). namedBy (getD rec 0 0) ≡ Is Payment) recs → namedBy (getD z 0 0) ≡ Is Trailer
+    → AllAccepted (answersOf s (fileOf a recs z)) → Whole a recs z
 
 -- a fresh session accepts a file exactly if it is within its limits, names at most 64 issuers and its trailer is true
 abbrev pub FreshSessionAccepts : Type 0

@@ -1,5 +1,6 @@
 -- A file that the writer closed, as a fresh session takes it. Assumes nothing.
 use Prim.Native.Nat.{ℕ, _+_, _≤_}
+use mathlib.Core.Bool.{false}
 use mathlib.Core.List.{List, [], _∷_, map}
 use mathlib.Core.Path.{_≡_}
 use lib.ListN.{length}
@@ -7,10 +8,10 @@ use Rattle.answer.specs.declared.Answer.the-variants.{Accepted}
 use Rattle.layout.specs.declared.Record.the-variants.{Header, Payment}
 use Rattle.layout.specs.Layouts.{recordLength, joinedOf}
 use Rattle.record.specs.Values as values
-use Rattle.board.specs.declared.Board.{Board}
 use Rattle.board.specs.Lanes.{mostLanes, lanesFrom}
 use Rattle.board.specs.Boards.{lanesOf}
-use Rattle.session.specs.Sessions.{freshSession, closedAt}
+use Rattle.session.specs.declared.Session.{Session}
+use Rattle.session.specs.Sessions.{freshSession}
 use Rattle.session.specs.Runs.{runOf}
 use Rattle.writer.specs.declared.Writer.{Writer}
 use Rattle.writer.specs.Writers.{freshWriter, headerAnswer, headerWritten, headerBytes, paymentAnswer, paymentWritten}
@@ -101,10 +102,11 @@ ClosedFileBytesRun =
     (r .answer ≡ Accepted) × (r .records ≡ length gs + 2) × (r .files ≡ 1)
     × (lanesOf (r .session .shown) ≡ lanesFrom (lanesOfRecords (writtenRecords gs)))
 
--- the fields of a file that a session accepted, given to a fresh writer, are that file again, its trailer too
+-- the fields of a file that a session with no file open accepted, given to a fresh writer, are that file again, its
+-- version and its trailer too
 abbrev pub FieldsWriteTheFile : Type 0
 FieldsWriteTheFile =
-    (b : Board) (a : List ℕ) (recs : List (List ℕ)) (z : List ℕ) → Whole a recs z
-    → AllAccepted (answersOf (closedAt b) (fileOf a recs z))
+    (s : Session) (a : List ℕ) (recs : List (List ℕ)) (z : List ℕ) → s .opened ≡ false → Whole a recs z
+    → AllAccepted (answersOf s (fileOf a recs z))
     → Closed (joinedOf Header a) (map givenBy recs)
     × (writtenFile (joinedOf Header a) (map givenBy recs) ≡ fileOf a recs z)

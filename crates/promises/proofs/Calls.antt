@@ -17,26 +17,31 @@ use Rattle.decimal.specs.Numbers.{valueOf, digitsOf}
 use Rattle.calendar.specs.Dates.{isLeap, daysIn, isDate, dateOf}
 use Rattle.layout.specs.declared.Record.{Record}
 use Rattle.layout.specs.declared.Record.the-variants.{Header, Payment, Trailer}
-use Rattle.layout.specs.Layouts.{recordLength, givenLength, layoutOf, joinedOf}
-use Rattle.kinds.specs.Kinds.{isService, kindAnswer}
+use Rattle.layout.specs.Layouts.{recordLength, namedBy, givenLength, layoutOf, joinedOf}
+use Rattle.layout.proofs.Layouts.{mark-names}
+use Rattle.kinds.specs.Terms.{isVersion, termsAnswer}
+use Rattle.kinds.specs.Kinds.{isVersionText, isService, dateAnswer, kindAnswer}
+use Rattle.record.specs.Values.{versionIn}
+use Rattle.record.proofs.Shown.{headers-name-a-version}
 use Rattle.fields.specs.Making.{writtenAnswer, makeAnswer}
 use Rattle.file.specs.Files.{freshFile, fileAnswer, fileWith, figuresOf, closingAnswer}
 use Rattle.session.specs.Sessions.{freshSession}
 use Rattle.writer.specs.declared.Stage.{Stage}
 use Rattle.writer.specs.declared.Stage.the-variants as stage
 use Rattle.writer.specs.declared.Writer.{Writer}
-use Rattle.writer.specs.Writers.{freshWriter, writerExpects, callAnswer, headerAnswer, headerBytes, paymentAnswer}
+use Rattle.writer.specs.Writers.{freshWriter, writerTerms, writerExpects, callAnswer, headerAnswer, headerBytes, paymentAnswer}
 use Rattle.writer.specs.Writers.{paymentWritten, countBytes, trailerAnswer, trailerBytes}
 use Rattle.writer.proofs.Calls.{call-size}
+use Rattle.writer.proofs.Written.{first-byte, written-is-accepted}
 use Rattle.ledger.specs.Ledgers.{Step, taking}
 use Rattle.ledger.specs.Promises.{answersOf}
 use Rattle.ledger.specs.Samples as ledger
 use Rattle.ledger.specs.WholeFiles.{AllAccepted}
 use Rattle.ledger.specs.WrittenFiles as files
 use Rattle.ledger.specs.WrittenFiles.{GivenPayment, recordOf, writtenRecords, PaymentsWritten, openedBy, Closed, trailerAfter}
-use Rattle.ledger.proofs.WrittenFiles.{closed-file-is-accepted}
+use Rattle.ledger.proofs.WrittenFiles.{closed-file-is-whole, closed-file-is-accepted}
 use Rattle.promises.specs.Calls.{WriterCall, header, payment, trailer, answerTo, nextWriter, writes, writerAfterCalls}
-use Rattle.promises.specs.Calls.{recordsWritten, OneFile, CallsMakeOneFile, headerAlone, HeaderAloneIsNoFile}
+use Rattle.promises.specs.Calls.{recordsWritten, OneFile, CallsMakeOneFile, OpenWritersHaveAVersion, headerAlone, HeaderAloneIsNoFile}
 
 -- An accepted call was expected, and its buffer has a record's length.
 
@@ -66,12 +71,12 @@ through w r given size rest e =
 expected :
     (w : Writer) (call : WriterCall) → answerTo w call ≡ Accepted
     → (sizeOf call ≡ recordLength) × (writerExpects (w .stage) (kindOf call) ≡ true)
-expected w (header given size) e = through w Header (length given) size (makeAnswer Header given (0 ∷ 0 ∷ []) size) e
+expected w (header given size) e = through w Header (length given) size (makeAnswer (writerTerms w) Header given (0 ∷ 0 ∷ []) size) e
 expected w (payment g size) e =
-    let made = makeAnswer Payment (g .fields) (g .received ∷ g .tariff ∷ []) recordLength in
+    let made = makeAnswer (writerTerms w) Payment (g .fields) (g .received ∷ g .tariff ∷ []) recordLength in
     through w Payment (length (g .fields)) size (made then fileAnswer (w .file) (g .received)) e
 expected w (trailer size) e =
-    let made = makeAnswer Trailer (countBytes w) (figuresOf (w .file) .total ∷ 0 ∷ []) size in
+    let made = makeAnswer (writerTerms w) Trailer (countBytes w) (figuresOf (w .file) .total ∷ 0 ∷ []) size in
     through w Trailer (givenLength Trailer) size (closingAnswer (w .file) then made) e
 
 -- A payment more at the end of those written.
@@ -106,7 +111,7 @@ data State (w : Writer) (recs : List (List ℕ)) : Type 0 where
       → recs ≡ headerBytes h ∷ (writtenRecords gs ++ (trailerAfter h gs ∷ [])) → State w recs
 
 abbrev next : Writer → WriterCall → Writer
-next w (header given size) = record { stage = stage.Open; file = freshFile }
+next w (header given size) = record { stage = stage.Open; file = freshFile (versionIn (headerBytes given)) }
 next w (payment g size) = record { stage = w .stage; file = fileWith (w .file) (g .received) }
 next w (trailer size) = record { stage = stage.Closed; file = w .file }
 
@@ -123,7 +128,7 @@ moves :
     → State (next w call) (recs ++ (writes w call ∷ []))
 moves w recs (header given size) (fresh p q) e =
     let d = expected w (header given size) e .0 in
-    let o : Writer = record { stage = stage.Open; file = freshFile } in
+    let o : Writer = record { stage = stage.Open; file = freshFile (versionIn (headerBytes given)) } in
     let a : headerAnswer freshWriter given recordLength ≡ Accepted =
     ap (λ (v : Writer). headerAnswer v given recordLength) (sym p) ∙ ap (headerAnswer w given) (sym d) ∙ e in
     writing given [] refl a tt (sym (accepted-takes (headerAnswer freshWriter given recordLength) o freshWriter a))
@@ -198,6 +203,7 @@ one-file calls w p (ended h gs o c r) =
       payments = gs;
       closed = c;
       records = r;
+      whole = closed-file-is-whole h gs c .0;
       accepted = λ few.
           let whole = closed-file-is-accepted h gs c few .0 in
           subst (λ (taken : List Step). AllAccepted (answersOf freshSession taken)) (sym steps) whole;
@@ -207,12 +213,44 @@ pub calls-make-one-file : CallsMakeOneFile
 calls-make-one-file calls p =
     one-file calls (writerAfterCalls freshWriter calls) p (reached freshWriter [] calls (fresh refl refl))
 
+-- If it is open: its version is that of the header it wrote.
+
+kept-version : (a : Answer) (w : Writer) (received : ℕ)
+    → ifAccepted a (record { stage = w .stage; file = fileWith (w .file) received }) w .file .version ≡ w .file .version
+kept-version Accepted w received = refl
+kept-version (Refused why place) w received = refl
+
+payments-keep-version : (gs : List GivenPayment) (w : Writer) → files.writerAfterPayments w gs .file .version ≡ w .file .version
+payments-keep-version [] w = refl
+payments-keep-version (g ∷ gs) w =
+    payments-keep-version gs (paymentWritten w (g .fields) (g .received) (g .tariff) recordLength .writer)
+    ∙ kept-version (paymentAnswer w (g .fields) (g .received) (g .tariff) recordLength) w (g .received)
+
+header-version : (h : List ℕ) → headerAnswer freshWriter h recordLength ≡ Accepted → isVersion (openedBy h .file .version) ≡ true
+header-version h a =
+    let t = writerTerms freshWriter in
+    let made =
+    then-accepts (callAnswer freshWriter Header (length h) recordLength) (makeAnswer t Header h (0 ∷ 0 ∷ []) recordLength) .0 a .1 in
+    let accepted = written-is-accepted t Header h (0 ∷ 0 ∷ []) recordLength made .0 in
+    let named = ap namedBy (first-byte Header h (0 ∷ 0 ∷ [])) ∙ mark-names Header .0 in
+    rw a (headers-name-a-version t (headerBytes h) accepted named)
+
+open-version : (w : Writer) (recs : List (List ℕ)) → State w recs → w .stage ≡ stage.Open → isVersion (w .file .version) ≡ true
+open-version w recs (fresh p q) o = absurd (never (ap (λ (s : Stage). writerExpects s Trailer) (sym (ap stageOf p) ∙ o)))
+open-version w recs (writing h gs s a p l q) o =
+    ap (λ (v : Writer). isVersion (v .file .version)) l ∙ ap isVersion (payments-keep-version gs (openedBy h)) ∙ header-version h a
+open-version w recs (ended h gs s c q) o = absurd (never (ap (λ (x : Stage). writerExpects x Trailer) (sym s ∙ o)))
+
+pub open-writers-have-a-version : OpenWritersHaveAVersion
+open-writers-have-a-version calls o =
+    open-version (writerAfterCalls freshWriter calls) (recordsWritten freshWriter calls) (reached freshWriter [] calls (fresh refl refl)) o
+
 -- A header alone: one record, and a file has two.
 
 header-alone :
     (writerAfterCalls freshWriter headerAlone .stage ≡ stage.Open)
     × (recordsWritten freshWriter headerAlone ≡ headerBytes (joinedOf Header ledger.header) ∷ [])
-unfolding makeAnswer writtenAnswer kindAnswer isService layoutOf givenLength
+unfolding makeAnswer termsAnswer writtenAnswer kindAnswer isVersionText isService dateAnswer layoutOf givenLength
     dateOf isDate daysIn isLeap digitsOf valueOf isOf
 header-alone = (refl, refl)
 

@@ -10,10 +10,15 @@ use Rattle.line.proofs.RoundTrips.{only-seven-behind-boxes, decoded-line-answer
 use Rattle.line.proofs.RoundTrips.{code-to-line-and-back, line-to-code-and-back, line-is-its-fields}
 use Rattle.layout.proofs.Layouts.{fields-cover, record-is-its-fields, mark-names, given-lengths}
 use Rattle.record.proofs.Shown.{decode-answers, right-fields-are-accepted, fields-are-their-places}
+use Rattle.record.proofs.Shown.{headers-name-a-version, other-records-ignore-terms}
+use Rattle.record.proofs.Shown.{payments-need-a-version, four-is-within-six}
+use Rattle.kinds.proofs.VersionLaws.{versions-are-two-texts, other-kinds-ignore-terms}
 use Rattle.fields.proofs.Trips.{fields-make-the-record, made-is-accepted}
+use Rattle.fields.proofs.Ignored.{other-joins-ignore-terms, other-makes-ignore-terms, payments-join-under-a-version}
 use Rattle.file.proofs.Files.{one-right-trailer}
 use Rattle.board.proofs.Lanes.{past-thirty-two-bits}
 use Rattle.writer.proofs.Written.{fields-write-the-header, fields-write-the-payment, written-is-accepted}
+use Rattle.writer.proofs.Written.{payments-written-under-a-version}
 use Rattle.writer.proofs.Trailers.{fields-write-the-trailer}
 use Rattle.writer.proofs.Amounts.{written-amounts-are-read, trailer-shows-the-figures}
 use Rattle.page.proofs.Fits.{page-fits}
@@ -30,22 +35,22 @@ use Rattle.ledger.proofs.Records.{limits-are-the-boards}
 use Rattle.ledger.proofs.Agreement.{session-agrees, answers-are-the-ledgers, next-answer-is-the-ledgers}
 use Rattle.ledger.proofs.Sessions.{true-trailers-only, only-trailers-show, nothing-shows-before, trailers-show-all}
 use Rattle.ledger.proofs.Sessions.{abandon-keeps-board, abandon-drops-file, abandon-nothing}
-use Rattle.ledger.proofs.Sessions.{finish-answers, finish-keeps-session}
+use Rattle.ledger.proofs.Sessions.{finish-answers, finish-keeps-session, payments-taken-under-a-version}
 use Rattle.ledger.proofs.Shown.{lanes-are-the-payments, lanes-in-order, each-lane-is-exact, no-issuer-has-two-lanes}
 use Rattle.ledger.proofs.Shown.{sums-are-the-records, totals-are-the-records, within-limits}
 use Rattle.session.proofs.Runs.{run-is-its-takes}
 use Rattle.ledger.proofs.Runs.{run-is-the-ledgers}
 use Rattle.ledger.proofs.Calls.{calls-agree, replies-are-the-ledgers, calls-are-steps}
-use Rattle.ledger.proofs.LedgerFiles.{ledger-files-are-whole}
+use Rattle.ledger.proofs.LedgerFiles.{ledger-files-are-whole, open-files-have-a-version}
 use Rattle.ledger.proofs.FileBytes.{file-bytes-run}
 use Rattle.ledger.proofs.WrittenFiles.{closed-file-bytes-run}
-use Rattle.ledger.proofs.WholeFiles.{file-accepted, file-posted, fresh-session-accepts, fresh-session-shows}
+use Rattle.ledger.proofs.WholeFiles.{file-accepted, file-posted, accepted-file-is-whole, fresh-session-accepts, fresh-session-shows}
 use Rattle.ledger.proofs.WrittenFiles.{closed-file-is-whole, closed-file-is-accepted, fields-write-the-file}
 use Rattle.day.proofs.Buffers.{buffers-are-one-run}
 use Rattle.day.proofs.Inputs.{buffers-print-one-page}
 use Rattle.day.proofs.Samples.{worked-input, open-input, refused-input}
 use Rattle.promises.specs.Demands.{Demand1, Demand2, Demand3, Promised}
-use Rattle.promises.proofs.Calls.{calls-make-one-file}
+use Rattle.promises.proofs.Calls.{calls-make-one-file, open-writers-have-a-version}
 use Rattle.promises.proofs.OneOutcome.{one-outcome}
 use Rattle.promises.proofs.Refusals.{refusals-change-nothing}
 use Rattle.promises.proofs.Samples.{samples-hold, p5-is-an-exchange, p6-is-a-change, p9-is-a-change}
@@ -73,6 +78,25 @@ pub demand-2 : Demand2
 demand-2 =
     record {
       table = (fields-cover, record-is-its-fields, mark-names, given-lengths);
+      versions = (
+        versions-are-two-texts,
+        headers-name-a-version,
+        four-is-within-six,
+        open-files-have-a-version,
+        open-writers-have-a-version,
+      );
+      ignored = (
+        other-kinds-ignore-terms,
+        other-records-ignore-terms,
+        other-joins-ignore-terms,
+        other-makes-ignore-terms,
+      );
+      needed = (
+        payments-need-a-version,
+        payments-join-under-a-version,
+        payments-taken-under-a-version,
+        payments-written-under-a-version,
+      );
       codes = (decoded-answers, fields-are-its-places, built-is-read);
       lines = (decoded-line-answers, line-is-boxes-and-code, fields-give-a-line);
       records = (
@@ -93,7 +117,7 @@ demand-2 =
       );
       filesBack = fields-write-the-file;
       trailers = (one-right-trailer, true-trailers-only, ledger-files-are-whole);
-      files = (file-accepted, file-posted, fresh-session-accepts, fresh-session-shows);
+      files = (file-accepted, file-posted, accepted-file-is-whole, fresh-session-accepts, fresh-session-shows);
       written = (
         closed-file-is-whole,
         closed-file-is-accepted,

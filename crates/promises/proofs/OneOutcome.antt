@@ -116,7 +116,7 @@ of-record : outcomes.RecordOutcomes
 of-record = search value
 
 of-fields : outcomes.FieldsOutcomes
-of-fields = search (answered 1 0, answered 4 0)
+of-fields = search (answered 2 0, answered 5 0)
 
 of-file : outcomes.FileOutcomes
 of-file = search value

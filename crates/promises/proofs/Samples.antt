@@ -15,7 +15,8 @@ use Rattle.modulus.specs.Checks.{addedBy, termOf, digitOfRemainder, exchanged, 
 use Rattle.barcode.specs.Codes.{firstThreeAnswer, generalRight}
 use Rattle.line.specs.Lines.{boxRight, lineAnswer}
 use Rattle.layout.specs.Layouts.{namedBy, layoutOf, table, rowAt}
-use Rattle.kinds.specs.Kinds.{isService, isCapture, isForm, kindAnswer}
+use Rattle.kinds.specs.Terms.{termsAnswer}
+use Rattle.kinds.specs.Kinds.{isVersionText, isService, dateAnswer, isCapture, isForm, kindAnswer}
 use Rattle.record.specs.Records.{fieldAnswer, recordAnswer}
 use Rattle.file.specs.Files.{fileAnswer, figuresAnswer}
 use Rattle.board.specs.Lanes.{fits}
@@ -42,7 +43,7 @@ each-row {A} {B} f g (x ∷ xs) p = (ap (headOr (f x)) p, each-row f g xs (ap re
     rest (y ∷ ys) = ys
 
 all-rows : map (λ (row : Row). outcomeOf (row .question)) samples ≡ map (λ (row : Row). row .outcome) samples
-unfolding recordAnswer fieldAnswer kindAnswer isService isCapture isForm namedBy layoutOf table rowAt
+unfolding recordAnswer termsAnswer fieldAnswer kindAnswer isVersionText isService dateAnswer isCapture isForm namedBy layoutOf table rowAt
     figuresAnswer fileAnswer fits ownOf usedAfter slotAnswer firstThreeAnswer generalRight boxRight
     termOf addedBy digitOfRemainder dateOf isDate daysIn isLeap digitsOf valueOf isOf
 all-rows = refl

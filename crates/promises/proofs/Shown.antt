@@ -3,11 +3,12 @@ use mathlib.Core.Path.{refl}
 use Rattle.decimal.specs.Bytes.{isOf}
 use Rattle.decimal.specs.Numbers.{valueOf, digitsOf}
 use Rattle.layout.specs.Layouts.{layoutOf, table, rowAt}
+use Rattle.kinds.specs.Terms.{termsAnswer}
 use Rattle.promises.specs.Shown.{RefusalsPointAtPlaces, RecordsShowTheirPlaces, TariffIsBehindReceived}
 
 pub refusals-point-at-places : RefusalsPointAtPlaces
-unfolding rowAt table layoutOf
-refusals-point-at-places = (refl, refl, refl, refl)
+unfolding rowAt table layoutOf termsAnswer
+refusals-point-at-places = (refl, refl, refl, refl, λ version none. rw none)
 
 pub records-show-their-places : RecordsShowTheirPlaces
 unfolding rowAt table layoutOf

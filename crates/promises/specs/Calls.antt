@@ -1,6 +1,7 @@
 -- A file that the writer closed (SPEC.md, "Writer"): over every list of calls to a new writer, refused ones in between.
 -- Assumes nothing.
 use Prim.Native.Nat.{ℕ, _≤_}
+use mathlib.Core.Bool.{true}
 use mathlib.Core.List.{List, [], _∷_, _++_, map}
 use mathlib.Core.Path.{_≡_}
 use lib.ListN.{length}
@@ -8,6 +9,7 @@ use Rattle.answer.specs.declared.Answer.{Answer}
 use Rattle.answer.specs.Orders.{ifAccepted}
 use Rattle.layout.specs.declared.Record.the-variants.{Header}
 use Rattle.layout.specs.Layouts.{recordLength, joinedOf}
+use Rattle.kinds.specs.Terms.{isVersion}
 use Rattle.board.specs.Lanes.{mostLanes, lanesFrom}
 use Rattle.session.specs.Sessions.{freshSession}
 use Rattle.writer.specs.declared.Stage.the-variants as stage
@@ -17,7 +19,7 @@ use Rattle.writer.specs.Writers.{trailerAnswer, trailerWritten, trailerBytes}
 use Rattle.ledger.specs.Ledgers.{taking, lanesOfRecords}
 use Rattle.ledger.specs.Promises.{answersOf}
 use Rattle.ledger.specs.Samples as ledger
-use Rattle.ledger.specs.WholeFiles.{AllAccepted}
+use Rattle.ledger.specs.WholeFiles.{Whole, AllAccepted}
 use Rattle.ledger.specs.WrittenFiles.{GivenPayment, recordOf, writtenRecords, Closed, trailerAfter}
 
 -- a call, with its arguments and the length of the caller's buffer for its record
@@ -52,8 +54,8 @@ recordsWritten w [] = []
 recordsWritten w (call ∷ calls) =
     ifAccepted (answerTo w call) (writes w call ∷ []) [] ++ recordsWritten (nextWriter w call) calls
 
--- the calls wrote one file, with a header, payments and the right trailer; a fresh session accepts it, unless it has
--- more than 64 issuers
+-- the calls wrote one file, with a header, payments that are right under the version it names, and the right trailer; a
+-- fresh session accepts it, unless it has more than 64 issuers
 pub record OneFile (calls : List WriterCall) : Type 0 where
   pub heading : List ℕ
   pub payments : List GivenPayment
@@ -61,6 +63,7 @@ pub record OneFile (calls : List WriterCall) : Type 0 where
   pub records :
       recordsWritten freshWriter calls
       ≡ headerBytes heading ∷ (writtenRecords payments ++ (trailerAfter heading payments ∷ []))
+  pub whole : Whole (headerBytes heading) (writtenRecords payments) (trailerAfter heading payments)
   pub accepted :
       length (lanesFrom (lanesOfRecords (writtenRecords payments))) ≤ mostLanes
       → AllAccepted (answersOf freshSession (map taking (recordsWritten freshWriter calls)))
@@ -68,6 +71,13 @@ pub record OneFile (calls : List WriterCall) : Type 0 where
 -- Promise: calls after which the writer is closed wrote one file.
 abbrev pub CallsMakeOneFile : Type 0
 CallsMakeOneFile = (calls : List WriterCall) → writerAfterCalls freshWriter calls .stage ≡ stage.Closed → OneFile calls
+
+-- Promise: calls after which the writer is open leave it with a version, 4 or 6.
+abbrev pub OpenWritersHaveAVersion : Type 0
+OpenWritersHaveAVersion =
+    (calls : List WriterCall)
+    → let w = writerAfterCalls freshWriter calls in
+    w .stage ≡ stage.Open → isVersion (w .file .version) ≡ true
 
 -- one call: the header of the samples
 abbrev pub headerAlone : List WriterCall

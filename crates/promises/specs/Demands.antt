@@ -12,11 +12,15 @@ use Rattle.line.specs.RoundTrips.{CodeToLineAndBack, LineToCodeAndBack, LineIsI
 use Rattle.layout.specs.declared.Field.{Field}
 use Rattle.layout.specs.Layouts.{FieldsCover, RecordIsItsFields, MarkNames, GivenLengths}
 use Rattle.record.specs.Promises.{DecodeAnswers, RightFieldsAreAccepted, FieldsAreTheirPlaces}
+use Rattle.kinds.specs.Kinds.{VersionsAreTwoTexts, OtherKindsIgnoreTerms}
+use Rattle.record.specs.Promises.{HeadersNameAVersion, OtherRecordsIgnoreTerms, PaymentsNeedAVersion, FourIsWithinSix}
 use Rattle.fields.specs.Promises.{FieldsMakeTheRecord, MadeIsAccepted}
+use Rattle.fields.specs.Promises.{OtherJoinsIgnoreTerms, OtherMakesIgnoreTerms, PaymentsJoinUnderAVersion}
 use Rattle.file.specs.Files.{OneRightTrailer}
 use Rattle.board.specs.Lanes.{PastThirtyTwoBits}
 use Rattle.writer.specs.Promises.{FieldsWriteTheHeader, FieldsWriteThePayment, FieldsWriteTheTrailer}
 use Rattle.writer.specs.Promises.{WrittenAmountsAreRead, WrittenIsAccepted, TrailerShowsTheFigures}
+use Rattle.writer.specs.Promises.{PaymentsWrittenUnderAVersion}
 use Rattle.page.specs.Pages.{PrintedHolds}
 use Rattle.page.specs.Fits.{PageFits}
 use Rattle.page.specs.Plain.{ShownReadsBack}
@@ -30,16 +34,17 @@ use Rattle.ledger.specs.Promises.{SumsAreTheRecords, TotalsAreTheRecords, Withi
 use Rattle.ledger.specs.Promises.{OnlyTrailersShow, NothingShowsBefore, TrailersShowAll}
 use Rattle.ledger.specs.Promises.{AbandonKeepsBoard, AbandonDropsFile, AbandonNothing}
 use Rattle.ledger.specs.Promises.{FinishAnswers, FinishKeepsSession}
+use Rattle.ledger.specs.Promises.{OpenFilesHaveAVersion, PaymentsTakenUnderAVersion}
 use Rattle.session.specs.Runs.{RunIsItsTakes}
 use Rattle.ledger.specs.Runs.{RunIsTheLedgers, FileBytesRun}
 use Rattle.ledger.specs.Calls.{CallsAgree, RepliesAreTheLedgers, CallsAreSteps}
 use Rattle.ledger.specs.WholeFiles.{LedgerFilesAreWhole}
-use Rattle.ledger.specs.WholeFiles.{FileAccepted, FilePosted, FreshSessionAccepts, FreshSessionShows}
+use Rattle.ledger.specs.WholeFiles.{FileAccepted, FilePosted, AcceptedFileIsWhole, FreshSessionAccepts, FreshSessionShows}
 use Rattle.ledger.specs.WrittenFiles.{ClosedFileIsWhole, ClosedFileIsAccepted, ClosedFileBytesRun, FieldsWriteTheFile}
 use Rattle.day.specs.Days.{BuffersAreOneRun}
 use Rattle.day.specs.Inputs.{BuffersPrintOnePage}
 use Rattle.day.specs.Samples.{WorkedInput, OpenInput, RefusedInput}
-use Rattle.promises.specs.Calls.{CallsMakeOneFile}
+use Rattle.promises.specs.Calls.{CallsMakeOneFile, OpenWritersHaveAVersion}
 use Rattle.promises.specs.OneOutcome.{OneOutcome}
 use Rattle.promises.specs.Refusals.{RefusalsChangeNothing}
 use Rattle.promises.specs.Samples.{samples, Hold, P5IsAnExchange, P6IsAChange, P9IsAChange, BoxAloneIsRefused}
@@ -66,9 +71,17 @@ pub record Demand1 : Type 2 where
   -- after a run of many records they are what the accepted records before the refusal left
   pub running : RunIsItsTakes
 
--- "It agrees with the FEBRABAN layout, version 04."
+-- "It agrees with the FEBRABAN layout," the version the header names. A statement about a record is under any terms, one
+-- about a file under the version of its own header's bytes: each covers 04 and 06.
 pub record Demand2 : Type 0 where
   pub table : FieldsCover × RecordIsItsFields × MarkNames × GivenLengths
+  pub versions :
+      VersionsAreTwoTexts × HeadersNameAVersion × FourIsWithinSix × OpenFilesHaveAVersion × OpenWritersHaveAVersion
+  -- only payments depend on it, by their two codes,
+  pub ignored : OtherKindsIgnoreTerms × OtherRecordsIgnoreTerms × OtherJoinsIgnoreTerms × OtherMakesIgnoreTerms
+  -- and they need one,
+  pub needed :
+      PaymentsNeedAVersion × PaymentsJoinUnderAVersion × PaymentsTakenUnderAVersion × PaymentsWrittenUnderAVersion
   -- "Lines, barcodes and records decode to their fields,"
   pub codes : DecodedAnswers × FieldsAreItsPlaces × BuiltIsRead
   pub lines : DecodedLineAnswers × LineIsBoxesAndCode × FieldsGiveALine
@@ -82,7 +95,7 @@ pub record Demand2 : Type 0 where
   pub filesBack : FieldsWriteTheFile
   -- "A file is accepted only if its trailer's count and total are the true ones,"
   pub trailers : OneRightTrailer × TrueTrailersOnly × LedgerFilesAreWhole
-  pub files : FileAccepted × FilePosted × FreshSessionAccepts × FreshSessionShows
+  pub files : FileAccepted × FilePosted × AcceptedFileIsWhole × FreshSessionAccepts × FreshSessionShows
   pub written :
       ClosedFileIsWhole × ClosedFileIsAccepted × CallsMakeOneFile × WrittenIsAccepted × TrailerShowsTheFigures
   -- also as bytes, run at once,

@@ -102,6 +102,7 @@ pub record KindsOutcomes : Type 2 where
   pub kinds·service : One kinds.service.ended (λ M. kinds.service.clauses)
   pub kinds·is_capture : One kinds.is_capture.ended (λ M. kinds.is_capture.clauses)
   pub kinds·is_form : One kinds.is_form.ended (λ M. kinds.is_form.clauses)
+  pub kinds·check_version : One kinds.check_version.ended (λ M. kinds.check_version.clauses)
   pub kinds·byte_at : One kinds.byte_at.ended (λ M. kinds.byte_at.clauses)
 
 pub record RecordOutcomes : Type 2 where

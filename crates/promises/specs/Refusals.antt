@@ -93,10 +93,10 @@ pub record RefusalsChangeNothing : Type 2 where
       (λ κs. second) (λ κs given. second)
   pub fields·join :
       KeepsBuffer fields.join.ended (λ M. fields.join.clauses) (λ κs r. r ≡ Accepted)
-      (λ κs. second) (λ κs given. second)
+      (λ κs. third) (λ κs given. third)
   pub fields·make :
       KeepsBuffer fields.make.ended (λ M. fields.make.clauses) (λ κs r. r ≡ Accepted)
-      (λ κs. fifth) (λ κs given. fifth)
+      (λ κs. sixth) (λ κs given. sixth)
   pub file·File·take :
       KeepsState file.File.take.ended (λ M. file.File.take.clauses) (λ κs r. r .answer ≡ Accepted)
       (λ κs. first) (λ κs r. r .file)
@@ -135,7 +135,7 @@ pub record RefusalsChangeNothing : Type 2 where
       (λ κs r. r .number ≡ 0) (λ κs. second) (λ κs given. second)
   pub «hollytrot·hollytrot_record_join» :
       KeepsBuffer hollytrot.«hollytrot_record_join».ended (λ M. hollytrot.«hollytrot_record_join».clauses)
-      (λ κs r. r .number ≡ 0) (λ κs. second) (λ κs given. second)
+      (λ κs r. r .number ≡ 0) (λ κs. third) (λ κs given. third)
   pub hollytrot·hollytrot_session_take :
       KeepsState hollytrot.hollytrot_session_take.ended (λ M. hollytrot.hollytrot_session_take.clauses)
       (λ κs r. r .answer .number ≡ 0) (λ κs. first) (λ κs r. r .session)

@@ -1,7 +1,10 @@
 -- What a decoded record shows, by its places (SPEC.md, "Records") and not by rows of the table. Assumes nothing.
 use Prim.Native.Nat.{ℕ, _+_, _-_}
+use mathlib.Core.Bool.{false}
 use mathlib.Core.List.{List}
 use mathlib.Core.Path.{_≡_}
+use Rattle.answer.specs.declared.Reason.the-variants.{FixedDiffers}
+use Rattle.answer.specs.declared.Answer.the-variants.{Refused}
 use Rattle.answer.specs.Refusals.{receivedPlace, issuerPlace}
 use Rattle.decimal.specs.Numbers.{numberOf}
 use Rattle.decimal.specs.Places.{places}
@@ -9,7 +12,9 @@ use Rattle.calendar.specs.declared.Date.{Date}
 use Rattle.calendar.specs.Dates.{dateOf}
 use Rattle.barcode.specs.Codes.{fieldsOf}
 use Rattle.file.specs.Files.{countPlace, totalPlace}
+use Rattle.layout.specs.declared.Record.the-variants.{Payment}
 use Rattle.layout.specs.Layouts.{rowAt, receivedRow, barcodeRow, countRow, totalRow}
+use Rattle.kinds.specs.Terms.{told, isVersion, termsAnswer}
 use Rattle.record.specs.Values.{dayOf, headerShown, paymentShown, trailerShown}
 use Rattle.ledger.specs.Samples as ledger
 
@@ -20,19 +25,28 @@ abbrev pub dateAt : ℕ → ℕ → List ℕ → Date
 dateAt first last rec = dayOf (dateOf (places first last rec))
 
 -- Promise: refusals 13 and 14 point at the count and the total of a Z, 16 and 18 at the received centavos of a G, and
--- 17 at the issuer, place 16 of its barcode.
+-- 17 at the issuer, place 16 of its barcode; 10 of a G that is told a number other than 4 and 6 points at place 80, an
+-- A's version.
 abbrev pub RefusalsPointAtPlaces : Type 0
 RefusalsPointAtPlaces =
     (countPlace ≡ rowAt countRow .first)
     × (totalPlace ≡ rowAt totalRow .first)
     × (receivedPlace ≡ rowAt receivedRow .first)
     × (issuerPlace ≡ rowAt barcodeRow .first - 1 + 16)
+    × ((version : ℕ) → isVersion version ≡ false → termsAnswer (told version) Payment ≡ Refused FixedDiffers 80)
 
--- Promise: bank, date and sequence number of an A; dates, barcode, amounts and number of a G; count and total of a Z.
+-- Promise: bank, date, sequence number and version of an A; dates, barcode, amounts and number of a G; count and total
+-- of a Z.
 abbrev pub RecordsShowTheirPlaces : Type 0
 RecordsShowTheirPlaces =
     (rec : List ℕ)
-    → (headerShown rec ≡ record { bank = numberAt 43 45 rec; date = dateAt 66 73 rec; sequence = numberAt 74 79 rec })
+    → (headerShown rec
+    ≡ record {
+      bank = numberAt 43 45 rec;
+      date = dateAt 66 73 rec;
+      sequence = numberAt 74 79 rec;
+      version = numberAt 80 81 rec;
+    })
     × (paymentShown rec
     ≡ record {
       paid = dateAt 22 29 rec;

@@ -17,7 +17,7 @@ use Rattle.record.specs.Values.{decodedRecord}
 use Rattle.session.specs.declared.Session.{Session}
 use Rattle.session.specs.declared.TakeResult.{TakeResult}
 use Rattle.session.specs.declared.RunResult.{RunResult}
-use Rattle.session.specs.Sessions.{takeAnswer, sessionWith, finishOf}
+use Rattle.session.specs.Sessions.{sessionTerms, takeAnswer, sessionWith, finishOf}
 use Rattle.session.specs.Runs.{piecesUpTo, piecesOf, filesClosed, addCounts, stoppedIfRefused, runAll, runOf}
 use Rattle.day.specs.Days.{runBufferOf, endedOf}
 use Rattle.quadro.specs.declared.BufferRead.{BufferRead}
@@ -43,7 +43,7 @@ all-few : (s : Session) (rs : List (List ℕ)) → Counted (length rs) (runAll s
 all-few s [] = (omega arith, omega arith)
 all-few s (r ∷ rs) =
     let named = namedBy (getD r 0 0) in
-    let next = sessionWith s (decodedRecord r) in
+    let next = sessionWith s (decodedRecord (sessionTerms s) r) in
     one-more (takeAnswer s r) s (filesClosed named) (length rs) (runAll next rs) (closed-few named) (all-few next rs)
 
 pieces-few : (n : ℕ) (bytes : List ℕ) → length (piecesUpTo n bytes) ≤ n
