@@ -31,13 +31,13 @@ extern "C" {
 #endif
 
 /* The version of this header and of its library. */
-#define HOLLYTROT_VERSION "0.1.0"
+#define HOLLYTROT_VERSION "0.2.0"
 
 /* The lengths that buffers must have, exactly ("Limits"). */
 #define HOLLYTROT_BARCODE 44
 #define HOLLYTROT_LINE 48
 #define HOLLYTROT_RECORD 150
-#define HOLLYTROT_HEADER_FIELDS 78
+#define HOLLYTROT_HEADER_FIELDS 80
 #define HOLLYTROT_PAYMENT_FIELDS 121
 #define HOLLYTROT_PAGE 8837
 /* How many lanes a board has. */
@@ -154,13 +154,19 @@ bool hollytrot_date_check(hollytrot_date date);
 uint64_t hollytrot_check_ten(const uint8_t *bytes, size_t length);
 uint64_t hollytrot_check_eleven(const uint8_t *bytes, size_t length);
 
-/* Single records ("Records", "Field bytes"). */
+/* Single records ("Records", "Field bytes").
+ *
+ * A file has a version of the layout, 4 or 6, which its A names and which decides the captures and payment forms that
+ * its Gs may have. A session and a writer know the version of their file. The functions for a single record are told
+ * it: pass the member `version` of the file's decoded A. A G that is told any other number is refused 10 at 80, after 1
+ * and 9 and before its fields. For an A or a Z the version does not matter: pass any number. */
 
-/* The values of an A. */
+/* The values of an A. `version` is 4 or 6. */
 typedef struct hollytrot_header {
     uint64_t bank;
     hollytrot_date date;
     uint64_t sequence;
+    uint64_t version;
 } hollytrot_header;
 
 /* The values of a G: the payment date and the credit date, the barcode, and `received` and `tariff` in centavos. */
@@ -215,30 +221,36 @@ enum {
     HOLLYTROT_ROWS = 28
 };
 
-/* Accepted, or the record's first refusal. Neither the order of records nor any sum is checked. */
-hollytrot_answer hollytrot_record_check(const uint8_t *bytes, size_t length);
+/* Accepted, or the first refusal of the record, as one of a file of this version. Neither the order of records nor any
+ * sum is checked. */
+hollytrot_answer hollytrot_record_check(const uint8_t *bytes, size_t length, uint64_t version);
 
 /* The same answer, with the values of an accepted record. */
-hollytrot_record hollytrot_record_decode(const uint8_t *bytes, size_t length);
+hollytrot_record hollytrot_record_decode(const uint8_t *bytes, size_t length, uint64_t version);
 
 /* The field of a row, as a part of an accepted record. The empty part if the record is refused, and for a row of
  * another letter or past the table. */
-hollytrot_part hollytrot_record_field(const uint8_t *bytes, size_t length, size_t row);
+hollytrot_part hollytrot_record_field(const uint8_t *bytes, size_t length, uint64_t version, size_t row);
 
-/* Writes the field bytes of an accepted A (78) or G (121) into `out`: what the writer takes for the same record. A Z
- * has none and is refused 9 at 1. */
-hollytrot_answer hollytrot_record_join(const uint8_t *bytes, size_t length, uint8_t *out, size_t out_length);
+/* Writes the field bytes of an accepted A (80) or G (121) into `out`: what the writer takes for the same record. A Z
+ * has none and is refused 9 at 1. A wrong length of the record or of `out` is refused before a wrong version. */
+hollytrot_answer hollytrot_record_join(const uint8_t *bytes, size_t length, uint64_t version, uint8_t *out,
+                                       size_t out_length);
 
 /* The writer of one return file ("Writer"): a value that you keep. Each call returns the next writer, which is equal to
  * the given one if the call is refused. */
 
-/* The figures of an open file: its payments, and the centavos they received. */
+/* The figures of an open file, its payments and the centavos they received, and the version that its header names, 4 or
+ * 6. All three are 0 in a new writer and in a session with no file open. If you set another version yourself, each G is
+ * refused 10 at 80. */
 typedef struct hollytrot_file {
     uint64_t taken;
     uint64_t total;
+    uint64_t version;
 } hollytrot_file;
 
-/* `stage` is 0 before the header and 1 while the file is open; every other number means that it is closed. */
+/* `stage` is 0 before the header and 1 while the file is open; every other number means that it is closed. A closed
+ * writer keeps its file. */
 typedef struct hollytrot_writer {
     uint64_t stage;
     hollytrot_file file;
@@ -253,13 +265,13 @@ typedef struct hollytrot_write_result {
 /* A new writer, which expects a header. */
 hollytrot_writer hollytrot_writer_new(void);
 
-/* Writes the A into `out`, 150 bytes, from its 78 field bytes: those of places 3 to 79, and the second byte of the
- * service field, 79 or 211. */
+/* Writes the A into `out`, 150 bytes, from its 80 field bytes: those of places 3 to 81, of which the last two are the
+ * version, `04` or `06`, and the second byte of the service field, 79 or 211. */
 hollytrot_write_result hollytrot_writer_header(hollytrot_writer writer, const uint8_t *fields, size_t fields_length,
                                                uint8_t *out, size_t out_length);
 
 /* Writes a G into `out`, 150 bytes, from its 121 field bytes, those of places 2 to 81 and 101 to 141, and the two
- * amounts in centavos. */
+ * amounts in centavos. Its capture and payment form must be codes of the version that the writer's header names. */
 hollytrot_write_result hollytrot_writer_payment(hollytrot_writer writer, const uint8_t *fields, size_t fields_length,
                                                 uint64_t received, uint64_t tariff, uint8_t *out, size_t out_length);
 
@@ -291,7 +303,7 @@ typedef struct hollytrot_board {
  * given one if the call is refused; after a run it is the one after the accepted records. */
 
 /* The board shown, which has accepted files only; the working board, which has the open file's payments too; whether a
- * file is open, and its figures. */
+ * file is open, and its figures and version. */
 typedef struct hollytrot_session {
     hollytrot_board shown;
     hollytrot_board work;

@@ -27,12 +27,12 @@ mod sessions;
 mod writers;
 
 pub use codes::{barcode, check_digit, line, Date, Fields, Issuer, Modulus};
-pub use record::{Header, Payment, Record, Trailer};
+pub use record::{Header, Payment, Record, Trailer, Version};
 pub use refusal::{Reason, Refusal};
 pub use sessions::{page, Board, Lane, Limits, RunResult, Session, Tally, LANES};
 pub use writers::Writer;
 
-/// The version of this crate and of the library it is for.
+/// The version of this crate and of the library it is for. That of the layout is a [`Version`].
 pub const VERSION: &str = env!("CARGO_PKG_VERSION");
 
 /// The length of a record.

@@ -47,6 +47,7 @@ pub struct Header {
     pub bank: u64,
     pub date: Date,
     pub sequence: u64,
+    pub version: u64,
 }
 
 #[repr(C)]
@@ -82,6 +83,7 @@ pub struct Record {
 pub struct File {
     pub taken: u64,
     pub total: u64,
+    pub version: u64,
 }
 
 #[repr(C)]
@@ -142,33 +144,33 @@ const _: () = {
             && offset_of!(Fields, due) == 32
     );
     assert!(size_of::<Decoded>() == 72 && offset_of!(Decoded, fields) == 16);
-    assert!(
-        size_of::<Header>() == 40
-            && offset_of!(Header, date) == 8
-            && offset_of!(Header, sequence) == 32
-    );
+    assert!(size_of::<Header>() == 48 && offset_of!(Header, date) == 8);
+    assert!(offset_of!(Header, sequence) == 32 && offset_of!(Header, version) == 40);
     assert!(size_of::<Payment>() == 128 && offset_of!(Payment, barcode) == 48);
     assert!(offset_of!(Payment, received) == 104 && offset_of!(Payment, number) == 120);
     assert!(size_of::<Trailer>() == 16 && offset_of!(Trailer, total) == 8);
     assert!(
-        size_of::<Record>() == 208
+        size_of::<Record>() == 216
             && offset_of!(Record, letter) == 16
             && offset_of!(Record, header) == 24
     );
-    assert!(offset_of!(Record, payment) == 64 && offset_of!(Record, trailer) == 192);
-    assert!(size_of::<Writer>() == 24 && offset_of!(Writer, file) == 8);
-    assert!(size_of::<WriteResult>() == 40 && offset_of!(WriteResult, writer) == 16);
+    assert!(offset_of!(Record, payment) == 72 && offset_of!(Record, trailer) == 200);
+    assert!(
+        size_of::<File>() == 24 && offset_of!(File, total) == 8 && offset_of!(File, version) == 16
+    );
+    assert!(size_of::<Writer>() == 32 && offset_of!(Writer, file) == 8);
+    assert!(size_of::<WriteResult>() == 48 && offset_of!(WriteResult, writer) == 16);
     assert!(size_of::<Tally>() == 16 && size_of::<Lane>() == 32);
     assert!(size_of::<Board>() == 2072);
-    assert!(size_of::<Session>() == 4168 && offset_of!(Session, work) == 2072);
+    assert!(size_of::<Session>() == 4176 && offset_of!(Session, work) == 2072);
     assert!(offset_of!(Session, opened) == 4144 && offset_of!(Session, file) == 4152);
     assert!(size_of::<Limits>() == 40 && offset_of!(Limits, record_length) == 8);
     assert!(offset_of!(Limits, payments) == 16 && offset_of!(Limits, file_total) == 24);
-    assert!(size_of::<TakeResult>() == 4184 && offset_of!(TakeResult, session) == 16);
+    assert!(size_of::<TakeResult>() == 4192 && offset_of!(TakeResult, session) == 16);
     assert!(
-        size_of::<RunResult>() == 4200
-            && offset_of!(RunResult, records) == 4184
-            && offset_of!(RunResult, files) == 4192
+        size_of::<RunResult>() == 4208
+            && offset_of!(RunResult, records) == 4192
+            && offset_of!(RunResult, files) == 4200
     );
     assert!(size_of::<PageResult>() == 24 && offset_of!(PageResult, length) == 16);
 };
@@ -204,12 +206,18 @@ extern "C" {
     pub fn hollytrot_date_check(date: Date) -> bool;
     pub fn hollytrot_check_ten(bytes: *const u8, length: usize) -> u64;
     pub fn hollytrot_check_eleven(bytes: *const u8, length: usize) -> u64;
-    pub fn hollytrot_record_check(bytes: *const u8, length: usize) -> Answer;
-    pub fn hollytrot_record_decode(bytes: *const u8, length: usize) -> Record;
-    pub fn hollytrot_record_field(bytes: *const u8, length: usize, row: usize) -> Part;
+    pub fn hollytrot_record_check(bytes: *const u8, length: usize, version: u64) -> Answer;
+    pub fn hollytrot_record_decode(bytes: *const u8, length: usize, version: u64) -> Record;
+    pub fn hollytrot_record_field(
+        bytes: *const u8,
+        length: usize,
+        version: u64,
+        row: usize,
+    ) -> Part;
     pub fn hollytrot_record_join(
         bytes: *const u8,
         length: usize,
+        version: u64,
         out: *mut u8,
         out_length: usize,
     ) -> Answer;

@@ -3,12 +3,41 @@
 use crate::raw;
 use crate::{Date, Fields, Refusal};
 
+/// A version of the layout. The header of a file names it, and it decides which captures and payment forms the payments
+/// of the file may have. Later versions of the specification may add versions.
+#[derive(Clone, Copy, Debug, PartialEq, Eq, Hash)]
+#[non_exhaustive]
+pub enum Version {
+    /// `04` in the header: captures `1` to `6` and `a` to `f`, payment forms `1` to `3`.
+    Four = 4,
+    /// `06` in the header: captures `1` to `9` and `a` to `i`, payment forms `1` to `6`.
+    Six = 6,
+}
+
+impl Version {
+    /// The version as a number, 4 or 6.
+    pub const fn number(self) -> u64 {
+        self as u64
+    }
+
+    /// The version with this number; `None` if there is none.
+    pub const fn from_number(number: u64) -> Option<Version> {
+        match number {
+            4 => Some(Version::Four),
+            6 => Some(Version::Six),
+            _ => None,
+        }
+    }
+}
+
 /// The values of an A.
 #[derive(Clone, Copy, Debug, PartialEq, Eq, Hash)]
 pub struct Header {
     pub bank: u64,
     pub date: Date,
     pub sequence: u64,
+    /// The version of the file: what the functions here are told for each record of it.
+    pub version: Version,
 }
 
 /// The values of a G: the payment date and the credit date, the barcode, and `received` and `tariff` in centavos.
@@ -67,22 +96,28 @@ impl Row {
     pub const TOTAL: Row = Row(26);
 }
 
-/// Accepted, or the record's first refusal. Neither the order of records nor any sum is checked.
-pub fn check(bytes: &[u8]) -> Result<(), Refusal> {
+/// Accepted, or the first refusal of the record, as one of a file of this version. Neither the order of records nor any
+/// sum is checked. For an A or a Z the version does not matter.
+pub fn check(bytes: &[u8], version: Version) -> Result<(), Refusal> {
     // SAFETY: pointer and length are those of a slice.
-    unsafe { raw::hollytrot_record_check(bytes.as_ptr(), bytes.len()) }.to_result()
+    unsafe { raw::hollytrot_record_check(bytes.as_ptr(), bytes.len(), version.number()) }
+        .to_result()
 }
 
-/// The values of an accepted record.
-pub fn decode(bytes: &[u8]) -> Result<Record, Refusal> {
+/// The values of an accepted record of a file of this version. For an A or a Z the version does not matter: decode a
+/// file's header with either one, and its payments with [`Header::version`].
+pub fn decode(bytes: &[u8], version: Version) -> Result<Record, Refusal> {
+    let (start, length) = (bytes.as_ptr(), bytes.len());
     // SAFETY: pointer and length are those of a slice.
-    let decoded = unsafe { raw::hollytrot_record_decode(bytes.as_ptr(), bytes.len()) };
+    let decoded = unsafe { raw::hollytrot_record_decode(start, length, version.number()) };
     decoded.answer.to_result()?;
     Ok(match decoded.letter as u8 {
         b'A' => Record::Header(Header {
             bank: decoded.header.bank,
             date: date(decoded.header.date),
             sequence: decoded.header.sequence,
+            version: Version::from_number(decoded.header.version)
+                .expect("a version in an accepted header"),
         }),
         b'G' => Record::Payment(Payment {
             paid: date(decoded.payment.paid),
@@ -104,28 +139,32 @@ fn date(date: raw::Date) -> Date {
     Date::from_raw(date).expect("a date in an accepted record")
 }
 
-/// The field of a row, as a part of an accepted record. The empty slice if the record is refused, and for a row of
-/// another letter or past the table.
-pub fn field(bytes: &[u8], row: Row) -> &[u8] {
+/// The field of a row, as a part of an accepted record of a file of this version. The empty slice if the record is
+/// refused, and for a row of another letter or past the table. For an A or a Z the version does not matter.
+pub fn field(bytes: &[u8], version: Version, row: Row) -> &[u8] {
+    let (start, length) = (bytes.as_ptr(), bytes.len());
     // SAFETY: pointer and length are those of a slice.
-    let part = unsafe { raw::hollytrot_record_field(bytes.as_ptr(), bytes.len(), row.0) };
+    let part = unsafe { raw::hollytrot_record_field(start, length, version.number(), row.0) };
     &bytes[part.from..part.from + part.length]
 }
 
 /// The field bytes of an accepted A: what [`Writer::header`](crate::Writer::header) takes for the same record.
-pub fn header_fields(bytes: &[u8]) -> Result<[u8; 78], Refusal> {
-    join(bytes)
+pub fn header_fields(bytes: &[u8]) -> Result<[u8; 80], Refusal> {
+    // An A does not depend on the version, and a G is refused for the length of the buffer before its version is read.
+    join(bytes, Version::Four)
 }
 
-/// The field bytes of an accepted G: what [`Writer::payment`](crate::Writer::payment) takes for the same record.
-pub fn payment_fields(bytes: &[u8]) -> Result<[u8; 121], Refusal> {
-    join(bytes)
+/// The field bytes of an accepted G of a file of this version: what [`Writer::payment`](crate::Writer::payment) takes
+/// for the same record.
+pub fn payment_fields(bytes: &[u8], version: Version) -> Result<[u8; 121], Refusal> {
+    join(bytes, version)
 }
 
-fn join<const N: usize>(bytes: &[u8]) -> Result<[u8; N], Refusal> {
+fn join<const N: usize>(bytes: &[u8], version: Version) -> Result<[u8; N], Refusal> {
     let mut out = [0; N];
+    let (start, length) = (bytes.as_ptr(), bytes.len());
     // SAFETY: pointers and lengths are those of slices, and `out` overlaps no other.
-    unsafe { raw::hollytrot_record_join(bytes.as_ptr(), bytes.len(), out.as_mut_ptr(), N) }
+    unsafe { raw::hollytrot_record_join(start, length, version.number(), out.as_mut_ptr(), N) }
         .to_result()?;
     Ok(out)
 }

@@ -68,8 +68,8 @@ pub struct Limits {
     pub board_total: u64,
 }
 
-/// Takes the records of return files. The payments of a file appear on the board together, when its trailer is
-/// accepted.
+/// Takes the records of return files of either version, which each file's header names. The payments of a file appear
+/// on the board together, when its trailer is accepted.
 #[derive(Clone, Debug, PartialEq, Eq)]
 pub struct Session(Box<raw::Session>);
 

@@ -20,7 +20,8 @@ impl Writer {
         Writer(unsafe { raw::hollytrot_writer_new() })
     }
 
-    /// The A of 78 field bytes: those of places 3 to 79, and the second byte of the service field, 79 or 211.
+    /// The A of 80 field bytes: those of places 3 to 81, of which the last two are the version, `04` or `06`, and the
+    /// second byte of the service field, 79 or 211.
     pub fn header(&mut self, fields: &[u8]) -> Result<[u8; RECORD], Refusal> {
         let (bytes, length) = (fields.as_ptr(), fields.len());
         // SAFETY: pointers and lengths are those of slices, and `out` overlaps no other.
@@ -29,7 +30,8 @@ impl Writer {
         })
     }
 
-    /// The G of 121 field bytes, those of places 2 to 81 and 101 to 141, and the two amounts in centavos.
+    /// The G of 121 field bytes, those of places 2 to 81 and 101 to 141, and the two amounts in centavos. Its capture
+    /// and payment form must be codes of the version that the header names.
     pub fn payment(
         &mut self,
         fields: &[u8],

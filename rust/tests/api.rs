@@ -3,13 +3,15 @@
 use hollytrot::record::{self, Row};
 use hollytrot::{
     barcode, check_digit, line, page, Date, Fields, Issuer, Modulus, Reason, Record, Refusal,
-    Session, Writer, LANES, RECORD,
+    Session, Version, Writer, LANES, RECORD,
 };
 
 const P4: &[u8] = b"817700000000010936599702411310797039001433708318";
 
-const HEADER: &[u8; 78] =
-    b"AGREEMENT           COMPANY             237BANK                20231231004321O";
+const HEADER: &[u8; 80] =
+    b"AGREEMENT           COMPANY             237BANK                2023123100432104O";
+const HEADER_06: &[u8; 80] =
+    b"AGREEMENT           COMPANY             237BANK                2023123100432106O";
 
 fn refused(reason: Reason, place: usize) -> Refusal {
     Refusal { reason, place }
@@ -115,13 +117,15 @@ fn a_file_written_and_taken() {
     let z = writer.trailer().expect("an open file");
     assert_eq!(writer.trailer(), Err(refused(Reason::NotExpected, 1)));
 
-    let Ok(Record::Header(header)) = record::decode(&a) else {
+    let version = Version::Four;
+    let Ok(Record::Header(header)) = record::decode(&a, version) else {
         panic!("an A")
     };
     assert_eq!((header.bank, header.sequence), (237, 4321));
+    assert_eq!(header.version, version);
     assert_eq!(header.date, Date::new(2023, 12, 31).unwrap());
     assert_eq!(record::header_fields(&a).unwrap(), *HEADER);
-    let Ok(Record::Payment(payment)) = record::decode(&g) else {
+    let Ok(Record::Payment(payment)) = record::decode(&g, version) else {
         panic!("a G")
     };
     assert_eq!(
@@ -131,16 +135,15 @@ fn a_file_written_and_taken() {
     assert_eq!(payment.paid, Date::new(2024, 1, 2).unwrap());
     assert_eq!(payment.credited, Date::new(2024, 3, 4).unwrap());
     assert_eq!(Ok(payment.barcode), barcode::decode(&code()));
-    assert_eq!(record::payment_fields(&g).unwrap(), payment_of(&code()));
-    assert_eq!(
-        record::payment_fields(&a),
-        Err(refused(Reason::WrongLength, 0))
-    );
-    assert_eq!(record::check(&g), Ok(()));
-    assert_eq!(record::check(&g[1..]), Err(refused(Reason::WrongLength, 0)));
-    assert_eq!(record::field(&g, Row::RECEIVED), b"004294967296");
-    assert_eq!(record::field(&g, Row::BANK), b"");
-    let Ok(Record::Trailer(trailer)) = record::decode(&z) else {
+    assert_eq!(record::payment_fields(&g, version), Ok(payment_of(&code())));
+    let wrong_length = refused(Reason::WrongLength, 0);
+    assert_eq!(record::payment_fields(&a, version), Err(wrong_length));
+    assert_eq!(record::header_fields(&g), Err(wrong_length));
+    assert_eq!(record::check(&g, version), Ok(()));
+    assert_eq!(record::check(&g[1..], version), Err(wrong_length));
+    assert_eq!(record::field(&g, version, Row::RECEIVED), b"004294967296");
+    assert_eq!(record::field(&g, version, Row::BANK), b"");
+    let Ok(Record::Trailer(trailer)) = record::decode(&z, version) else {
         panic!("a Z")
     };
     assert_eq!((trailer.count, trailer.total), (3, 4_294_967_296));
@@ -180,4 +183,79 @@ fn a_file_written_and_taken() {
         Session::new().board(),
     );
     assert_eq!(&text[..18], b"answer=14\nplace=8\n");
+}
+
+/// A payment with a capture that only version 06 has.
+fn payment_of_06() -> [u8; 121] {
+    let mut fields = payment_of(&code());
+    fields[96] = b'7';
+    fields
+}
+
+#[test]
+fn versions_have_their_numbers() {
+    for version in [Version::Four, Version::Six] {
+        assert_eq!(Version::from_number(version.number()), Some(version));
+    }
+    assert_eq!((Version::Four.number(), Version::Six.number()), (4, 6));
+    for number in [0, 5, 77, (1 << 32) + 4, u64::MAX] {
+        assert_eq!(Version::from_number(number), None);
+    }
+}
+
+#[test]
+fn the_version_told_decides_the_codes() {
+    let mut writer = Writer::new();
+    let a = writer.header(HEADER_06).expect("a good header");
+    let g = writer.payment(&payment_of_06(), 1, 0).expect("its code");
+    let unknown = refused(Reason::UnknownCode, 117);
+    for version in [Version::Four, Version::Six] {
+        let Ok(Record::Header(header)) = record::decode(&a, version) else {
+            panic!("an A, whatever version is told")
+        };
+        assert_eq!(header.version, Version::Six);
+    }
+    assert_eq!(record::header_fields(&a), Ok(*HEADER_06));
+    assert_eq!(record::check(&g, Version::Six), Ok(()));
+    assert_eq!(record::check(&g, Version::Four), Err(unknown));
+    let decoded = record::decode(&g, Version::Six);
+    assert!(matches!(decoded, Ok(Record::Payment(_))));
+    assert_eq!(record::decode(&g, Version::Four), Err(unknown));
+    assert_eq!(record::field(&g, Version::Six, Row::CAPTURE), b"7");
+    assert_eq!(record::field(&g, Version::Four, Row::CAPTURE), b"");
+    let fields = record::payment_fields(&g, Version::Six);
+    assert_eq!(fields, Ok(payment_of_06()));
+    assert_eq!(record::payment_fields(&g, Version::Four), Err(unknown));
+}
+
+#[test]
+fn the_header_of_the_open_file_decides_the_codes() {
+    let mut writer = Writer::new();
+    let a = writer.header(HEADER_06).expect("a good header");
+    let g = writer.payment(&payment_of_06(), 1, 0).expect("its code");
+    let z = writer.trailer().expect("an open file");
+    let mut session = Session::new();
+    let result = session.run(&[a, g, z].concat());
+    assert_eq!((result.answer, result.files), (Ok(()), 1));
+
+    // a file of version 04 behind it does not have the code
+    let mut writer = Writer::new();
+    let a = writer.header(HEADER).expect("a good header");
+    let unknown = refused(Reason::UnknownCode, 117);
+    assert_eq!(writer.payment(&payment_of_06(), 1, 0), Err(unknown));
+    session.take(&a).expect("another file");
+    assert_eq!(session.take(&g), Err(unknown));
+}
+
+#[test]
+fn a_header_names_its_version() {
+    let wrong_version = refused(Reason::FixedDiffers, 80);
+    for i in [77, 78] {
+        let mut fields = *HEADER;
+        fields[i] = b'5';
+        assert_eq!(Writer::new().header(&fields), Err(wrong_version));
+    }
+    let without = [&HEADER[..77], b"O"].concat();
+    let wrong_length = refused(Reason::WrongLength, 0);
+    assert_eq!(Writer::new().header(&without), Err(wrong_length));
 }

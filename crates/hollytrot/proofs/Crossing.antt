@@ -114,6 +114,6 @@ module _ (row : ℕ) (rec : List ℕ) where
 
 pub field-part-is-shown : FieldPartIsShown
 unfolding fieldPart
-field-part-is-shown row rec =
-    let here = field-shown row rec (recordAnswer rec) (namedBy (getD rec 0 0)) in
-    part-law (rowAt row .first - 1) rec (shownField row rec) here
+field-part-is-shown t row rec =
+    let here = field-shown row rec (recordAnswer t rec) (namedBy (getD rec 0 0)) in
+    part-law (rowAt row .first - 1) rec (shownField t row rec) here

@@ -15,6 +15,7 @@ use Rattle.barcode.specs.Codes.{codeLength, digitAt, issuerEnd, barcodeAnswer, 
 use Rattle.layout.specs.declared.Field.{Field}
 use Rattle.layout.specs.Layouts.{noField, table, rowAt}
 use Rattle.layout.proofs.Layouts.{row-lies}
+use Rattle.kinds.specs.Terms.{Terms}
 use Rattle.record.specs.Values.{shownField}
 use Rattle.writer.specs.declared.Writer.{Writer}
 use Rattle.writer.specs.declared.WriteResult.{WriteResult}
@@ -58,11 +59,11 @@ unfolding freePart
 at-free code e h = h ∙ ap (λ x. cPartOf (codeLength - length x) (length x)) e
 
 pub at-field :
-    (row : ℕ) (rec : List ℕ) {field : List ℕ} {shape : Field} {p : CPart}
-    → field ≡ shownField row rec → shape ≡ rowAt row → p ≡ cPartOf (shape .first - 1) (length field)
-    → p ≡ fieldPart row rec
+    (t : Terms) (row : ℕ) (rec : List ℕ) {field : List ℕ} {shape : Field} {p : CPart}
+    → field ≡ shownField t row rec → shape ≡ rowAt row → p ≡ cPartOf (shape .first - 1) (length field)
+    → p ≡ fieldPart t row rec
 unfolding fieldPart
-at-field row rec {field} e s h =
+at-field t row rec {field} e s h =
     h ∙ ap (λ x. cPartOf (x .first - 1) (length field)) s ∙ ap (λ x. cPartOf (rowAt row .first - 1) (length x)) e
 
 -- The result of a writer's call: refused, accepted, and over the writer that was given.

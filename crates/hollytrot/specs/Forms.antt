@@ -14,6 +14,7 @@ use Rattle.barcode.specs.declared.Decoded.the-variants as barcode
 use Rattle.barcode.specs.Codes.{codeLength, noFields, shownFree}
 use Rattle.layout.specs.declared.Record.the-variants as layout
 use Rattle.layout.specs.Layouts.{markOf, rowAt}
+use Rattle.kinds.specs.Terms.{Terms}
 use Rattle.record.specs.declared.Header.{Header}
 use Rattle.record.specs.declared.Payment.{Payment}
 use Rattle.record.specs.declared.Trailer.{Trailer}
@@ -56,8 +57,8 @@ unfoldable pub freePart : List ℕ → CPart
 freePart code = cPartOf (codeLength - length (shownFree code)) (length (shownFree code))
 
 -- a field starts at the first place of its row
-unfoldable pub fieldPart : ℕ → List ℕ → CPart
-fieldPart row rec = cPartOf (rowAt row .first - 1) (length (shownField row rec))
+unfoldable pub fieldPart : Terms → ℕ → List ℕ → CPart
+fieldPart t row rec = cPartOf (rowAt row .first - 1) (length (shownField t row rec))
 
 -- the fields of a barcode; without a due date its year, month and day are 0
 abbrev pub cFieldsOf : Fields → CFields
@@ -84,7 +85,7 @@ cPaymentOf p =
 -- a record: its first byte and its values; the values of the other two records, and all of a refused one, are 0
 
 abbrev pub noHeader : Header
-noHeader = record { bank = 0; date = record { year = 0; month = 0; day = 0 }; sequence = 0 }
+noHeader = record { bank = 0; date = record { year = 0; month = 0; day = 0 }; sequence = 0; version = 0 }
 
 abbrev pub noCPayment : CPayment
 noCPayment =

@@ -5,6 +5,7 @@ use mathlib.Core.Path.{_≡_}
 use Rattle.answer.specs.declared.Answer.{Answer}
 use Rattle.answer.specs.declared.Answer.the-variants.{Accepted}
 use Rattle.barcode.specs.Codes.{shownFree}
+use Rattle.kinds.specs.Terms.{Terms}
 use Rattle.record.specs.Values.{shownField}
 use Rattle.writer.specs.declared.Writer.{Writer}
 use Rattle.writer.specs.declared.WriteResult.{WriteResult}
@@ -29,4 +30,5 @@ abbrev pub FreePartIsShown : Type 0
 FreePartIsShown = (code : List ℕ) → bytesIn (freePart code) code ≡ shownFree code
 
 abbrev pub FieldPartIsShown : Type 0
-FieldPartIsShown = (row : ℕ) (rec : List ℕ) → bytesIn (fieldPart row rec) rec ≡ shownField row rec
+FieldPartIsShown =
+    (t : Terms) (row : ℕ) (rec : List ℕ) → bytesIn (fieldPart t row rec) rec ≡ shownField t row rec

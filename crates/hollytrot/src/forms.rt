@@ -130,6 +130,7 @@ fn no_header() -> Header
         bank: 0,
         date: no_date(),
         sequence: 0,
+        version: 0,
     }
 }
 

@@ -3,6 +3,7 @@ ghost use mathlib.Core.Path.{_≡_};
 ghost use lib.ListN.{length, getD};
 ghost use Rattle.answer.specs.Orders.{ifAccepted};
 ghost use Rattle.layout.specs.Layouts.{namedBy};
+ghost use Rattle.kinds.specs.Terms.{told};
 ghost use Rattle.record.specs.Records.{recordAnswer};
 ghost use Rattle.record.specs.Values.{decodedRecord};
 ghost use Rattle.fields.specs.Joining.{joinAnswer, joinedIn};
@@ -12,43 +13,45 @@ use crate::CPart;
 use crate::CRecord;
 use crate::forms;
 
-// Accepted, or the record's first refusal. Any length; all but 150 bytes are refused.
+// Accepted, or the record's first refusal. Any length; all but 150 bytes are refused. The version is that of the
+// record's file, 4 or 6: a G that is told any other number is refused 10 at 80, an A or a Z ignores it.
 #[no_mangle]
-pub extern "C" fn hollytrot_record_check(rec: &[u8]) -> CAnswer
-    ensures { λ r. ⌜ r ≡ cAnswerOf (recordAnswer (now (rec .entry))) ⌝ }
+pub extern "C" fn hollytrot_record_check(rec: &[u8], version: u64) -> CAnswer
+    ensures { λ r. ⌜ r ≡ cAnswerOf (recordAnswer (told version) (now (rec .entry))) ⌝ }
 {
-    forms::c_answer(record::check(rec))
+    forms::c_answer(record::check(rec, version))
 }
 
 // The same answer, with the values of an accepted record.
 #[no_mangle]
-pub extern "C" fn hollytrot_record_decode(rec: &[u8]) -> CRecord
-    ensures { λ r. ⌜ r ≡ cRecordOf (decodedRecord (now (rec .entry))) ⌝ }
+pub extern "C" fn hollytrot_record_decode(rec: &[u8], version: u64) -> CRecord
+    ensures { λ r. ⌜ r ≡ cRecordOf (decodedRecord (told version) (now (rec .entry))) ⌝ }
 {
-    forms::c_record(record::decode(rec))
+    forms::c_record(record::decode(rec, version))
 }
 
 // Where a field of an accepted record is, by its row in the table of fields. The empty part if the record is refused,
 // if the row is another record's, and past the table.
 #[no_mangle]
-pub extern "C" fn hollytrot_record_field(rec: &[u8], row: usize) -> CPart
-    ensures { λ r. ⌜ r ≡ fieldPart row (now (rec .entry)) ⌝ }
+pub extern "C" fn hollytrot_record_field(rec: &[u8], version: u64, row: usize) -> CPart
+    ensures { λ r. ⌜ r ≡ fieldPart (told version) row (now (rec .entry)) ⌝ }
 {
-    let field = record::field(rec, row);
+    let field = record::field(rec, version, row);
     let length = field.len();
     let shape = layout::row(row);
     forms::c_part(shape.first - 1, length)
 }
 
-// Joins the fields of an accepted A into 78 bytes, or of an accepted G into 121, as the writer takes them. A refusal
+// Joins the fields of an accepted A into 80 bytes, or of an accepted G into 121, as the writer takes them. A refusal
 // leaves `out` as it was.
 #[no_mangle]
-pub extern "C" fn hollytrot_record_join(rec: &[u8], out: &mut [u8]) -> CAnswer
-    ensures answer { λ r. ⌜ r ≡ cAnswerOf (joinAnswer (now (rec .entry)) (length (now (out .entry)))) ⌝ }
+pub extern "C" fn hollytrot_record_join(rec: &[u8], version: u64, out: &mut [u8]) -> CAnswer
+    ensures answer { λ r.
+        ⌜ r ≡ cAnswerOf (joinAnswer (told version) (now (rec .entry)) (length (now (out .entry)))) ⌝ }
     ensures bytes { λ _.
         ⌜ now (out .exit)
-        ≡ ifAccepted (joinAnswer (now (rec .entry)) (length (now (out .entry))))
+        ≡ ifAccepted (joinAnswer (told version) (now (rec .entry)) (length (now (out .entry))))
         (joinedIn (namedBy (getD (now (rec .entry)) 0 0)) (now (rec .entry))) (now (out .entry)) ⌝ }
 {
-    forms::c_answer(fields::join(rec, out))
+    forms::c_answer(fields::join(rec, version, out))
 }

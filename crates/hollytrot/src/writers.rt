@@ -18,7 +18,7 @@ pub extern "C" fn hollytrot_writer_new() -> CWriter
     forms::c_writer(Writer::new())
 }
 
-// Writes the A into `out`, 150 bytes, from its 78 field bytes. A refusal returns the given writer and leaves `out` as
+// Writes the A into `out`, 150 bytes, from its 80 field bytes. A refusal returns the given writer and leaves `out` as
 // it was.
 #[no_mangle]
 pub extern "C" fn hollytrot_writer_header(

@@ -1,5 +1,6 @@
 -- `hollytrot::records::hollytrot_record_field` meets its contract. Assumes nothing.
 use borrow.Author.Needs.{needs}
+use Rattle.kinds.specs.Terms.{told}
 use Rattle.hollytrot.proofs.Steps.{row-first, at-field}
 use Rattle.hollytrot.proofs.records.hollytrot_record_field.Statement.{statement}
 use Rattle.hollytrot.proofs.records.hollytrot_record_field.Tie as tie
@@ -21,7 +22,7 @@ returns c =
     let shape = c .before .before in
     let shown = shape .before in
     let a = shown .before .before .args in
-    at-field (a .row) (a .rec .now) (shown .field .ensures) (shape .row .ensures) (c .c-part .ensures)
+    at-field (told (a .version)) (a .row) (a .rec .now) (shown .field .ensures) (shape .row .ensures) (c .c-part .ensures)
 
 pub hollytrot-record-field-spec : {M : Type 1} → statement M
 hollytrot-record-field-spec =
