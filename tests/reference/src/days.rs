@@ -13,7 +13,7 @@ use crate::line;
 use crate::random::Random;
 use crate::records::{HEADER_FIELDS, PAYMENT_FIELDS};
 use crate::refusal::Refusal;
-use crate::writer::Writer;
+use crate::writer::{Stage, Writer};
 
 /// Every segment.
 pub const SEGMENTS: [u64; 8] = [1, 2, 3, 4, 5, 6, 7, 9];
@@ -113,7 +113,16 @@ fn digit_field(random: &mut Random, field: &mut [u8]) {
     field.fill_with(|| random.digit());
 }
 
-/// The field bytes of a random A.
+/// A random version, 4 or 6.
+pub fn version(random: &mut Random) -> u64 {
+    if random.once_in(2) {
+        4
+    } else {
+        6
+    }
+}
+
+/// The field bytes of a random A, of either version.
 pub fn header_fields(random: &mut Random) -> [u8; HEADER_FIELDS] {
     let mut fields = [b' '; HEADER_FIELDS];
     text(random, &mut fields[..20]);
@@ -122,12 +131,23 @@ pub fn header_fields(random: &mut Random) -> [u8; HEADER_FIELDS] {
     text(random, &mut fields[43..63]);
     fields[63..71].copy_from_slice(&date(random).digits());
     digit_field(random, &mut fields[71..77]);
-    fields[77] = random.one_of(&[79, 211]);
+    digits::write(version(random), &mut fields[77..79]);
+    fields[79] = random.one_of(&[79, 211]);
     fields
 }
 
-/// The field bytes of a random G with this barcode.
-pub fn payment_fields(random: &mut Random, code: &[u8; 44]) -> [u8; PAYMENT_FIELDS] {
+/// The captures and the payment forms of version 6, or else of version 4.
+const fn codes(version: u64) -> (&'static [u8], &'static [u8]) {
+    match version {
+        6 => (b"123456789abcdefghi", b"123456"),
+        _ => (b"123456abcdef", b"123"),
+    }
+}
+
+/// The field bytes of a random G with this barcode, in a file of this version. A version other than 4 and 6 gives the
+/// codes of 4.
+pub fn payment_fields(random: &mut Random, code: &[u8; 44], version: u64) -> [u8; PAYMENT_FIELDS] {
+    let (captures, forms) = codes(version);
     let mut fields = [b' '; PAYMENT_FIELDS];
     text(random, &mut fields[..20]);
     fields[20..28].copy_from_slice(&date(random).digits());
@@ -135,26 +155,30 @@ pub fn payment_fields(random: &mut Random, code: &[u8; 44]) -> [u8; PAYMENT_FIEL
     fields[36..80].copy_from_slice(code);
     digit_field(random, &mut fields[80..88]);
     text(random, &mut fields[88..96]);
-    fields[96] = random.one_of(b"123456abcdef");
+    fields[96] = random.one_of(captures);
     text(random, &mut fields[97..120]);
-    fields[120] = random.one_of(b"123");
+    fields[120] = random.one_of(forms);
     fields
 }
 
-/// A random A.
+/// A random A, of either version.
 pub fn header(random: &mut Random) -> Result<[u8; 150], Refusal> {
     let mut out = [b' '; 150];
     Writer::new().header(&header_fields(random), &mut out)?;
     Ok(out)
 }
 
-/// A random G, with amounts of any width.
-pub fn payment(random: &mut Random) -> Result<[u8; 150], Refusal> {
+/// A random G of a file of this version, with amounts of any width. A version other than 4 and 6 is refused.
+pub fn payment(random: &mut Random, version: u64) -> Result<[u8; 150], Refusal> {
     let code = barcode(random)?;
     let mut out = [b' '; 150];
-    let mut writer = open_writer(random)?;
+    let mut writer = Writer {
+        stage: Stage::Open,
+        version,
+        ..Writer::new()
+    };
     writer.payment(
-        &payment_fields(random, &code),
+        &payment_fields(random, &code, version),
         random.number(12),
         random.number(7),
         &mut out,
@@ -171,17 +195,11 @@ pub fn trailer(random: &mut Random) -> [u8; 150] {
     out
 }
 
-/// A random A, G or Z.
-pub fn record(random: &mut Random) -> Result<[u8; 150], Refusal> {
+/// A random A of either version, G of this version, or Z.
+pub fn record(random: &mut Random, version: u64) -> Result<[u8; 150], Refusal> {
     match random.below(3) {
         0 => header(random),
-        1 => payment(random),
+        1 => payment(random, version),
         _ => Ok(trailer(random)),
     }
-}
-
-fn open_writer(random: &mut Random) -> Result<Writer, Refusal> {
-    let mut writer = Writer::new();
-    writer.header(&header_fields(random), &mut [b' '; 150])?;
-    Ok(writer)
 }

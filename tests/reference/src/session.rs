@@ -135,8 +135,8 @@ pub struct RunResult {
     pub answer: Result<(), Refusal>,
 }
 
-/// A session. While no file is open, `taken` and `total` are 0 and `working` equals `shown`, except in an arbitrary
-/// state.
+/// A session. While no file is open, `taken`, `total` and `version` are 0 and `working` equals `shown`, except in an
+/// arbitrary state.
 #[derive(Clone, Debug, PartialEq, Eq, Hash)]
 pub struct Session {
     /// Whether a file is open.
@@ -145,6 +145,8 @@ pub struct Session {
     pub taken: u64,
     /// The centavos of those payments.
     pub total: u64,
+    /// The version that the open file's header names, 4 or 6.
+    pub version: u64,
     /// The board shown, which has accepted files only.
     pub shown: Board,
     /// The working board, which has the open file's payments too.
@@ -164,23 +166,25 @@ impl Session {
             open: false,
             taken: 0,
             total: 0,
+            version: 0,
             shown: Board::new(),
             working: Board::new(),
         }
     }
 
-    /// Takes one record. Order: 1, 9, the fields; then for Z 13, 14, and for G 15, 16, 17, 18. A refusal changes
-    /// nothing.
+    /// Takes one record. Order: 1, 9; for G 10 at 80 if the version, in an arbitrary state, is neither 4 nor 6; the
+    /// fields; then for Z 13, 14, and for G 15, 16, 17, 18. A refusal changes nothing.
     pub fn take(&mut self, record: &[u8]) -> Result<(), Refusal> {
         let record = records::require_length(record)?;
         match (record[0], self.open) {
             (b'A', false) => {
-                records::header(record)?;
-                self.begin();
+                let header = records::header(record)?;
+                self.begin(header.version);
                 Ok(())
             }
             (b'G', true) => {
-                let payment = records::payment(record)?;
+                let codes = records::codes(self.version)?;
+                let payment = records::payment(record, codes)?;
                 self.post(&payment)
             }
             (b'Z', true) => {
@@ -231,15 +235,17 @@ impl Session {
         &self.shown
     }
 
-    /// Opens a file: the working board starts as the board shown.
-    fn begin(&mut self) {
+    /// Opens a file of this version: the working board starts as the board shown.
+    fn begin(&mut self, version: u64) {
         self.open = true;
         self.taken = 0;
         self.total = 0;
+        self.version = version;
         self.working = self.shown;
     }
 
     /// Adds a payment to the open file: 15, 16, 17, 18.
+    #[inline(always)]
     fn post(&mut self, payment: &Payment) -> Result<(), Refusal> {
         check_payment_count(self.taken)?;
         let total = file_sum(self.total, payment.received)?;
@@ -270,6 +276,7 @@ impl Session {
         self.open = false;
         self.taken = 0;
         self.total = 0;
+        self.version = 0;
         self.working = self.shown;
     }
 }

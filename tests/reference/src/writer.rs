@@ -23,6 +23,8 @@ pub struct Writer {
     pub taken: u64,
     /// The centavos of those payments.
     pub total: u64,
+    /// The version that the header written names, 4 or 6; 0 before that.
+    pub version: u64,
 }
 
 impl Default for Writer {
@@ -38,27 +40,29 @@ impl Writer {
             stage: Stage::Fresh,
             taken: 0,
             total: 0,
+            version: 0,
         }
     }
 
-    /// Writes the A of 78 field bytes. Order: 1, 9, the fields. A refusal changes nothing.
+    /// Writes the A of 80 field bytes. Order: 1, 9, the fields. A refusal changes nothing.
     pub fn header(&mut self, fields: &[u8], out: &mut [u8]) -> Result<(), Refusal> {
         let fields = fields.try_into().map_err(|_| Reason::Length.at(0))?;
         let out = require_length(out)?;
         self.expects(Stage::Fresh)?;
         let record = records::header_from_fields(fields);
-        records::header(&record)?;
+        let header = records::header(&record)?;
         *out = record;
         *self = Writer {
             stage: Stage::Open,
             taken: 0,
             total: 0,
+            version: header.version,
         };
         Ok(())
     }
 
-    /// Writes the G of 121 field bytes and two amounts. Order: 1, 9, the fields (21 in the turn of its field), 15, 16.
-    /// A refusal changes nothing.
+    /// Writes the G of 121 field bytes and two amounts. Order: 1, 9, 10 at 80 if the version, in an arbitrary state, is
+    /// neither 4 nor 6, the fields (21 in the turn of its field), 15, 16. A refusal changes nothing.
     pub fn payment(
         &mut self,
         fields: &[u8],
@@ -69,9 +73,10 @@ impl Writer {
         let fields = fields.try_into().map_err(|_| Reason::Length.at(0))?;
         let out = require_length(out)?;
         self.expects(Stage::Open)?;
+        let codes = records::codes(self.version)?;
         let mut record = records::payment_from_fields(fields);
         let money = write_money(&mut record, received, tariff);
-        first_refusal(records::payment(&record).map(|_| ()), money)?;
+        first_refusal(records::payment(&record, codes).map(|_| ()), money)?;
         check_payment_count(self.taken)?;
         self.total = file_sum(self.total, received)?;
         // No overflow: `taken` is below 999,997 here.

@@ -2,14 +2,14 @@
 
 mod common;
 
-use std::collections::BTreeMap;
+use std::collections::{BTreeMap, BTreeSet};
 
 use common::assert_answer;
 use common::naive::{NaiveBoard, NaiveSession};
 use reference::days::{self, Day};
 use reference::random::Random;
 use reference::records;
-use reference::{answer, Session, Stage, Writer};
+use reference::{answer, Session};
 
 /// How many files and records are accepted before a 65th issuer; `None` if there is no such issuer.
 fn refused_at(day: &Day) -> Option<(usize, u64)> {
@@ -82,7 +82,7 @@ fn sequence_numbers_rise_for_each_pair() {
         let day = days::day(&mut Random::new(seed), 10, 200, 3).unwrap();
         let mut last: BTreeMap<(Vec<u8>, Vec<u8>), u64> = BTreeMap::new();
         for record in day.bytes.chunks(150).filter(|record| record[0] == b'A') {
-            let field = |row| records::field(record, row).to_vec();
+            let field = |row| records::field(record, 0, row).to_vec();
             let pair = (field(records::A_BANK), field(records::A_AGREEMENT));
             let sequence = reference::digits::number(&field(records::A_SEQUENCE)).unwrap();
             if let Some(before) = last.insert(pair, sequence) {
@@ -91,6 +91,47 @@ fn sequence_numbers_rise_for_each_pair() {
         }
         assert!((1..=16).contains(&last.len()));
     }
+}
+
+/// The files of a day are of either version, and each has codes of its own version: under 06 all of them.
+#[test]
+fn days_mix_the_versions() {
+    let day = days::day(&mut Random::new(3), 20, 200, 20).unwrap();
+    let mut files: BTreeMap<u64, usize> = BTreeMap::new();
+    let mut codes: BTreeSet<(u64, usize, u8)> = BTreeSet::new();
+    let mut version = 0;
+    for record in day.bytes.chunks(150) {
+        match record[0] {
+            b'A' => {
+                version = u64::from(record[80] - b'0');
+                *files.entry(version).or_default() += 1;
+            }
+            b'G' => codes.extend([117, 141].map(|place| (version, place, record[place - 1]))),
+            _ => {}
+        }
+    }
+    assert_eq!(files.keys().collect::<Vec<_>>(), [&4, &6]);
+    assert!(files[&4] > 50 && files[&6] > 50, "{files:?}");
+    let seen = |version, place| {
+        let of_place = codes.range((version, place, 0)..=(version, place, 255));
+        of_place.map(|code| code.2).collect::<Vec<u8>>()
+    };
+    assert_eq!(seen(4, 117), b"123456abcdef");
+    assert_eq!(seen(6, 117), b"123456789abcdefghi");
+    assert_eq!(seen(4, 141), b"123");
+    assert_eq!(seen(6, 141), b"123456");
+}
+
+#[test]
+fn generators_answer_any_version() {
+    let mut random = Random::new(4);
+    for version in [0, 5, 77, u64::MAX] {
+        assert_answer(days::payment(&mut random, version), 10, 80);
+    }
+    let mut drawn: Vec<u64> = (0..100).map(|_| days::version(&mut random)).collect();
+    drawn.sort_unstable();
+    drawn.dedup();
+    assert_eq!(drawn, [4, 6]);
 }
 
 #[test]
@@ -108,7 +149,8 @@ fn a_seed_decides_the_numbers() {
 fn damage_changes_one_to_three_places() {
     let mut random = Random::new(9);
     for _ in 0..10_000 {
-        let good = days::record(&mut random).unwrap();
+        let version = days::version(&mut random);
+        let good = days::record(&mut random, version).unwrap();
         let mut bad = good;
         let places = days::damage(&mut random, &mut bad);
         let changed: Vec<usize> = (1..=150)
@@ -174,105 +216,5 @@ fn damaged_days_against_the_naive_session() {
     }
     for number in [0, 1, 2, 7, 8, 9, 10, 11, 12, 13, 14, 17] {
         assert!(numbers.contains_key(&number), "{number} of {numbers:?}");
-    }
-}
-
-/// Any list of calls of a new writer, refused ones among them: a new session accepts the file that the writer closed.
-#[test]
-fn any_calls_of_a_writer() {
-    let mut random = Random::new(11);
-    let mut closed = 0;
-    for _ in 0..2_000 {
-        let mut writer = Writer::new();
-        let mut bytes = Vec::new();
-        for _ in 0..random.below(60) {
-            let mut out = [7; 150];
-            let length = if random.once_in(20) { 149 } else { 150 };
-            let buffer = &mut out[..length];
-            let before = writer.clone();
-            let outcome = match random.below(30) {
-                0..=5 => {
-                    let mut fields = days::header_fields(&mut random);
-                    if random.once_in(4) {
-                        days::damage(&mut random, &mut fields);
-                    }
-                    writer.header(&fields, buffer)
-                }
-                6 => writer.trailer(buffer),
-                _ => {
-                    let code = days::barcode(&mut random).unwrap();
-                    let mut fields = days::payment_fields(&mut random, &code);
-                    if random.once_in(4) {
-                        days::damage(&mut random, &mut fields);
-                    }
-                    let (received, tariff) = (random.number(13), random.number(8));
-                    writer.payment(&fields, received, tariff, buffer)
-                }
-            };
-            match outcome {
-                Ok(()) => bytes.extend_from_slice(&out),
-                Err(_) => assert_eq!((&writer, out), (&before, [7; 150])),
-            }
-        }
-        let mut session = Session::new();
-        let run = session.run(&bytes);
-        assert_eq!(run.answer, Ok(()));
-        assert_eq!(run.files, u64::from(writer.stage == Stage::Closed));
-        assert_eq!(session.open, writer.stage == Stage::Open);
-        closed += run.files;
-        if session.open {
-            assert_eq!((session.taken, session.total), (writer.taken, writer.total));
-        }
-    }
-    assert!(closed > 100);
-}
-
-/// The writer refuses what the naive check of the record refuses, with 21 in the turn of its field.
-#[test]
-fn writer_refuses_as_the_record_would() {
-    let mut random = Random::new(12);
-    let open = {
-        let mut writer = Writer::new();
-        let fields = days::header_fields(&mut random);
-        writer.header(&fields, &mut [0; 150]).unwrap();
-        writer
-    };
-    for _ in 0..60_000 {
-        let code = days::barcode(&mut random).unwrap();
-        let mut fields = days::payment_fields(&mut random, &code);
-        days::damage(&mut random, &mut fields);
-        let (received, tariff) = (random.number(14), random.number(9));
-        let text = [
-            b"G",
-            &fields[..80],
-            format!("{:012}", received % 1_000_000_000_000).as_bytes(),
-            format!("{:07}", tariff % 10_000_000).as_bytes(),
-            &fields[80..],
-            &[b' '; 9],
-        ]
-        .concat();
-        let mut refusals = Vec::new();
-        if let Err((number, place)) = common::naive::record(&text, b"G") {
-            refusals.push((place, number));
-        }
-        if received >= 1_000_000_000_000 {
-            refusals.push((82, 21));
-        }
-        if tariff >= 10_000_000 {
-            refusals.push((94, 21));
-        }
-        refusals.sort_unstable();
-        let (place, number) = refusals.first().copied().unwrap_or((0, 0));
-        let mut out = [7; 150];
-        let outcome = open.clone().payment(&fields, received, tariff, &mut out);
-        assert_answer(outcome, number, place);
-        assert_eq!(
-            &out[..],
-            if outcome.is_ok() {
-                &text[..]
-            } else {
-                &[7; 150]
-            }
-        );
     }
 }

@@ -46,9 +46,9 @@ fn a_file_of_999_997_payments() {
     let mut writer = Writer::new();
     let mut out = [0; 150];
     let (header, payment) = (a(), g(&p4_code(), 3));
-    let (mut header_fields, mut payment_fields) = ([0; 78], [0; 121]);
-    records::join(&header, &mut header_fields).unwrap();
-    records::join(&payment, &mut payment_fields).unwrap();
+    let (mut header_fields, mut payment_fields) = ([0; 80], [0; 121]);
+    records::join(&header, 4, &mut header_fields).unwrap();
+    records::join(&payment, 4, &mut payment_fields).unwrap();
     writer.header(&header_fields, &mut out).unwrap();
     session.take(&out).unwrap();
     for _ in 0..999_997 {
@@ -110,9 +110,9 @@ fn file_and_board_totals_at_their_limits() {
 fn writer_total_at_its_limit() {
     let mut writer = Writer::new();
     let mut out = [0; 150];
-    let (mut header, mut payment) = ([0; 78], [0; 121]);
-    records::join(&a(), &mut header).unwrap();
-    records::join(&g(&p4_code(), 0), &mut payment).unwrap();
+    let (mut header, mut payment) = ([0; 80], [0; 121]);
+    records::join(&a(), 4, &mut header).unwrap();
+    records::join(&g(&p4_code(), 0), 4, &mut payment).unwrap();
     writer.header(&header, &mut out).unwrap();
     for _ in 0..100_000 {
         writer
@@ -180,6 +180,15 @@ fn small_or_edge(random: &mut Random) -> u64 {
     }
 }
 
+/// Mostly 4 or 6, else any number.
+fn arbitrary_version(random: &mut Random) -> u64 {
+    match random.below(8) {
+        0 => [0, 1, 3, 5, 7, 40, 46, 60, 77, u64::MAX][random.index(10)],
+        1 => random.bits(),
+        _ => days::version(random),
+    }
+}
+
 fn arbitrary_board(random: &mut Random, few: &[reference::Issuer]) -> Board {
     let mut board = Board {
         used: match random.below(4) {
@@ -226,6 +235,7 @@ fn arbitrary_sessions_against_the_naive_one() {
                 random.below(5)
             },
             total: small_or_edge(&mut random),
+            version: arbitrary_version(&mut random),
             shown: arbitrary_board(&mut random, &few),
             working: arbitrary_board(&mut random, &few),
         };
@@ -239,7 +249,12 @@ fn arbitrary_sessions_against_the_naive_one() {
             _ => {
                 let issuer = few[random.index(few.len())];
                 let code = days::barcode_of(&mut random, issuer).unwrap();
-                g(&code, random.number(12))
+                let payment = g(&code, random.number(12));
+                match random.below(4) {
+                    0 => with_bytes(payment, 117, &[random.one_of(b"06789:`fghij")]),
+                    1 => with_bytes(payment, 141, &[random.one_of(b"034567")]),
+                    _ => payment,
+                }
             }
         };
         let before = session.clone();
@@ -263,7 +278,7 @@ fn arbitrary_sessions_against_the_naive_one() {
         }
         *seen.entry(answer(&outcome).0).or_insert(0) += 1;
     }
-    for number in [0, 9, 13, 14, 15, 16, 17, 18] {
+    for number in [0, 9, 10, 12, 13, 14, 15, 16, 17, 18] {
         assert!(seen.get(&number) > Some(&100), "{number} of {seen:?}");
     }
 }

@@ -12,17 +12,27 @@ fn expected(outcome: Result<(), naive::Answer>) -> naive::Answer {
     outcome.err().unwrap_or((0, 0))
 }
 
+/// A version that is told with a record: mostly this one, else the other or any number.
+fn told(random: &mut Random, version: u64) -> u64 {
+    match random.below(8) {
+        0 => [0, 4, 5, 6, 7, 60, 77, u64::MAX][random.index(8)],
+        1 => random.bits(),
+        2 | 3 => days::version(random),
+        _ => version,
+    }
+}
+
 /// The field bytes of a record, in a buffer of an A, of a G or of any length.
-fn assert_joined(random: &mut Random, record: &[u8]) {
+fn assert_joined(random: &mut Random, record: &[u8], version: u64) {
     let length = match random.below(4) {
         0 => random.index(151),
-        1 => 78,
+        1 => 80,
         _ => 121,
     };
     let mut out = [7; 150];
-    let outcome = records::join(record, &mut out[..length]);
+    let outcome = records::join(record, version, &mut out[..length]);
     let mut left = [7; 150];
-    match naive::join(record, length) {
+    match naive::join(record, version, length) {
         Ok(fields) => {
             assert_eq!(answer(&outcome), (0, 0));
             left[..length].copy_from_slice(&fields);
@@ -96,16 +106,21 @@ fn records_alone() {
     let mut random = Random::new(24);
     let mut seen = BTreeSet::new();
     for round in 0..400_000 {
-        let mut record = days::record(&mut random).unwrap();
+        let made = days::version(&mut random);
+        let mut record = days::record(&mut random, made).unwrap();
+        let version = told(&mut random, made);
         match round % 8 {
             0 => {}
             1 => drop(days::swap(&mut random, &mut record)),
             _ => drop(days::damage(&mut random, &mut record)),
         }
-        let outcome = records::decode(&record);
-        assert_eq!(answer(&outcome), expected(naive::record(&record, b"AGZ")));
+        let outcome = records::decode(&record, version);
+        assert_eq!(
+            answer(&outcome),
+            expected(naive::record(&record, version, b"AGZ"))
+        );
         seen.insert(answer(&outcome).0);
-        assert_joined(&mut random, &record);
+        assert_joined(&mut random, &record, version);
     }
     for number in [0, 2, 3, 4, 5, 7, 8, 9, 10, 11, 12] {
         assert!(seen.contains(&number), "{number} of {seen:?}");
@@ -126,6 +141,7 @@ fn any_bytes_of_any_length() {
         if let Some(first) = bytes.first_mut() {
             *first = random.one_of(b"8AGZ");
         }
+        let version = told(&mut random, 4);
         assert_eq!(
             answer(&barcode::decode(&bytes)),
             expected(naive::barcode(&bytes))
@@ -135,10 +151,10 @@ fn any_bytes_of_any_length() {
             expected(naive::typed_line(&bytes))
         );
         assert_eq!(
-            answer(&records::decode(&bytes)),
-            expected(naive::record(&bytes, b"AGZ"))
+            answer(&records::decode(&bytes, version)),
+            expected(naive::record(&bytes, version, b"AGZ"))
         );
-        assert_joined(&mut random, &bytes);
+        assert_joined(&mut random, &bytes, version);
     }
 }
 
@@ -146,19 +162,21 @@ fn any_bytes_of_any_length() {
 fn every_byte_in_every_place_of_a_record() {
     let mut random = Random::new(26);
     for letter in 0..3 {
-        for _ in 0..3 {
+        for made in [4, 4, 6, 6] {
             let good = match letter {
                 0 => days::header(&mut random).unwrap(),
-                1 => days::payment(&mut random).unwrap(),
+                1 => days::payment(&mut random, made).unwrap(),
                 _ => days::trailer(&mut random),
             };
             for place in 1..=150 {
                 for byte in 0..=255 {
                     let record = common::with_byte(good, place, byte);
-                    assert_eq!(
-                        answer(&records::decode(&record)),
-                        expected(naive::record(&record, b"AGZ"))
-                    );
+                    for version in [4, 6, 5] {
+                        assert_eq!(
+                            answer(&records::decode(&record, version)),
+                            expected(naive::record(&record, version, b"AGZ"))
+                        );
+                    }
                 }
             }
         }

@@ -4,7 +4,7 @@ mod common;
 
 use std::collections::BTreeSet;
 
-use common::{a, assert_answer, code_for, g, p4_code, with_byte, with_bytes, z, P4};
+use common::{a, assert_answer, code_for, decode, g, p4_code, with_byte, with_bytes, z, P4};
 use reference::{answer, barcode, line, records, Board, Date, Modulus, Reason, Refusal, Session};
 
 /// A session with an open file that has these figures.
@@ -78,7 +78,7 @@ fn each_number_with_its_place() {
     };
     let check_barcode = |bytes: &[u8]| barcode::decode(bytes).map(|_| ());
     let check_line = |bytes: &[u8]| line::decode(bytes).map(|_| ());
-    let check_record = |bytes: &[u8]| records::decode(bytes).map(|_| ());
+    let check_record = |bytes: &[u8]| decode(bytes).map(|_| ());
     let take = |mut session: Session, record: &[u8]| {
         let before = session.clone();
         let outcome = session.take(record);
@@ -143,8 +143,12 @@ fn each_number_with_its_place() {
     assert_seen(check_record(&with_bytes(a(), 66, b"21000229")), 11, 66);
     assert_seen(check_record(&with_bytes(good, 22, b"20240431")), 11, 22);
     assert_seen(check_record(&with_bytes(good, 30, b"20241301")), 11, 30);
-    assert_seen(check_record(&with_byte(good, 117, b'g')), 12, 117);
+    assert_seen(check_record(&with_byte(good, 117, b'j')), 12, 117);
     assert_seen(check_record(&with_byte(good, 141, b'0')), 12, 141);
+    let under_04 = |bytes: &[u8]| records::decode(bytes, 4).map(|_| ());
+    assert_seen(under_04(&with_byte(good, 117, b'g')), 12, 117);
+    assert_seen(under_04(&with_byte(good, 141, b'4')), 12, 141);
+    assert_seen(records::decode(&good, 77).map(|_| ()), 10, 80);
     assert_seen(take(session(0, 0, none), &z(3, 1)), 13, 2);
     assert_seen(take(session(0, 0, none), &z(2, 1)), 14, 8);
     assert_seen(take(session(999_997, u64::MAX, none), &good), 15, 1);
@@ -208,7 +212,7 @@ fn a_record_is_read_from_left_to_right() {
         (1, b'X', 9, 1),
     ] {
         record[place - 1] = byte;
-        assert_answer(records::decode(&record), number, shown);
+        assert_answer(decode(&record), number, shown);
     }
     let mut record = a();
     for (place, byte, number, shown) in [
@@ -228,7 +232,7 @@ fn a_record_is_read_from_left_to_right() {
         (1, b'a', 9, 1),
     ] {
         record[place - 1] = byte;
-        assert_answer(records::decode(&record), number, shown);
+        assert_answer(decode(&record), number, shown);
     }
     let mut record = z(2, 0);
     for (place, byte, number, shown) in [
@@ -240,7 +244,7 @@ fn a_record_is_read_from_left_to_right() {
         (1, 0, 9, 1),
     ] {
         record[place - 1] = byte;
-        assert_answer(records::decode(&record), number, shown);
+        assert_answer(decode(&record), number, shown);
     }
 }
 

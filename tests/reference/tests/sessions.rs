@@ -79,6 +79,7 @@ fn abandon_without_a_file_changes_nothing() {
         open: false,
         taken: u64::MAX,
         total: 5,
+        version: 77,
         shown: Board::new(),
         working: Board {
             used: 99,
@@ -99,6 +100,7 @@ fn an_accepted_a_starts_from_the_board_shown() {
         open: false,
         taken: 9,
         total: 9,
+        version: 9,
         shown: Board::new(),
         working: Board {
             payments: 9,
@@ -114,7 +116,7 @@ fn closed_sessions_are_equal() {
     let mut session = opened();
     assert_answer(session.take(&g(&p4_code(), 5)), 0, 0);
     assert_answer(session.take(&z(3, 5)), 0, 0);
-    assert_eq!((session.taken, session.total), (0, 0));
+    assert_eq!((session.taken, session.total, session.version), (0, 0, 0));
     assert_eq!(session.working, session.shown);
     let closed = session.clone();
     assert_answer(session.take(&a()), 0, 0);

@@ -73,19 +73,24 @@ fn record_to_field_bytes_and_back() {
     let mut random = Random::new(4);
     for _ in 0..20_000 {
         let header = days::header(&mut random).unwrap();
-        let mut fields = [0; 78];
-        records::join(&header, &mut fields).unwrap();
+        let Ok(Record::A(decoded)) = records::decode(&header, 0) else {
+            panic!("an A")
+        };
+        let version = decoded.version;
+        let mut fields = [0; 80];
+        records::join(&header, 0, &mut fields).unwrap();
         let mut writer = Writer::new();
         let mut out = [0; 150];
         writer.header(&fields, &mut out).unwrap();
         assert_eq!(out, header);
+        assert_eq!(writer.version, version);
 
-        let payment = days::payment(&mut random).unwrap();
-        let Ok(Record::G(decoded)) = records::decode(&payment) else {
+        let payment = days::payment(&mut random, version).unwrap();
+        let Ok(Record::G(decoded)) = records::decode(&payment, version) else {
             panic!("a G")
         };
         let mut fields = [0; 121];
-        records::join(&payment, &mut fields).unwrap();
+        records::join(&payment, version, &mut fields).unwrap();
         writer
             .payment(&fields, decoded.received, decoded.tariff, &mut out)
             .unwrap();
@@ -93,7 +98,7 @@ fn record_to_field_bytes_and_back() {
         assert_eq!((writer.taken, writer.total), (1, decoded.received));
         writer.trailer(&mut out).unwrap();
         assert_eq!(out, common::z(3, decoded.received));
-        assert_eq!(writer.stage, Stage::Closed);
+        assert_eq!((writer.stage, writer.version), (Stage::Closed, version));
     }
 }
 
@@ -101,20 +106,22 @@ fn record_to_field_bytes_and_back() {
 fn decoded_numbers_are_those_of_the_fields() {
     let mut random = Random::new(5);
     for _ in 0..20_000 {
-        let record = days::record(&mut random).unwrap();
-        let number = |row: usize| digits::number(records::field(&record, row)).unwrap();
-        match records::decode(&record).unwrap() {
+        let version = days::version(&mut random);
+        let record = days::record(&mut random, version).unwrap();
+        let number = |row: usize| digits::number(records::field(&record, version, row)).unwrap();
+        match records::decode(&record, version).unwrap() {
             Record::A(decoded) => {
                 assert_eq!(decoded.bank, number(records::A_BANK));
                 assert_eq!(decoded.sequence, number(records::A_SEQUENCE));
-                let date = records::field(&record, records::A_DATE);
+                assert_eq!(decoded.version, number(records::A_VERSION));
+                let date = records::field(&record, version, records::A_DATE);
                 assert_eq!(decoded.date.digits(), date);
             }
             Record::G(decoded) => {
                 assert_eq!(decoded.received, number(records::G_RECEIVED));
                 assert_eq!(decoded.tariff, number(records::G_TARIFF));
                 assert_eq!(decoded.number, number(records::G_NUMBER));
-                let bytes = |row| records::field(&record, row);
+                let bytes = |row| records::field(&record, version, row);
                 assert_eq!(decoded.paid.digits(), bytes(records::G_PAID));
                 assert_eq!(decoded.credited.digits(), bytes(records::G_CREDITED));
                 assert_eq!([decoded.capture], bytes(records::G_CAPTURE));

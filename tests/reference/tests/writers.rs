@@ -7,15 +7,15 @@ use reference::{answer, records, Stage, Writer};
 
 const FILE_LIMIT: u64 = 99_999_999_999_999_999;
 
-fn header_fields() -> [u8; 78] {
-    let mut fields = [0; 78];
-    records::join(&a(), &mut fields).unwrap();
+fn header_fields() -> [u8; 80] {
+    let mut fields = [0; 80];
+    records::join(&a(), 4, &mut fields).unwrap();
     fields
 }
 
 fn payment_fields() -> [u8; 121] {
     let mut fields = [0; 121];
-    records::join(&g(&p4_code(), 0), &mut fields).unwrap();
+    records::join(&g(&p4_code(), 0), 4, &mut fields).unwrap();
     fields
 }
 
@@ -36,29 +36,30 @@ fn order_of_calls() {
     assert_answer(writer.payment(&payment, 1, 1, &mut out[..149]), 1, 0);
     assert_answer(writer.trailer(&mut out), 9, 1);
     assert_answer(writer.trailer(&mut out[..149]), 1, 0);
-    assert_answer(writer.header(&header[..77], &mut out), 1, 0);
+    assert_answer(writer.header(&header[..79], &mut out), 1, 0);
     assert_answer(writer.header(&header, &mut out[..149]), 1, 0);
     assert_eq!((&writer, out), (&Writer::new(), [7; 150]));
     assert_answer(writer.header(&header, &mut out), 0, 0);
     assert_eq!(out, a());
     assert_answer(writer.header(&header, &mut out), 9, 1);
-    assert_answer(writer.header(&[0; 78], &mut out), 9, 1);
+    assert_answer(writer.header(&[0; 80], &mut out), 9, 1);
     assert_eq!(out, a());
     assert_answer(writer.payment(&payment, 109, 150, &mut out), 0, 0);
     assert_eq!(out, g(&p4_code(), 109));
     assert_answer(writer.trailer(&mut out), 0, 0);
     assert_eq!(out, z(3, 109));
-    // A closed writer keeps its count and total.
+    // A closed writer keeps its count, total and version.
     let closed = Writer {
         stage: Stage::Closed,
         taken: 1,
         total: 109,
+        version: 4,
     };
     assert_eq!(writer, closed);
     assert_answer(writer.header(&header, &mut out), 9, 1);
     assert_answer(writer.payment(&payment, u64::MAX, 0, &mut out), 9, 1);
     assert_answer(writer.trailer(&mut out), 9, 1);
-    assert_answer(writer.header(&header[..77], &mut out), 1, 0);
+    assert_answer(writer.header(&header[..79], &mut out), 1, 0);
     assert_answer(writer.payment(&payment[..9], 1, 1, &mut out), 1, 0);
     assert_answer(writer.trailer(&mut out[..9]), 1, 0);
     assert_eq!((writer, out), (closed, z(3, 109)));
@@ -67,8 +68,10 @@ fn order_of_calls() {
 #[test]
 fn places_are_those_of_the_record() {
     let mut out = [7; 150];
-    let fields = with_byte(header_fields(), 78, b'o');
-    assert_answer(Writer::new().header(&fields, &mut out), 10, 82);
+    for (byte, value, place) in [(80, b'o', 82), (79, b'5', 80), (78, b'x', 80)] {
+        let fields = with_byte(header_fields(), byte, value);
+        assert_answer(Writer::new().header(&fields, &mut out), 10, place);
+    }
     let fields = with_byte(header_fields(), 41, b'x');
     assert_answer(Writer::new().header(&fields, &mut out), 2, 43);
     let fields = with_byte(header_fields(), 1, 10);
@@ -139,6 +142,7 @@ fn arbitrary_writers() {
             stage: Stage::Open,
             taken,
             total,
+            version: 4,
         };
         let before = writer.clone();
         assert_answer(writer.trailer(&mut out), number, place);
@@ -148,6 +152,7 @@ fn arbitrary_writers() {
         stage: Stage::Open,
         taken: u64::MAX,
         total: u64::MAX,
+        version: 4,
     };
     assert_answer(writer.payment(&payment_fields(), 0, 0, &mut out), 15, 1);
     writer.taken = 0;
@@ -166,22 +171,30 @@ fn arbitrary_writers() {
         stage: Stage::Closed,
         taken: 999_997,
         total: FILE_LIMIT,
+        version: 4,
     };
     assert_eq!(writer, closed);
 }
 
-/// A fresh writer in an arbitrary state: refusals keep its count and total, an accepted A starts them at 0.
+/// A fresh writer in an arbitrary state: refusals keep its count, total and version; an accepted A starts the first two
+/// at 0 and gives its own version.
 #[test]
 fn arbitrary_fresh_writers() {
-    for (taken, total) in [(5, 0), (0, 5), (999_997, FILE_LIMIT), (u64::MAX, u64::MAX)] {
+    for (taken, total, version) in [
+        (5, 0, 0),
+        (0, 5, 6),
+        (999_997, FILE_LIMIT, 77),
+        (u64::MAX, u64::MAX, u64::MAX),
+    ] {
         let mut out = [7; 150];
         let mut writer = Writer {
             stage: Stage::Fresh,
             taken,
             total,
+            version,
         };
         let before = writer.clone();
-        let bad = with_byte(header_fields(), 78, b'o');
+        let bad = with_byte(header_fields(), 80, b'o');
         assert_answer(writer.header(&bad, &mut out), 10, 82);
         assert_answer(writer.payment(&payment_fields(), 1, 1, &mut out), 9, 1);
         assert_answer(writer.trailer(&mut out), 9, 1);
@@ -192,6 +205,7 @@ fn arbitrary_fresh_writers() {
             stage: Stage::Open,
             taken: 0,
             total: 0,
+            version: 4,
         };
         assert_eq!(writer, open);
     }

@@ -78,7 +78,7 @@ fn pairs(random: &mut Random) -> Vec<Pair> {
         .collect()
 }
 
-/// The field bytes of the pair's next A, with a higher sequence number.
+/// The field bytes of the pair's next A, of either version, with a higher sequence number.
 fn next_header(random: &mut Random, pair: &mut Pair) -> [u8; HEADER_FIELDS] {
     // There are numbers for 300,000 files of a pair; after that it keeps the last one.
     pair.sequence = (pair.sequence + random.between(1, 3)).min(999_999);
@@ -127,7 +127,7 @@ fn next_issuer(random: &mut Random, issuers: &[Issuer], seen: &mut usize) -> Iss
     issuers[random.index(*seen)]
 }
 
-/// Adds a file with one payment for each of these issuers, in this order.
+/// Adds a file with one payment for each of these issuers, in this order, with the codes of the header's version.
 fn file(
     random: &mut Random,
     header: &[u8; HEADER_FIELDS],
@@ -139,7 +139,7 @@ fn file(
     writer.header(header, new_record(&mut day.bytes))?;
     for &issuer in issuers {
         let code = barcode_of(random, issuer)?;
-        let fields = payment_fields(random, &code);
+        let fields = payment_fields(random, &code, writer.version);
         let received = random.number(AMOUNT_DIGITS);
         writer.payment(
             &fields,

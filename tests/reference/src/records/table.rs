@@ -8,6 +8,8 @@ pub const SERVICE_ACCENTED: &[u8; 17] = b"C\xD3DIGO DE BARRAS ";
 #[derive(Clone, Copy, Debug, PartialEq, Eq)]
 pub enum Content {
     Fixed(&'static [u8]),
+    /// `04` or `06`; another content is refused as that of a fixed field is.
+    Version,
     Service,
     Text,
     Digits,
@@ -36,7 +38,7 @@ const fn row(letter: u8, first: usize, last: usize, content: Content) -> Row {
     }
 }
 
-/// The three layouts in one table: rows 0 to 10 are A, 11 to 23 G, 24 to 27 Z.
+/// The three layouts in one table, which both versions share: rows 0 to 10 are A, 11 to 23 G, 24 to 27 Z.
 pub const TABLE: [Row; 28] = [
     row(b'A', 1, 1, Content::Fixed(b"A")),
     row(b'A', 2, 2, Content::Fixed(b"2")),
@@ -46,7 +48,7 @@ pub const TABLE: [Row; 28] = [
     row(b'A', 46, 65, Content::Text),
     row(b'A', 66, 73, Content::Date),
     row(b'A', 74, 79, Content::Digits),
-    row(b'A', 80, 81, Content::Fixed(b"04")),
+    row(b'A', 80, 81, Content::Version),
     row(b'A', 82, 98, Content::Service),
     row(b'A', 99, 150, Content::Fixed(&[b' '; 52])),
     row(b'G', 1, 1, Content::Fixed(b"G")),

@@ -5,7 +5,7 @@
 
 pub mod naive;
 
-use reference::{answer, line, Refusal};
+use reference::{answer, line, records, Record, Refusal};
 
 /// The typed line of P4, without blanks.
 pub const P4: &[u8; 48] = b"817700000000010936599702411310797039001433708318";
@@ -23,7 +23,7 @@ pub fn barcode_of_line(typed: &[u8]) -> [u8; 44] {
     code
 }
 
-/// A header, spelled out.
+/// A header of version 04, spelled out.
 pub fn a() -> [u8; 150] {
     let text = format!(
         "A2{:<20}{:<20}{:03}{:<20}{DATE}{:06}04CODIGO DE BARRAS {:52}",
@@ -32,7 +32,12 @@ pub fn a() -> [u8; 150] {
     text.as_bytes().try_into().expect("150 bytes")
 }
 
-/// A payment of a barcode, spelled out.
+/// The same header of version 06.
+pub fn a06() -> [u8; 150] {
+    with_bytes(a(), 80, b"06")
+}
+
+/// A payment of a barcode, spelled out. Its codes are of both versions.
 pub fn g(code: &[u8; 44], received: u64) -> [u8; 150] {
     let code = String::from_utf8(code.to_vec()).expect("digits");
     let text = format!(
@@ -66,6 +71,14 @@ pub fn code_for(segment: u64, number: u64) -> [u8; 44] {
     let free = vec![b'0'; reference::barcode::free_length(segment)];
     reference::barcode::build(segment, 6, 0, number, &free, &mut code).expect("good fields");
     code
+}
+
+/// Decodes a record that both versions decode alike.
+#[track_caller]
+pub fn decode(record: &[u8]) -> Result<Record, Refusal> {
+    let outcome = records::decode(record, 4);
+    assert_eq!(records::decode(record, 6), outcome);
+    outcome
 }
 
 /// The outcome must have this answer.

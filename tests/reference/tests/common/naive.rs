@@ -117,8 +117,8 @@ pub fn typed_line(line: &[u8]) -> Outcome<()> {
     general(&code)
 }
 
-/// First place, last place and content: t text, n number, d date, b barcode, c capture, f payment form, s service,
-/// _ blanks, or a fixed string after =.
+/// First place, last place and content: t text, n number, d date, b barcode, c capture, f payment form, v version,
+/// s service, _ blanks, or a fixed string after =.
 const A: &[(usize, usize, &str)] = &[
     (2, 2, "=2"),
     (3, 22, "t"),
@@ -127,7 +127,7 @@ const A: &[(usize, usize, &str)] = &[
     (46, 65, "t"),
     (66, 73, "d"),
     (74, 79, "n"),
-    (80, 81, "=04"),
+    (80, 81, "v"),
     (82, 98, "s"),
     (99, 150, "_"),
 ];
@@ -147,7 +147,17 @@ const G: &[(usize, usize, &str)] = &[
 ];
 const Z: &[(usize, usize, &str)] = &[(2, 7, "n"), (8, 24, "n"), (25, 150, "_")];
 
-fn field(first: usize, bytes: &[u8], content: &str) -> Outcome<()> {
+/// The captures and the payment forms: each byte with the first version that has it.
+const CAPTURES: &[(&[u8], u64)] = &[(b"123456", 4), (b"789", 6), (b"abcdef", 4), (b"ghi", 6)];
+const FORMS: &[(&[u8], u64)] = &[(b"123", 4), (b"456", 6)];
+
+fn is_code(codes: &[(&[u8], u64)], byte: u8, version: u64) -> bool {
+    codes
+        .iter()
+        .any(|(bytes, since)| bytes.contains(&byte) && *since <= version)
+}
+
+fn field(first: usize, bytes: &[u8], content: &str, version: u64) -> Outcome<()> {
     let no = |number: u64, bad: &dyn Fn(u8) -> bool| match bytes.iter().position(|byte| bad(*byte))
     {
         Some(i) => Err((number, first + i)),
@@ -162,8 +172,9 @@ fn field(first: usize, bytes: &[u8], content: &str) -> Outcome<()> {
             or(is_date(bytes), 11)
         }
         "b" => barcode(bytes).map_err(|(number, place)| (number, first + place - 1)),
-        "c" => or(b"123456abcdef".contains(&bytes[0]), 12),
-        "f" => or(b"123".contains(&bytes[0]), 12),
+        "c" => or(is_code(CAPTURES, bytes[0], version), 12),
+        "f" => or(is_code(FORMS, bytes[0], version), 12),
+        "v" => or(bytes[0] == 48 && (bytes[1] == 52 || bytes[1] == 54), 10),
         "s" => {
             let rest = bytes[0] == b'C' && &bytes[2..] == b"DIGO DE BARRAS ";
             or(rest && (bytes[1] == 79 || bytes[1] == 211), 10)
@@ -173,13 +184,16 @@ fn field(first: usize, bytes: &[u8], content: &str) -> Outcome<()> {
     }
 }
 
-/// A single record, whose letter must be one of those allowed.
-pub fn record(bytes: &[u8], allowed: &[u8]) -> Outcome<()> {
+/// A single record, whose letter must be one of those allowed, in a file of this version.
+pub fn record(bytes: &[u8], version: u64, allowed: &[u8]) -> Outcome<()> {
     if bytes.len() != 150 {
         return Err((1, 0));
     }
     if !allowed.contains(&bytes[0]) {
         return Err((9, 1));
+    }
+    if bytes[0] == b'G' && version != 4 && version != 6 {
+        return Err((10, 80));
     }
     let rows = match bytes[0] {
         b'A' => A,
@@ -187,25 +201,25 @@ pub fn record(bytes: &[u8], allowed: &[u8]) -> Outcome<()> {
         _ => Z,
     };
     for (first, last, content) in rows {
-        field(*first, &bytes[first - 1..*last], content)?;
+        field(*first, &bytes[first - 1..*last], content, version)?;
     }
     Ok(())
 }
 
-/// The field bytes of an A or a G, for a buffer of this length.
-pub fn join(bytes: &[u8], length: usize) -> Outcome<Vec<u8>> {
+/// The field bytes of an A or a G in a file of this version, for a buffer of this length.
+pub fn join(bytes: &[u8], version: u64, length: usize) -> Outcome<Vec<u8>> {
     if bytes.len() != 150 {
         return Err((1, 0));
     }
     let fields = match bytes[0] {
-        b'A' => [&bytes[2..79], &bytes[82..83]].concat(),
+        b'A' => [&bytes[2..79], &bytes[79..81], &bytes[82..83]].concat(),
         b'G' => [&bytes[1..81], &bytes[100..141]].concat(),
         _ => return Err((9, 1)),
     };
     if length != fields.len() {
         return Err((1, 0));
     }
-    record(bytes, b"AG")?;
+    record(bytes, version, b"AG")?;
     Ok(fields)
 }
 
@@ -243,6 +257,7 @@ pub struct NaiveSession {
     pub open: bool,
     pub taken: u128,
     pub total: u128,
+    pub version: u64,
     pub shown: NaiveBoard,
     pub working: NaiveBoard,
 }
@@ -255,6 +270,7 @@ impl NaiveSession {
             open: session.open,
             taken: u128::from(session.taken),
             total: u128::from(session.total),
+            version: session.version,
             shown: NaiveBoard::of(&session.shown),
             working: NaiveBoard::of(&session.working),
         }
@@ -262,13 +278,16 @@ impl NaiveSession {
 
     /// The next session, or the refusal.
     pub fn take(&self, bytes: &[u8]) -> Outcome<NaiveSession> {
-        record(bytes, if self.open { b"GZ" } else { b"A" })?;
+        let allowed: &[u8] = if self.open { b"GZ" } else { b"A" };
+        record(bytes, self.version, allowed)?;
         let mut next = self.clone();
         match bytes[0] {
             b'A' => {
                 next.open = true;
                 next.taken = 0;
                 next.total = 0;
+                // Accepted, so the second version byte is 52 or 54.
+                next.version = u64::from(bytes[80]) - 48;
                 next.working = self.shown.clone();
             }
             b'G' => next.post(bytes)?,
