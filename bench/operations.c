@@ -13,6 +13,8 @@ static uint8_t codes[MOST_RECORDS][HOLLYTROT_BARCODE], lines[MOST_RECORDS][HOLLY
 static uint8_t header[HOLLYTROT_HEADER_FIELDS], fields[MOST_RECORDS][HOLLYTROT_PAYMENT_FIELDS];
 static uint64_t received[MOST_RECORDS], tariff[MOST_RECORDS];
 static size_t records;
+/* The version that the file's A names. */
+static uint64_t version;
 
 static _Noreturn void fail(const char *why)
 {
@@ -29,13 +31,14 @@ static void check_accepted(hollytrot_answer answer)
 static void prepare(void)
 {
     records = fread(day, 1, sizeof day, stdin) / HOLLYTROT_RECORD;
-    check_accepted(hollytrot_record_join(day, HOLLYTROT_RECORD, header, sizeof header));
+    version = hollytrot_record_decode(day, HOLLYTROT_RECORD, 0).header.version;
+    check_accepted(hollytrot_record_join(day, HOLLYTROT_RECORD, version, header, sizeof header));
     for (size_t i = 1; i + 1 < records; i++) {
         const uint8_t *g = day + i * HOLLYTROT_RECORD;
         memcpy(codes[i], g + 37, HOLLYTROT_BARCODE);
         check_accepted(hollytrot_line_from_barcode(codes[i], HOLLYTROT_BARCODE, lines[i], HOLLYTROT_LINE));
-        check_accepted(hollytrot_record_join(g, HOLLYTROT_RECORD, fields[i], HOLLYTROT_PAYMENT_FIELDS));
-        hollytrot_record decoded = hollytrot_record_decode(g, HOLLYTROT_RECORD);
+        check_accepted(hollytrot_record_join(g, HOLLYTROT_RECORD, version, fields[i], HOLLYTROT_PAYMENT_FIELDS));
+        hollytrot_record decoded = hollytrot_record_decode(g, HOLLYTROT_RECORD, version);
         received[i] = decoded.payment.received;
         tariff[i] = decoded.payment.tariff;
     }
@@ -68,7 +71,7 @@ static uint64_t record(void)
 {
     uint64_t sum = 0;
     for (size_t i = 0; i < records; i++) {
-        hollytrot_record r = hollytrot_record_decode(day + i * HOLLYTROT_RECORD, HOLLYTROT_RECORD);
+        hollytrot_record r = hollytrot_record_decode(day + i * HOLLYTROT_RECORD, HOLLYTROT_RECORD, version);
         check_accepted(r.answer);
         sum += r.header.sequence + r.payment.received + r.payment.tariff + r.payment.number;
         sum += r.trailer.count + r.trailer.total;

@@ -22,9 +22,10 @@ AT(hollytrot_fields, issuer, 16);
 AT(hollytrot_fields, due, 32);
 SIZE(hollytrot_decoded, 72);
 AT(hollytrot_decoded, fields, 16);
-SIZE(hollytrot_header, 40);
+SIZE(hollytrot_header, 48);
 AT(hollytrot_header, date, 8);
 AT(hollytrot_header, sequence, 32);
+AT(hollytrot_header, version, 40);
 SIZE(hollytrot_payment, 128);
 AT(hollytrot_payment, credited, 24);
 AT(hollytrot_payment, barcode, 48);
@@ -33,16 +34,17 @@ AT(hollytrot_payment, tariff, 112);
 AT(hollytrot_payment, number, 120);
 SIZE(hollytrot_trailer, 16);
 AT(hollytrot_trailer, total, 8);
-SIZE(hollytrot_record, 208);
+SIZE(hollytrot_record, 216);
 AT(hollytrot_record, letter, 16);
 AT(hollytrot_record, header, 24);
-AT(hollytrot_record, payment, 64);
-AT(hollytrot_record, trailer, 192);
-SIZE(hollytrot_file, 16);
+AT(hollytrot_record, payment, 72);
+AT(hollytrot_record, trailer, 200);
+SIZE(hollytrot_file, 24);
 AT(hollytrot_file, total, 8);
-SIZE(hollytrot_writer, 24);
+AT(hollytrot_file, version, 16);
+SIZE(hollytrot_writer, 32);
 AT(hollytrot_writer, file, 8);
-SIZE(hollytrot_write_result, 40);
+SIZE(hollytrot_write_result, 48);
 AT(hollytrot_write_result, writer, 16);
 SIZE(hollytrot_tally, 16);
 AT(hollytrot_tally, centavos, 8);
@@ -51,7 +53,7 @@ AT(hollytrot_lane, tally, 16);
 SIZE(hollytrot_board, 2072);
 AT(hollytrot_board, used, 2048);
 AT(hollytrot_board, total, 2056);
-SIZE(hollytrot_session, 4168);
+SIZE(hollytrot_session, 4176);
 AT(hollytrot_session, work, 2072);
 AT(hollytrot_session, opened, 4144);
 AT(hollytrot_session, file, 4152);
@@ -60,12 +62,12 @@ AT(hollytrot_limits, record_length, 8);
 AT(hollytrot_limits, payments, 16);
 AT(hollytrot_limits, file_total, 24);
 AT(hollytrot_limits, board_total, 32);
-SIZE(hollytrot_take_result, 4184);
+SIZE(hollytrot_take_result, 4192);
 AT(hollytrot_take_result, session, 16);
-SIZE(hollytrot_run_result, 4200);
+SIZE(hollytrot_run_result, 4208);
 AT(hollytrot_run_result, session, 16);
-AT(hollytrot_run_result, records, 4184);
-AT(hollytrot_run_result, files, 4192);
+AT(hollytrot_run_result, records, 4192);
+AT(hollytrot_run_result, files, 4200);
 SIZE(hollytrot_page_result, 24);
 AT(hollytrot_page_result, length, 16);
 
@@ -140,50 +142,67 @@ static void dates(void)
     SAME(hollytrot_check_eleven(text("01230067896"), 11), 0);
 }
 
+/* The field bytes of an A of version 6, and of a G whose capture only version 6 has. */
+static const char header[] = "AGREEMENT           COMPANY             237BANK                2023123100432106O";
+static uint8_t fields[HOLLYTROT_PAYMENT_FIELDS];
+
 static uint8_t a[150], g[150], z[150];
+
+static void same_writer(hollytrot_writer found, uint64_t stage, hollytrot_file file)
+{
+    SAME(found.stage, stage);
+    SAME(found.file.taken, file.taken);
+    SAME(found.file.total, file.total);
+    SAME(found.file.version, file.version);
+}
+
+static void fill_fields(void)
+{
+    memset(fields, ' ', sizeof fields);
+    memcpy(fields + 20, "2024010220240304", 16);
+    memcpy(fields + 36, code, 44);
+    memcpy(fields + 80, "00056789", 8);
+    fields[96] = 'g';
+    fields[120] = '2';
+}
 
 /* The three records, written by a writer with a value in each of its fields. */
 static void writers(void)
 {
     hollytrot_writer writer = hollytrot_writer_new();
-    SAME(writer.stage, 0);
-    SAME(writer.file.taken, 0);
-    SAME(writer.file.total, 0);
-    const char *header = "AGREEMENT           COMPANY             237BANK                20231231004321O";
-    hollytrot_write_result result = hollytrot_writer_header(writer, text(header), 78, a, 150);
+    same_writer(writer, 0, (hollytrot_file){0, 0, 0});
+    hollytrot_write_result result = hollytrot_writer_header(writer, text(header), HOLLYTROT_HEADER_FIELDS, a, 150);
     same_answer(result.answer, 0, 0);
-    SAME(result.writer.stage, 1);
+    same_writer(result.writer, 1, (hollytrot_file){0, 0, 6});
 
-    uint8_t fields[121];
-    memset(fields, ' ', 121);
-    memcpy(fields + 20, "2024010220240304", 16);
-    memcpy(fields + 36, code, 44);
-    memcpy(fields + 80, "00056789", 8);
-    fields[96] = 'a';
-    fields[120] = '2';
-    writer = (hollytrot_writer){1, {7, 1000}};
+    fill_fields();
+    /* with a version that does not have the capture, then with a number that is no version */
+    writer = (hollytrot_writer){1, {7, 1000, 4}};
+    result = hollytrot_writer_payment(writer, fields, 121, 123456, 789, g, 150);
+    same_answer(result.answer, 12, 117);
+    writer.file.version = (1ull << 32) + 6;
+    result = hollytrot_writer_payment(writer, fields, 121, 123456, 789, g, 150);
+    same_answer(result.answer, 10, 80);
+    same_writer(result.writer, 1, writer.file);
+    writer.file.version = 6;
     result = hollytrot_writer_payment(writer, fields, 121, 123456, 789, g, 150);
     same_answer(result.answer, 0, 0);
-    SAME(result.writer.stage, 1);
-    SAME(result.writer.file.taken, 8);
-    SAME(result.writer.file.total, 124456);
+    same_writer(result.writer, 1, (hollytrot_file){8, 124456, 6});
 
     result = hollytrot_writer_trailer(result.writer, z, 150);
     same_answer(result.answer, 0, 0);
-    SAME(result.writer.stage, 2);
+    same_writer(result.writer, 2, (hollytrot_file){8, 124456, 6});
     same_bytes(__LINE__, z, "Z00001000000000000124456 ", 25);
     /* a closed writer with another stage number is returned unchanged */
-    writer = (hollytrot_writer){77, {8, 9}};
+    writer = (hollytrot_writer){77, {8, 9, 10}};
     result = hollytrot_writer_trailer(writer, z, 150);
     same_answer(result.answer, 9, 1);
-    SAME(result.writer.stage, 77);
-    SAME(result.writer.file.taken, 8);
-    SAME(result.writer.file.total, 9);
+    same_writer(result.writer, 77, writer.file);
 }
 
 static void records(void)
 {
-    hollytrot_record record = hollytrot_record_decode(a, 150);
+    hollytrot_record record = hollytrot_record_decode(a, 150, 0);
     same_answer(record.answer, 0, 0);
     SAME(record.letter, 'A');
     SAME(record.header.bank, 237);
@@ -191,8 +210,9 @@ static void records(void)
     SAME(record.header.date.month, 12);
     SAME(record.header.date.day, 31);
     SAME(record.header.sequence, 4321);
+    SAME(record.header.version, 6);
 
-    record = hollytrot_record_decode(g, 150);
+    record = hollytrot_record_decode(g, 150, 6);
     SAME(record.letter, 'G');
     SAME(record.payment.paid.year, 2024);
     SAME(record.payment.paid.month, 1);
@@ -211,17 +231,45 @@ static void records(void)
     SAME(record.payment.tariff, 789);
     SAME(record.payment.number, 56789);
 
-    record = hollytrot_record_decode(z, 150);
+    record = hollytrot_record_decode(z, 150, 0);
     SAME(record.letter, 'Z');
     SAME(record.trailer.count, 10);
     SAME(record.trailer.total, 124456);
-    record = hollytrot_record_decode(z, 149);
+    record = hollytrot_record_decode(z, 149, 0);
     same_answer(record.answer, 1, 0);
     SAME(record.letter, 0);
 
-    hollytrot_part part = hollytrot_record_field(g, 150, HOLLYTROT_G_RECEIVED);
+    hollytrot_part part = hollytrot_record_field(g, 150, 6, HOLLYTROT_G_RECEIVED);
     SAME(part.from, 81);
     SAME(part.length, 12);
+}
+
+/* The same record, told both versions and a number that is none. */
+static void versions(void)
+{
+    static const struct {
+        uint64_t version, number;
+        size_t place;
+    } told[] = {{6, 0, 0}, {4, 12, 117}, {(1ull << 32) + 6, 10, 80}};
+    for (size_t i = 0; i < sizeof told / sizeof told[0]; i++) {
+        uint64_t version = told[i].version;
+        bool accepted = told[i].number == 0;
+        same_answer(hollytrot_record_check(g, 150, version), told[i].number, told[i].place);
+        hollytrot_record record = hollytrot_record_decode(g, 150, version);
+        same_answer(record.answer, told[i].number, told[i].place);
+        SAME(record.header.version, 0);
+        hollytrot_part part = hollytrot_record_field(g, 150, version, HOLLYTROT_G_CAPTURE);
+        SAME(part.from, accepted ? 116 : 0);
+        SAME(part.length, accepted ? 1 : 0);
+
+        uint8_t joined[HOLLYTROT_PAYMENT_FIELDS] = {0}, untouched[HOLLYTROT_PAYMENT_FIELDS] = {0};
+        same_answer(hollytrot_record_join(g, 150, version, joined, sizeof joined), told[i].number, told[i].place);
+        same_bytes(__LINE__, joined, accepted ? fields : untouched, sizeof joined);
+        /* an A does not depend on it */
+        same_answer(hollytrot_record_check(a, 150, version), 0, 0);
+        same_answer(hollytrot_record_join(a, 150, version, joined, HOLLYTROT_HEADER_FIELDS), 0, 0);
+        same_bytes(__LINE__, joined, header, HOLLYTROT_HEADER_FIELDS);
+    }
 }
 
 /* A board with a different number in each of its fields. */
@@ -247,6 +295,7 @@ static void same_session(int line, const hollytrot_session *found, const hollytr
     SAME(found->opened, wanted->opened);
     SAME(found->file.taken, wanted->file.taken);
     SAME(found->file.total, wanted->file.total);
+    SAME(found->file.version, wanted->file.version);
 }
 
 /* The limits of the library are those of the header and of SPEC.md, "Limits". */
@@ -260,9 +309,17 @@ static void limits(void)
     SAME(limits.board_total, 1000000000000000000);
 }
 
+/* An open file of version 6; the second lane of the working board has the issuer of the G. */
+static hollytrot_session open_session(uint64_t taken)
+{
+    hollytrot_session session = {numbered_board(100000), numbered_board(200000), true, {taken, 1000, 6}};
+    session.work.lanes[1].issuer = (hollytrot_issuer){6, 12345678};
+    return session;
+}
+
 static void sessions(void)
 {
-    hollytrot_session session = {numbered_board(100000), numbered_board(200000), true, {8, 1000}};
+    hollytrot_session session = open_session(8);
     hollytrot_take_result result = hollytrot_session_finish(session);
     same_answer(result.answer, 19, 0);
     same_session(__LINE__, &result.session, &session);
@@ -270,19 +327,36 @@ static void sessions(void)
     hollytrot_board board = hollytrot_session_board(session);
     same_bytes(__LINE__, &board, &session.shown, sizeof board);
 
-    /* a payment of the issuer in the second lane of the working board */
-    session.work.lanes[1].issuer = (hollytrot_issuer){6, 12345678};
+    /* a payment */
     hollytrot_session after = session;
     after.work.lanes[1].tally.payments += 1;
     after.work.lanes[1].tally.centavos += 123456;
     after.work.total.payments += 1;
     after.work.total.centavos += 123456;
-    after.file = (hollytrot_file){9, 124456};
+    after.file = (hollytrot_file){9, 124456, 6};
     result = hollytrot_session_take(session, g, 150);
     same_answer(result.answer, 0, 0);
     same_session(__LINE__, &result.session, &after);
+    after.file.version = 4;
+    same_answer(hollytrot_session_take(after, g, 150).answer, 12, 117);
 
+    after = hollytrot_session_abandon(session);
+    session.work = session.shown;
+    session.opened = false;
+    session.file = (hollytrot_file){0, 0, 0};
+    same_session(__LINE__, &after, &session);
+    after = hollytrot_session_new();
+    SAME(after.opened, false);
+    SAME(after.file.version, 0);
+    SAME(after.shown.used, 0);
+    after = hollytrot_session_take(after, a, 150).session;
+    SAME(after.file.version, 6);
+}
+
+static void runs(void)
+{
     /* two payments, and a trailer whose count is wrong */
+    hollytrot_session session = open_session(8);
     uint8_t three[450];
     memcpy(three, g, 150);
     memcpy(three + 150, g, 150);
@@ -295,23 +369,15 @@ static void sessions(void)
     SAME(run.session.file.total, 247912);
     SAME(run.session.work.lanes[1].tally.payments, session.work.lanes[1].tally.payments + 2);
     /* the right trailer closes the file, and the board shown is then the working board */
-    session.file = (hollytrot_file){7, 1000};
+    session = open_session(7);
     memcpy(three + 150, z, 150);
     run = hollytrot_session_run(session, three, 300);
     same_answer(run.answer, 0, 0);
     SAME(run.records, 2);
     SAME(run.files, 1);
     SAME(run.session.opened, false);
+    SAME(run.session.file.version, 0);
     SAME(run.session.shown.lanes[1].tally.centavos, session.work.lanes[1].tally.centavos + 123456);
-
-    after = hollytrot_session_abandon(session);
-    session.work = session.shown;
-    session.opened = false;
-    session.file = (hollytrot_file){0, 0};
-    same_session(__LINE__, &after, &session);
-    after = hollytrot_session_new();
-    SAME(after.opened, false);
-    SAME(after.shown.used, 0);
 }
 
 static void pages(void)
@@ -345,8 +411,10 @@ int main(void)
     dates();
     writers();
     records();
+    versions();
     limits();
     sessions();
+    runs();
     pages();
     printf("abi: %d values compared, %d wrong\n", checks, failures);
     return failures != 0;

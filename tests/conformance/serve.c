@@ -77,6 +77,7 @@ static void session_out(const hollytrot_session *s)
     number_out(s->opened);
     number_out(s->file.taken);
     number_out(s->file.total);
+    number_out(s->file.version);
 }
 
 /* An output buffer for a call. */
@@ -124,11 +125,12 @@ static void record(void)
 {
     size_t length = byte_in();
     const uint8_t *bytes = bytes_in(length);
-    answer_out(hollytrot_record_check(bytes, length));
-    hollytrot_record record = hollytrot_record_decode(bytes, length);
+    uint64_t version = number_in();
+    answer_out(hollytrot_record_check(bytes, length, version));
+    hollytrot_record record = hollytrot_record_decode(bytes, length, version);
     bytes_out(&record, sizeof record);
-    size_t out_length = length > 0 && bytes[0] == 'A' ? 78 : 121;
-    answer_out(hollytrot_record_join(bytes, length, new_buffer(out_length), out_length));
+    size_t out_length = length > 0 && bytes[0] == 'A' ? HOLLYTROT_HEADER_FIELDS : HOLLYTROT_PAYMENT_FIELDS;
+    answer_out(hollytrot_record_join(bytes, length, version, new_buffer(out_length), out_length));
     buffer_out(out_length);
 }
 
@@ -137,23 +139,33 @@ static void fields(void)
 {
     size_t length = byte_in();
     const uint8_t *bytes = bytes_in(length);
+    uint64_t version = number_in();
     for (size_t row = 0; row <= HOLLYTROT_ROWS; row++)
-        part_out(hollytrot_record_field(bytes, length, row));
-    part_out(hollytrot_record_field(bytes, length, SIZE_MAX));
+        part_out(hollytrot_record_field(bytes, length, version, row));
+    part_out(hollytrot_record_field(bytes, length, version, SIZE_MAX));
 }
 
-/* A conversion, or the field bytes of a record, into a buffer of any length. */
+/* The field bytes of a record, into a buffer of any length. */
+static void join(void)
+{
+    size_t out_length = byte_in(), length = byte_in();
+    const uint8_t *bytes = bytes_in(length);
+    uint64_t version = number_in();
+    answer_out(hollytrot_record_join(bytes, length, version, new_buffer(out_length), out_length));
+    buffer_out(out_length);
+}
+
+/* A conversion, into a buffer of any length. */
 static void conversion(void)
 {
     uint8_t which = byte_in();
     size_t out_length = byte_in(), length = byte_in();
     const uint8_t *bytes = bytes_in(length);
     uint8_t *out = new_buffer(out_length);
-    switch (which) {
-    case 0: answer_out(hollytrot_line_to_barcode(bytes, length, out, out_length)); break;
-    case 1: answer_out(hollytrot_line_from_barcode(bytes, length, out, out_length)); break;
-    default: answer_out(hollytrot_record_join(bytes, length, out, out_length)); break;
-    }
+    if (which == 0)
+        answer_out(hollytrot_line_to_barcode(bytes, length, out, out_length));
+    else
+        answer_out(hollytrot_line_from_barcode(bytes, length, out, out_length));
     buffer_out(out_length);
 }
 
@@ -200,6 +212,7 @@ static void session_in(void)
     session.opened = number_in() != 0;
     session.file.taken = number_in();
     session.file.total = number_in();
+    session.file.version = number_in();
 }
 
 static void take_result_out(hollytrot_take_result result)
@@ -238,6 +251,7 @@ static void writer_in(void)
     writer.stage = number_in();
     writer.file.taken = number_in();
     writer.file.total = number_in();
+    writer.file.version = number_in();
 }
 
 static void write_result_out(hollytrot_write_result result, size_t out_length)
@@ -291,6 +305,7 @@ static void serve(uint8_t which)
     case 'l': line(); break;
     case 'r': record(); break;
     case 'f': fields(); break;
+    case 'j': join(); break;
     case 'c': conversion(); break;
     case 'u': build(); break;
     case 'd': date_read(); break;

@@ -1,17 +1,34 @@
 //! `days ISSUERS PAYMENTS`: writes a day of PAYMENTS payments to standard output, in files of at most 50,000, each of a
-//! random one of ISSUERS issuers. A longer day of as many issuers starts with the same payments.
+//! random one of ISSUERS issuers. A longer day of as many issuers starts with the same payments. All files have version
+//! 04, and the days are the same bytes as before there was a version 06, so that new figures compare with old ones.
 
 use std::error::Error;
 use std::io::{self, BufWriter, Write};
 
 use reference::days;
 use reference::random::Random;
+use reference::records::HEADER_FIELDS;
 use reference::Writer;
 
 /// Small enough that no day here passes the limit of a file or of the board.
 const AMOUNT_DIGITS: u32 = 10;
 
 const PAYMENTS_IN_FILE: u64 = 50_000;
+
+/// The field bytes of a random A of version 04. `days::header_fields` would draw the version, and then every later byte
+/// of the day would be another one.
+fn header_fields(random: &mut Random) -> [u8; HEADER_FIELDS] {
+    let mut fields = [b' '; HEADER_FIELDS];
+    days::text(random, &mut fields[..20]);
+    days::text(random, &mut fields[20..40]);
+    fields[40..43].fill_with(|| random.digit());
+    days::text(random, &mut fields[43..63]);
+    fields[63..71].copy_from_slice(&days::date(random).digits());
+    fields[71..77].fill_with(|| random.digit());
+    fields[77..79].copy_from_slice(b"04");
+    fields[79] = random.one_of(&[79, 211]);
+    fields
+}
 
 fn main() -> Result<(), Box<dyn Error>> {
     let arguments: Vec<u64> = std::env::args()
@@ -28,12 +45,12 @@ fn main() -> Result<(), Box<dyn Error>> {
     let mut left = payments;
     while left > 0 {
         let mut writer = Writer::new();
-        writer.header(&days::header_fields(random), &mut record)?;
+        writer.header(&header_fields(random), &mut record)?;
         out.write_all(&record)?;
         for _ in 0..left.min(PAYMENTS_IN_FILE) {
             let issuer = issuers[random.index(issuers.len())];
             let code = days::barcode_of(random, issuer)?;
-            let fields = days::payment_fields(random, &code);
+            let fields = days::payment_fields(random, &code, writer.version);
             let received = random.number(AMOUNT_DIGITS);
             writer.payment(&fields, received, random.number(7), &mut record)?;
             out.write_all(&record)?;

@@ -5,15 +5,18 @@ use std::error::Error;
 use std::hint::black_box;
 use std::io::{self, Read};
 
-use reference::{barcode, digits, line, records, Record, Refusal, Session, Writer};
+use reference::records::{self, HEADER_FIELDS, PAYMENT_FIELDS};
+use reference::{barcode, digits, line, Record, Refusal, Session, Writer};
 
 /// The operations' inputs, prepared before the rounds.
 struct Inputs {
     day: Vec<u8>,
     codes: Vec<[u8; 44]>,
     lines: Vec<[u8; 48]>,
-    header: [u8; 78],
-    payments: Vec<([u8; 121], u64, u64)>,
+    header: [u8; HEADER_FIELDS],
+    /// The version that the file's A names.
+    version: u64,
+    payments: Vec<([u8; PAYMENT_FIELDS], u64, u64)>,
     written: Vec<u8>,
 }
 
@@ -23,18 +26,22 @@ fn inputs(day: Vec<u8>) -> Result<Inputs, Refusal> {
         day,
         codes: Vec::new(),
         lines: Vec::new(),
-        header: [0; 78],
+        header: [0; HEADER_FIELDS],
+        version: 0,
         payments: Vec::new(),
     };
     let count = inputs.day.len() / 150;
-    records::join(&inputs.day[..150], &mut inputs.header)?;
+    if let Record::A(header) = records::decode(&inputs.day[..150], 0)? {
+        inputs.version = header.version;
+    }
+    records::join(&inputs.day[..150], inputs.version, &mut inputs.header)?;
     for g in inputs.day.chunks(150).take(count - 1).skip(1) {
         let mut code = [0; 44];
         code.copy_from_slice(&g[37..81]);
         let mut typed = [0; 48];
         line::line_from_barcode(&code, &mut typed)?;
-        let mut fields = [0; 121];
-        records::join(g, &mut fields)?;
+        let mut fields = [0; PAYMENT_FIELDS];
+        records::join(g, inputs.version, &mut fields)?;
         let amount = |part| digits::number(part).unwrap_or(0);
         inputs.codes.push(code);
         inputs.lines.push(typed);
@@ -63,7 +70,7 @@ fn round(name: &str, inputs: &mut Inputs) -> Result<u64, Box<dyn Error>> {
         }
         "record" => {
             for record in inputs.day.chunks(150) {
-                sum += match records::decode(black_box(record))? {
+                sum += match records::decode(black_box(record), inputs.version)? {
                     Record::A(a) => a.sequence,
                     Record::G(g) => g.received + g.tariff + g.number,
                     Record::Z(z) => z.count + z.total,

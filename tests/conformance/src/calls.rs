@@ -30,7 +30,7 @@ const ROWS: [usize; 30] = {
 };
 
 /// The letters of requests whose reply starts with an answer.
-const ANSWERED: &[u8] = b"blrcutRehgzp";
+const ANSWERED: &[u8] = b"blrjcutRehgzp";
 
 /// How many inputs were compared, and how often each number was answered.
 #[derive(Clone, Default)]
@@ -63,7 +63,6 @@ impl Counts {
 pub enum Conversion {
     LineToBarcode,
     LineFromBarcode,
-    Join,
 }
 
 /// The engine and the reference program, called with the same inputs.
@@ -141,24 +140,38 @@ impl Calls {
         answer_and_buffer(reply, 44, |out| line::barcode_from_line(typed, out));
     }
 
-    pub fn record(&mut self, record: &[u8]) {
+    /// A record, told to be of a file of this version: any number.
+    pub fn record(&mut self, record: &[u8], version: u64) {
         let (request, reply) = self.call(b'r');
         put(request, record);
-        let decoded = records::decode(record);
+        wire::number(request, version);
+        let decoded = records::decode(record, version);
         wire::answer(reply, &decoded);
         wire::record(reply, &decoded);
-        let is_header = record.first() == Some(&b'A');
-        let out_length = if is_header { 78 } else { 121 };
-        answer_and_buffer(reply, out_length, |out| records::join(record, out));
+        answer_and_buffer(reply, fields_length(record), |out| {
+            records::join(record, version, out)
+        });
     }
 
     /// The field of every row of [`ROWS`].
-    pub fn fields(&mut self, record: &[u8]) {
+    pub fn fields(&mut self, record: &[u8], version: u64) {
         let (request, reply) = self.call(b'f');
         put(request, record);
+        wire::number(request, version);
         for row in ROWS {
-            wire::part(reply, record, records::field(record, row));
+            wire::part(reply, record, records::field(record, version, row));
         }
+    }
+
+    /// The field bytes of a record, into a buffer of any length.
+    pub fn join(&mut self, record: &[u8], version: u64, out_length: u8) {
+        let (request, reply) = self.call(b'j');
+        request.push(out_length);
+        put(request, record);
+        wire::number(request, version);
+        answer_and_buffer(reply, out_length.into(), |out| {
+            records::join(record, version, out)
+        });
     }
 
     pub fn convert(&mut self, conversion: Conversion, bytes: &[u8], out_length: u8) {
@@ -168,7 +181,6 @@ impl Calls {
         answer_and_buffer(reply, out_length.into(), |out| match conversion {
             Conversion::LineToBarcode => line::barcode_from_line(bytes, out),
             Conversion::LineFromBarcode => line::line_from_barcode(bytes, out),
-            Conversion::Join => records::join(bytes, out),
         });
     }
 
@@ -209,6 +221,14 @@ impl Calls {
         for modulus in [Modulus::Ten, Modulus::Eleven] {
             wire::number(reply, modulus.check_digit(digits).expect("digits"));
         }
+    }
+}
+
+/// How many field bytes the record has: those of an A, or of a G for everything else.
+pub fn fields_length(record: &[u8]) -> usize {
+    match record.first() {
+        Some(b'A') => records::HEADER_FIELDS,
+        _ => records::PAYMENT_FIELDS,
     }
 }
 

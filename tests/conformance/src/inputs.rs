@@ -121,19 +121,12 @@ pub fn compare(calls: &mut Calls, input: &[u8]) {
             calls.build(numbers, rest.short(), out_length);
         }
         Kind::Record => {
+            let version = rest.number();
             let record = rest.short();
-            calls.record(record);
-            calls.fields(record);
+            calls.record(record, version);
+            calls.fields(record, version);
         }
-        Kind::Convert => {
-            let conversion = match rest.byte() % 3 {
-                0 => Conversion::LineToBarcode,
-                1 => Conversion::LineFromBarcode,
-                _ => Conversion::Join,
-            };
-            let out_length = rest.byte();
-            calls.convert(conversion, rest.short(), out_length);
-        }
+        Kind::Convert => convert(calls, &mut rest),
         Kind::Run => run(calls, &mut rest),
         Kind::Take => {
             calls.new_session();
@@ -152,6 +145,19 @@ fn digits(bytes: &[u8]) -> Vec<u8> {
         other => b'0' + other % 10,
     };
     bytes.iter().map(digit).collect()
+}
+
+/// A conversion, or the field bytes of a record, which is told a version. The second byte is the buffer's length.
+fn convert(calls: &mut Calls, rest: &mut Rest) {
+    let (which, out_length) = (rest.byte(), rest.byte());
+    match which % 3 {
+        0 => calls.convert(Conversion::LineToBarcode, rest.short(), out_length),
+        1 => calls.convert(Conversion::LineFromBarcode, rest.short(), out_length),
+        _ => {
+            let version = rest.number();
+            calls.join(rest.short(), version, out_length);
+        }
+    }
 }
 
 /// Runs of a new session. The first byte says how many records a run has; 0 means all.
@@ -196,6 +202,7 @@ fn arbitrary_session(calls: &mut Calls, rest: &mut Rest) {
     session.open = rest.flag();
     session.taken = rest.number();
     session.total = rest.number();
+    session.version = rest.number();
     let records = usize::from(rest.byte() % 5);
     let mut steps = Rest(rest.bytes(151 * records));
     session.shown = rest.board();
@@ -220,7 +227,7 @@ fn page(calls: &mut Calls, rest: &mut Rest) {
 /// The calls of a new writer, or of one in an arbitrary state.
 fn write(calls: &mut Calls, rest: &mut Rest) {
     if rest.flag() {
-        calls.set_writer(rest.number(), rest.number(), rest.number());
+        calls.set_writer([(); 4].map(|()| rest.number()));
     } else {
         calls.new_writer();
     }

@@ -11,4 +11,5 @@ pub mod engine;
 pub mod families;
 pub mod found;
 pub mod inputs;
+pub mod versions;
 pub mod wire;

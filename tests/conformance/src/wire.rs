@@ -68,9 +68,9 @@ fn header(reply: &mut Vec<u8>, header: Option<&Header>) {
         Some(h) => {
             number(reply, h.bank);
             date(reply, Some(h.date));
-            number(reply, h.sequence);
+            numbers(reply, &[h.sequence, h.version]);
         }
-        None => numbers(reply, &[0; 5]),
+        None => numbers(reply, &[0; 6]),
     }
 }
 
@@ -119,8 +119,9 @@ pub fn board(reply: &mut Vec<u8>, board: &Board) {
 pub fn session(reply: &mut Vec<u8>, session: &Session) {
     board(reply, &session.shown);
     board(reply, &session.working);
+    let open = u64::from(session.open);
     numbers(
         reply,
-        &[u64::from(session.open), session.taken, session.total],
+        &[open, session.taken, session.total, session.version],
     );
 }

@@ -11,6 +11,7 @@ use std::thread;
 use std::time::Duration;
 
 use conformance::engine::{program, root};
+use conformance::versions;
 use reference::days;
 use reference::page::page_of;
 use reference::random::Random;
@@ -69,7 +70,8 @@ fn redirected(redirection: &str) -> Command {
     command
 }
 
-/// A day of 0 to 70 issuers: unchanged, damaged or out of order. Every tenth is longer than one buffer of quadro.
+/// A day of 0 to 70 issuers: unchanged, damaged, out of order, or with other versions or codes. Every tenth is longer
+/// than one buffer of quadro.
 fn day(i: u64) -> Vec<u8> {
     let random = &mut Random::new(i);
     let (files, most) = if i.is_multiple_of(10) {
@@ -84,6 +86,7 @@ fn day(i: u64) -> Vec<u8> {
     match i % 4 {
         1 => drop(days::damage(random, &mut bytes)),
         2 => days::disorder(random, &mut bytes),
+        3 => versions::change_day(random, &mut bytes),
         _ => {}
     }
     bytes

@@ -90,15 +90,19 @@ impl Calls {
         reply.extend_from_slice(&out);
     }
 
+    pub fn writer(&self) -> &Writer {
+        &self.writer
+    }
+
     pub fn new_writer(&mut self) {
         self.writer = Writer::new();
         self.stage = 0;
         let (_, reply) = self.call(b'N');
-        wire::numbers(reply, &[0; 3]);
+        wire::numbers(reply, &[0; 4]);
     }
 
     /// Goes on with this writer, in an arbitrary state; stages past 1 are closed.
-    pub fn set_writer(&mut self, stage: u64, taken: u64, total: u64) {
+    pub fn set_writer(&mut self, [stage, taken, total, version]: [u64; 4]) {
         self.stage = stage;
         self.writer = Writer {
             stage: match stage {
@@ -108,9 +112,10 @@ impl Calls {
             },
             taken,
             total,
+            version,
         };
         let (request, _) = self.call(b'w');
-        wire::numbers(request, &[stage, taken, total]);
+        wire::numbers(request, &[stage, taken, total, version]);
     }
 
     pub fn header(&mut self, fields: &[u8], out_length: u8) {
@@ -142,7 +147,13 @@ impl Calls {
         if outcome.is_ok() {
             self.stage = self.writer.stage as u64;
         }
-        let writer = [self.stage, self.writer.taken, self.writer.total];
+        let Writer {
+            taken,
+            total,
+            version,
+            ..
+        } = self.writer;
+        let writer = [self.stage, taken, total, version];
         let (request, reply) = self.call(letter);
         wire::answer(reply, &outcome);
         wire::numbers(reply, &writer);

@@ -3,7 +3,7 @@
 use reference::days;
 use reference::random::Random;
 
-use super::{near, noise, out_length};
+use super::{each_change, near, noise, out_length};
 use crate::calls::{Calls, Conversion};
 
 /// P4 and P8 of docs/SPEC.md, "Samples", and from "Typing errors" a line whose segment may be mistyped and one whose
@@ -18,18 +18,6 @@ const LINES: [&[u8; 48]; 4] = [
 fn lines(random: &mut Random, count: u64) -> Vec<[u8; 48]> {
     let more = (0..count).map(|_| days::line(random).expect("a good line"));
     LINES.iter().map(|line| **line).chain(more).collect()
-}
-
-/// Calls `compare` with each of the 256 bytes at each place.
-fn each_change(bytes: &mut [u8], mut compare: impl FnMut(&[u8])) {
-    for i in 0..bytes.len() {
-        let was = bytes[i];
-        for byte in 0..=255 {
-            bytes[i] = byte;
-            compare(bytes);
-        }
-        bytes[i] = was;
-    }
 }
 
 /// Accepted lines with each byte at each place, and with each two neighbours swapped.

@@ -1,5 +1,6 @@
 //! The inputs, in families: all inputs of a kind where that is possible, else random ones from a seed.
 
+mod codes;
 mod digits;
 mod records;
 mod sessions;
@@ -15,7 +16,7 @@ pub struct Family {
     pub compare: fn(&mut Calls, &mut Random, u64),
 }
 
-pub const ALL: [Family; 14] = [
+pub const ALL: [Family; 15] = [
     Family {
         name: "typed lines, every change and swap",
         compare: digits::changed_lines,
@@ -49,6 +50,10 @@ pub const ALL: [Family; 14] = [
         compare: records::damaged,
     },
     Family {
+        name: "versions, every code and every version",
+        compare: codes::codes,
+    },
+    Family {
         name: "days, record by record",
         compare: sessions::by_record,
     },
@@ -73,6 +78,18 @@ pub const ALL: [Family; 14] = [
         compare: writers::files,
     },
 ];
+
+/// Calls `compare` with each of the 256 bytes at each place.
+fn each_change(bytes: &mut [u8], mut compare: impl FnMut(&[u8])) {
+    for i in 0..bytes.len() {
+        let was = bytes[i];
+        for byte in 0..=255 {
+            bytes[i] = byte;
+            compare(bytes);
+        }
+        bytes[i] = was;
+    }
+}
 
 /// Random bytes of a length: any bytes, or only digits.
 fn noise(random: &mut Random, length: usize) -> Vec<u8> {

@@ -1,50 +1,51 @@
-//! Single records.
+//! Single records, told the version of their file or another number.
 
 use reference::days;
 use reference::random::Random;
 
-use super::{noise, out_length};
-use crate::calls::{Calls, Conversion};
+use super::{each_change, noise, out_length};
+use crate::calls::{fields_length, Calls};
+use crate::versions;
 
-/// An accepted A, G and Z.
-fn records(random: &mut Random) -> [[u8; 150]; 3] {
+/// An A and a G of a file of this version, and a Z, all accepted.
+fn records(random: &mut Random, version: u64) -> [[u8; 150]; 3] {
     [
-        days::header(random).expect("a good header"),
-        days::payment(random).expect("a good payment"),
+        versions::header(random, version),
+        days::payment(random, version).expect("a good payment"),
         days::trailer(random),
     ]
 }
 
-/// Accepted records with each byte at each place.
+/// Accepted records of each version with each byte at each place.
 pub fn changed(calls: &mut Calls, random: &mut Random, times: u64) {
-    for _ in 0..15 * times {
-        for mut record in records(random) {
-            calls.fields(&record);
-            for i in 0..record.len() {
-                let was = record[i];
-                for byte in 0..=255 {
-                    record[i] = byte;
-                    calls.record(&record);
-                }
-                record[i] = was;
+    for _ in 0..7 * times {
+        for version in [4, 6] {
+            for mut record in records(random, version) {
+                calls.fields(&record, version);
+                each_change(&mut record, |changed| calls.record(changed, version));
             }
         }
     }
 }
 
 /// Records damaged at one to three places, and random bytes of every length up to 200, half of them with a letter
-/// first.
+/// first. The version told may be another one than that of the record, or no version.
 pub fn damaged(calls: &mut Calls, random: &mut Random, times: u64) {
     for _ in 0..100_000 * times {
-        for mut record in records(random) {
+        let told = versions::told(random);
+        let made = versions::made(random, told);
+        for mut record in records(random, made) {
             if random.once_in(8) {
-                let required = if record[0] == b'A' { 78 } else { 121 };
-                calls.convert(Conversion::Join, &record, out_length(random, required));
+                let required = fields_length(&record) as u8;
+                calls.join(&record, told, out_length(random, required));
             }
-            days::damage(random, &mut record);
-            calls.record(&record);
+            match random.below(4) {
+                0 => versions::change(random, &mut record),
+                _ => drop(days::damage(random, &mut record)),
+            }
+            calls.record(&record, told);
             if random.once_in(8) {
-                calls.fields(&record);
+                calls.fields(&record, told);
             }
         }
     }
@@ -54,8 +55,9 @@ pub fn damaged(calls: &mut Calls, random: &mut Random, times: u64) {
             if let (Some(first), true) = (bytes.first_mut(), random.once_in(2)) {
                 *first = random.one_of(b"AGZ");
             }
-            calls.record(&bytes);
-            calls.fields(&bytes);
+            let told = versions::told(random);
+            calls.record(&bytes, told);
+            calls.fields(&bytes, told);
         }
     }
 }

@@ -1,15 +1,18 @@
-//! Sessions, boards and pages: days, damaged and out of order, and sessions in arbitrary states.
+//! Sessions, boards and pages: days, damaged, out of order and with codes of the other version, and sessions in
+//! arbitrary states.
 
 use reference::random::Random;
 use reference::{days, digits, Board, Issuer, Reason, Session};
 
 use super::near;
 use crate::calls::{Calls, PAGE};
+use crate::versions;
 
 /// Numbers at the limits of counts and sums.
 const LIMITS: [u64; 4] = [0, 999_997, 1_000_000_000_000_000_000, u64::MAX];
 
-/// A day of 0 to 70 issuers: unchanged, damaged at one to three places, out of order, or both.
+/// A day of 0 to 70 issuers, with files of both versions: unchanged, damaged at one to three places, out of order, or
+/// both. One in four has another version or another code in one to three records.
 fn day(random: &mut Random) -> Vec<u8> {
     let issuers = random.index(71);
     let (files, most) = (random.index(5), random.index(30));
@@ -22,6 +25,9 @@ fn day(random: &mut Random) -> Vec<u8> {
     }
     if how & 2 != 0 {
         days::disorder(random, &mut bytes);
+    }
+    if random.once_in(4) {
+        versions::change_day(random, &mut bytes);
     }
     bytes
 }
@@ -114,16 +120,16 @@ fn board(random: &mut Random) -> Board {
     board
 }
 
-/// A payment of one of the few issuers.
-fn payment(random: &mut Random) -> [u8; 150] {
-    let mut record = days::payment(random).expect("a good payment");
+/// A payment of one of the few issuers, in a file of this version.
+pub fn payment(random: &mut Random, version: u64) -> [u8; 150] {
+    let mut record = days::payment(random, version).expect("a good payment");
     let issuer = issuer(random);
     record[37..81].copy_from_slice(&days::barcode_of(random, issuer).expect("a good barcode"));
     record
 }
 
 /// A trailer with the count and the total of the session's file, if they fit in its fields.
-fn trailer(session: &Session) -> [u8; 150] {
+pub fn trailer(session: &Session) -> [u8; 150] {
     let mut record = [b' '; 150];
     record[0] = b'Z';
     record[1..24].fill(b'0');
@@ -132,24 +138,27 @@ fn trailer(session: &Session) -> [u8; 150] {
     record
 }
 
-/// Sessions in arbitrary states, with a few calls each.
+/// Sessions in arbitrary states, with a few calls each. Their file may have a version that is none.
 pub fn arbitrary(calls: &mut Calls, random: &mut Random, times: u64) {
     for _ in 0..12_000 * times {
         let session = Session {
             open: !random.once_in(8),
             taken: near(random, &[0, 999_996, 999_997, u64::MAX - 2]),
             total: near(random, &[0, 99_999_999_999_999_999, u64::MAX]),
+            version: versions::told(random),
             shown: board(random),
             working: board(random),
         };
         calls.set_session(&session);
         for _ in 0..random.index(5) {
+            let version = versions::made(random, calls.session().version);
+            let next = payment(random, version);
             let _ = match random.below(10) {
-                0 => calls.take(&trailer(&calls.session().clone())),
+                0 => calls.take(&trailer(calls.session())),
                 1 => calls.take(&days::trailer(random)),
                 2 => calls.take(&days::header(random).expect("a good header")),
-                3 => calls.run(&[payment(random), payment(random), trailer(&session)].concat()),
-                _ => calls.take(&payment(random)),
+                3 => calls.run(&[next, payment(random, version), trailer(&session)].concat()),
+                _ => calls.take(&next),
             };
         }
         match random.below(4) {

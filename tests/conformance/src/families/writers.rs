@@ -5,16 +5,23 @@ use reference::random::Random;
 
 use super::{near, out_length};
 use crate::calls::Calls;
+use crate::versions;
 
+/// A header of either version, sometimes with another byte in its version.
 fn header(calls: &mut Calls, random: &mut Random) {
     let mut fields = days::header_fields(random).to_vec();
+    if random.once_in(8) {
+        fields[77 + random.index(2)] = random.one_of(b"0456 \0");
+    }
     damage(random, &mut fields);
     calls.header(&fields, out_length(random, 150));
 }
 
+/// A payment, mostly with codes of the version of the writer's file.
 fn payment(calls: &mut Calls, random: &mut Random) {
     let code = days::barcode(random).expect("a good barcode");
-    let mut fields = days::payment_fields(random, &code).to_vec();
+    let version = versions::made(random, calls.writer().version);
+    let mut fields = days::payment_fields(random, &code, version).to_vec();
     damage(random, &mut fields);
     let amount = |random: &mut Random, width: u32| {
         if random.once_in(4) {
@@ -27,10 +34,10 @@ fn payment(calls: &mut Calls, random: &mut Random) {
     calls.payment(&fields, received, tariff, out_length(random, 150));
 }
 
-/// Sometimes damages the field bytes at one to three places, or changes their length.
+/// Sometimes damages the field bytes at one to three places, or changes their length: by one, or two fewer.
 fn damage(random: &mut Random, fields: &mut Vec<u8>) {
     match random.below(16) {
-        0 => drop(fields.pop()),
+        0 => fields.truncate(fields.len() - 1 - random.index(2)),
         1 => fields.push(b'0'),
         2..=6 => drop(days::damage(random, fields)),
         _ => {}
@@ -43,11 +50,8 @@ pub fn files(calls: &mut Calls, random: &mut Random, times: u64) {
         if random.once_in(3) {
             let stage = near(random, &[0, 1, 2]);
             let taken = near(random, &[0, 999_996, 999_997, u64::MAX]);
-            calls.set_writer(
-                stage,
-                taken,
-                near(random, &[0, 99_999_999_999_999_999, u64::MAX]),
-            );
+            let total = near(random, &[0, 99_999_999_999_999_999, u64::MAX]);
+            calls.set_writer([stage, taken, total, versions::told(random)]);
         } else {
             calls.new_writer();
         }

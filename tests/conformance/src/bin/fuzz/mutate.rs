@@ -1,6 +1,7 @@
 //! Mutations of an input: of bytes, of ranges of bytes, and of the records and fields in it.
 
 use conformance::inputs::Kind;
+use conformance::versions;
 use reference::digits;
 use reference::random::Random;
 use reference::records::{LENGTH, TABLE};
@@ -15,10 +16,11 @@ const MOST_BYTES: usize = 1 << 14;
 const BYTES: &[u8] = b"\0\x01\x1f /09:@AGOZ[`az~\x7f\x80\x9f\xa0\xd3\xff";
 
 /// Numbers at the edges of their widths and limits.
-pub const EDGES: [u64; 34] = [
+pub const EDGES: [u64; 36] = [
     0,
     1,
     2,
+    4,
     6,
     9,
     10,
@@ -44,6 +46,7 @@ pub const EDGES: [u64; 34] = [
     9_999_999,
     99_999_999,
     1 << 32,
+    (1 << 32) + 4,
     99_999_999_999,
     999_999_999_999,
     99_999_999_999_999_999,
@@ -68,12 +71,13 @@ fn edge(random: &mut Random) -> u64 {
 pub fn mutate(random: &mut Random, kind: Kind, one: &[u8], other: &[u8]) -> Vec<u8> {
     let mut bytes = one.to_vec();
     for _ in 0..1 << random.below(4) {
-        match random.below(12) {
+        match random.below(13) {
             0 => records(random, kind, &mut bytes, other),
             1 | 2 => field(random, kind, &mut bytes, other),
             3 | 4 => range(random, &mut bytes, other),
             5 | 6 => number(random, kind, &mut bytes),
             7 => date(random, kind, &mut bytes),
+            8 => version(random, kind, &mut bytes),
             _ => byte(random, &mut bytes),
         }
     }
@@ -157,6 +161,20 @@ fn date(random: &mut Random, kind: Kind, bytes: &mut [u8]) {
     match place.and_then(|&place| bytes.get_mut(place..place + 8)) {
         Some(date) => drop(digits::write(year * 10_000 + day, date)),
         None => byte(random, bytes),
+    }
+}
+
+/// Replaces the version that is told, or the version or a code of a record, by one of either version or by none.
+fn version(random: &mut Random, kind: Kind, bytes: &mut [u8]) {
+    let told = places::version(kind, bytes).and_then(|place| bytes.get_mut(place..place + 8));
+    match told {
+        Some(told) if random.once_in(2) => {
+            told.copy_from_slice(&versions::told(random).to_le_bytes());
+        }
+        _ => match place(random, kind, bytes.len()) {
+            Some(place) => versions::change(random, &mut bytes[place..]),
+            None => byte(random, bytes),
+        },
     }
 }
 

@@ -7,11 +7,11 @@ use reference::session::LANES;
 /// Where records start, if all of them have 150 bytes.
 pub fn records(kind: Kind, length: usize) -> impl Iterator<Item = usize> {
     let (first, step) = match kind {
-        Kind::Record => (0, usize::MAX),
-        Kind::Convert => (2, usize::MAX),
+        Kind::Record => (8, usize::MAX),
+        Kind::Convert => (10, usize::MAX),
         Kind::Run => (1, LENGTH),
         Kind::Take => (1, LENGTH + 1),
-        Kind::ArbitrarySession => (19, LENGTH + 1),
+        Kind::ArbitrarySession => (27, LENGTH + 1),
         _ => (usize::MAX, 1),
     };
     (first..length).step_by(step)
@@ -41,21 +41,35 @@ pub fn numbers(kind: Kind, rest: &[u8]) -> Vec<usize> {
     match kind {
         Kind::DateNumbers => vec![0, 8, 16],
         Kind::Build => vec![0, 8, 16, 24],
-        Kind::Write => vec![1, 9, 17],
+        Kind::Record | Kind::Convert => version(kind, rest).into_iter().collect(),
+        Kind::Write => vec![1, 9, 17, 25],
         Kind::Page => {
             let mut places = vec![0, 8, 16, 24, 32];
             board(rest, 40, &mut places);
             places
         }
         Kind::ArbitrarySession => {
-            let mut places = vec![1, 9];
-            let records = rest.get(17).map_or(0, |count| usize::from(count % 5));
-            let shown = 18 + records * (LENGTH + 1);
+            let mut places = vec![1, 9, 17];
+            let records = rest.get(25).map_or(0, |count| usize::from(count % 5));
+            let shown = 26 + records * (LENGTH + 1);
             let working = board(rest, shown, &mut places);
             board(rest, working, &mut places);
             places
         }
         _ => Vec::new(),
+    }
+}
+
+/// Where the version starts that is told with a record, or that the file of a session or writer in an arbitrary state
+/// has. It is one of the numbers.
+pub fn version(kind: Kind, rest: &[u8]) -> Option<usize> {
+    let first = rest.first()?;
+    match kind {
+        Kind::Record => Some(0),
+        Kind::Convert if first % 3 == 2 => Some(2),
+        Kind::ArbitrarySession => Some(17),
+        Kind::Write if first % 2 == 1 => Some(25),
+        _ => None,
     }
 }
 

@@ -60,25 +60,22 @@ fn valid(random: &mut Random, kind: Kind, turn: usize) -> Result<Vec<u8>, Refusa
             rest.extend((0..free).map(|_| random.digit()));
             rest
         }
-        Kind::Record => match turn % 3 {
-            0 => days::header(random)?.to_vec(),
-            1 => days::payment(random)?.to_vec(),
-            _ => days::trailer(random).to_vec(),
-        },
+        Kind::Record => record(random, turn)?,
         Kind::Convert => match turn % 4 {
             0 => [&[0, 44], days::line(random)?.as_slice()].concat(),
             1 => [&[1, 48], days::barcode(random)?.as_slice()].concat(),
-            2 => [&[2, 78], days::header(random)?.as_slice()].concat(),
-            _ => [&[2, 121], days::payment(random)?.as_slice()].concat(),
+            2 => [vec![2, 80], record(random, 0)?].concat(),
+            _ => [vec![2, 121], record(random, 1)?].concat(),
         },
         Kind::Run => [vec![random.below(4) as u8], day(random)?].concat(),
         Kind::Take => steps(&day(random)?),
         Kind::ArbitrarySession => {
             let mut rest = vec![1];
-            rest.extend(numbers([random.number(6), random.number(17)]));
+            let version = days::version(random);
+            rest.extend(numbers([random.number(6), random.number(17), version]));
             rest.push(2);
             let issuer = days::issuer(random);
-            let mut payment = days::payment(random)?;
+            let mut payment = days::payment(random, version)?;
             payment[37..81].copy_from_slice(&days::barcode_of(random, issuer)?);
             rest.extend(steps(&payment));
             rest.extend(steps(&days::trailer(random)));
@@ -99,6 +96,17 @@ fn valid(random: &mut Random, kind: Kind, turn: usize) -> Result<Vec<u8>, Refusa
 
 fn numbers<const N: usize>(numbers: [u64; N]) -> Vec<u8> {
     numbers.iter().flat_map(|n| n.to_le_bytes()).collect()
+}
+
+/// The version that is told, then an A, a G of this version, or a Z, by the turn.
+fn record(random: &mut Random, turn: usize) -> Result<Vec<u8>, Refusal> {
+    let version = days::version(random);
+    let record = match turn % 3 {
+        0 => days::header(random)?,
+        1 => days::payment(random, version)?,
+        _ => days::trailer(random),
+    };
+    Ok([numbers([version]), record.to_vec()].concat())
 }
 
 fn day(random: &mut Random) -> Result<Vec<u8>, Refusal> {
@@ -128,15 +136,17 @@ fn board(random: &mut Random, first: Issuer) -> Vec<u8> {
 /// The calls that write a file, by a new writer or by one whose file is open already, which refuses the header.
 fn file(random: &mut Random, new: bool) -> Result<Vec<u8>, Refusal> {
     let mut rest = vec![u8::from(!new)];
-    if !new {
-        rest.extend(numbers([1, random.number(6), random.number(17)]));
-    }
     let header = days::header_fields(random);
+    // The last digit of the version, which has two.
+    let version = u64::from(header[78] - b'0');
+    if !new {
+        rest.extend(numbers([1, random.number(6), random.number(17), version]));
+    }
     rest.extend([0, 150, header.len() as u8]);
     rest.extend(header);
     for _ in 0..random.index(3) {
         let code = days::barcode(random)?;
-        let fields = days::payment_fields(random, &code);
+        let fields = days::payment_fields(random, &code, version);
         rest.extend([1, 150]);
         rest.extend(numbers([random.number(12), random.number(7)]));
         rest.push(fields.len() as u8);

@@ -1,0 +1,113 @@
+//! Every byte as a code, and every version: of single records, in sessions and by writers.
+
+use reference::days;
+use reference::random::Random;
+use reference::records::{G_CAPTURE, G_FORM, TABLE};
+
+use super::sessions;
+use crate::calls::Calls;
+use crate::versions;
+
+/// Both versions.
+const VERSIONS: [u64; 2] = [4, 6];
+
+/// Where a G has its capture and its payment form, and where both are in its field bytes.
+const CAPTURE: usize = TABLE[G_CAPTURE].first - 1;
+const FORM: usize = TABLE[G_FORM].first - 1;
+const GIVEN: [usize; 2] = [96, 120];
+
+pub fn codes(calls: &mut Calls, random: &mut Random, times: u64) {
+    for _ in 0..times {
+        each_two_codes(calls, random);
+        each_version(calls, random);
+        each_told(calls, random);
+        taken(calls, random);
+        written(calls, random);
+    }
+}
+
+/// A G of each version, with each byte as its capture and each as its payment form.
+fn each_two_codes(calls: &mut Calls, random: &mut Random) {
+    for version in VERSIONS {
+        let mut record = days::payment(random, version).expect("a good payment");
+        for two in 0..=u16::MAX {
+            [record[CAPTURE], record[FORM]] = two.to_be_bytes();
+            calls.record(&record, version);
+        }
+    }
+}
+
+/// An A with each two bytes as its version, as a record and as field bytes.
+fn each_version(calls: &mut Calls, random: &mut Random) {
+    let mut record = days::header(random).expect("a good header");
+    let mut fields = days::header_fields(random);
+    calls.new_writer();
+    for two in 0..=u16::MAX {
+        record[79..81].copy_from_slice(&two.to_be_bytes());
+        calls.record(&record, versions::told(random));
+        fields[77..79].copy_from_slice(&two.to_be_bytes());
+        calls.header(&fields, 150);
+        // In an open file the next header would not be expected.
+        if calls.writer().version != 0 {
+            calls.new_writer();
+        }
+    }
+}
+
+/// Records of each version that are told each version, or a number that is none: a G with each byte as one of its
+/// codes, an A and a Z.
+fn each_told(calls: &mut Calls, random: &mut Random) {
+    for told in versions::OTHERS.into_iter().chain(VERSIONS) {
+        for version in VERSIONS {
+            let payment = days::payment(random, version).expect("a good payment");
+            for byte in 0..=255 {
+                for code in [CAPTURE, FORM] {
+                    let mut record = payment;
+                    record[code] = byte;
+                    calls.record(&record, told);
+                }
+            }
+            let header = versions::header(random, version);
+            for record in [header, payment, days::trailer(random)] {
+                calls.record(&record, told);
+                calls.fields(&record, told);
+            }
+        }
+    }
+}
+
+/// An open file of each version, and payments with each byte as one of their codes: one by one, and in runs of two.
+fn taken(calls: &mut Calls, random: &mut Random) {
+    calls.new_session();
+    for version in VERSIONS {
+        let header = versions::header(random, version);
+        calls.take(&header).expect("a file to open");
+        for byte in 0..=255 {
+            for code in [CAPTURE, FORM] {
+                let mut record = sessions::payment(random, version);
+                let before = record;
+                record[code] = byte;
+                let _ = calls.take(&record);
+                let _ = calls.run(&[before, record].concat());
+            }
+        }
+        let trailer = sessions::trailer(calls.session());
+        calls.take(&trailer).expect("its own trailer");
+    }
+}
+
+/// A writer of each version, and payments with each byte as one of their codes.
+fn written(calls: &mut Calls, random: &mut Random) {
+    for version in VERSIONS {
+        calls.set_writer([1, 0, 0, version]);
+        let code = days::barcode(random).expect("a good barcode");
+        for byte in 0..=255 {
+            for place in GIVEN {
+                let mut fields = days::payment_fields(random, &code, version);
+                fields[place] = byte;
+                calls.payment(&fields, random.number(12), random.number(7), 150);
+            }
+        }
+        calls.trailer(150);
+    }
+}
