@@ -30,6 +30,7 @@ reasonNumber reason.BoardTotalPassed = 18  -- a payment takes a board total past
 reasonNumber reason.FileOpen = 19  -- end with a file open
 reasonNumber reason.CheckTwoPlaces = 20  -- a computed check needs two places
 reasonNumber reason.TooWide = 21  -- builder's or writer's number too wide
+reasonNumber reason.NoLineEnd = 22  -- a later record of a lined file, not followed by CR and LF
 
 -- accepted is 0, with place 0
 abbrev pub answerNumber : Answer → ℕ

@@ -1,7 +1,7 @@
 // What a call answers: accepted, or one refusal with its place.
 ghost use mathlib.Core.Path.{_≡_};
 ghost use Rattle.answer.specs.Refusals.{reasonNumber, answerNumber, answerPlace};
-ghost use Rattle.answer.specs.Orders.{movedBy, cappedBehind};
+ghost use Rattle.answer.specs.Orders.{_then_, movedBy, cappedBehind};
 
 // Why something is refused (SPEC.md, "Refusals"). The order of the variants means nothing.
 //
@@ -30,6 +30,7 @@ pub enum Reason {
     FileOpen,
     CheckTwoPlaces,
     TooWide,
+    NoLineEnd,
 }
 
 // The places of a payment record, G, that refusals 16 to 18 point at: its received centavos, and the issuer in its
@@ -71,7 +72,18 @@ impl Reason {
             Reason::FileOpen => 19,
             Reason::CheckTwoPlaces => 20,
             Reason::TooWide => 21,
+            Reason::NoLineEnd => 22,
         }
+    }
+}
+
+// The first refusal of two answers; accepted if neither is one.
+pub fn first_refusal(first: Answer, second: Answer) -> Answer
+    ensures { λ r. ⌜ r ≡ first then second ⌝ }
+{
+    match first {
+        Answer::Accepted => second,
+        Answer::Refused(_, _) => first,
     }
 }
 

@@ -39,7 +39,7 @@ pub refusal-keeps-file : RefusalKeepsFile
 refusal-keeps-file f received h = refusal-keeps (fileAnswer f received) (fileWith f received) f h
 
 pub stays-within : StaysWithin
-stays-within = (λ version. record { taken = omega arith; total = omega arith }, λ f received w. go f received w (fileAnswer f received) refl)
+stays-within = (λ version lined. record { taken = omega arith; total = omega arith }, λ f received w. go f received w (fileAnswer f received) refl)
   where
     go : (f : File) (received : ℕ) → FileWithin f → (a : Answer) → fileAnswer f received ≡ a
         → FileWithin (ifAccepted a (fileWith f received) f)
@@ -66,22 +66,24 @@ takes f w (x ∷ xs) =
     )
 
 pub fresh-file-takes : FreshFileTakes
-fresh-file-takes version xs =
-    let h = takes (freshFile version) (stays-within .0 version) xs in
+fresh-file-takes version lined xs =
+    let h = takes (freshFile version lined) (stays-within .0 version lined) xs in
     (λ e. let k = h .0 e in (omega arith, omega arith), λ k. h .1 (omega arith, omega arith))
 
--- two files of a version with equal figures are equal
-alike : (version : ℕ) {m n c d : ℕ} → m ≡ n → c ≡ d
-    → _≡_ {A = File} (record { taken = m; total = c; version = version }) (record { taken = n; total = d; version = version })
-alike version e q = ap₂ {C = File} (λ (n d : ℕ). record { taken = n; total = d; version = version }) e q
+-- a file with other figures, and that equal figures make equal files
+abbrev figured : File → ℕ → ℕ → File
+figured f n c = record { taken = n; total = c; version = f .version; lined = f .lined }
 
-holds : (f : File) (xs : List ℕ)
-    → fileWithAll f xs ≡ record { taken = f .taken + length xs; total = f .total + receivedOf xs; version = f .version }
-holds f [] = alike (f .version) (omega arith) (omega arith)
-holds f (x ∷ xs) = holds (fileWith f x) xs ∙ alike (f .version) (omega arith) (omega arith)
+alike : (f : File) {m n c d : ℕ} → m ≡ n → c ≡ d → figured f m c ≡ figured f n d
+alike f e q = ap₂ (figured f) e q
+
+holds : (f : File) (xs : List ℕ) → fileWithAll f xs ≡ figured f (f .taken + length xs) (f .total + receivedOf xs)
+holds f [] = alike f (omega arith) (omega arith)
+holds f (x ∷ xs) = holds (fileWith f x) xs ∙ alike f (omega arith) (omega arith)
 
 pub fresh-file-holds : FreshFileHolds
-fresh-file-holds version xs = holds (freshFile version) xs ∙ alike version (omega arith) (omega arith)
+fresh-file-holds version lined xs =
+    holds (freshFile version lined) xs ∙ alike (freshFile version lined) (omega arith) (omega arith)
 
 pub one-right-trailer : OneRightTrailer
 unfolding figuresAnswer

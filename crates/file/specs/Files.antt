@@ -1,5 +1,6 @@
 -- The open file (SPEC.md, "Sessions" and "Writer"): refusals 13 to 16, once for session and writer. Assumes nothing.
 use Prim.Native.Nat.{ℕ, _+_, _^_, _<_, _≤_}
+use mathlib.Core.Bool.{Bool, false}
 use mathlib.Core.List.{List, [], _∷_}
 use mathlib.Core.Logic.{_↔_}
 use mathlib.Core.Path.{_≡_}
@@ -22,13 +23,13 @@ mostPayments = 999_997
 abbrev pub mostCentavos : ℕ
 mostCentavos = 99_999_999_999_999_999
 
--- a file without payments, whose header names this version
-abbrev pub freshFile : ℕ → File
-freshFile version = record { taken = 0; total = 0; version = version }
+-- a file without payments, whose header names this version, lined or bare
+abbrev pub freshFile : ℕ → Bool → File
+freshFile version lined = record { taken = 0; total = 0; version = version; lined = lined }
 
--- where no file is open: no version either
+-- where no file is open: no version either, and no line ends
 abbrev pub noFile : File
-noFile = freshFile 0
+noFile = freshFile 0 false
 
 -- 15 for a payment when the most were taken, then 16 for one that takes the total past the most
 unfoldable pub fileAnswer : File → ℕ → Answer
@@ -38,7 +39,8 @@ fileAnswer f received =
 
 -- the file with one payment more
 abbrev pub fileWith : File → ℕ → File
-fileWith f received = record { taken = f .taken + 1; total = f .total + received; version = f .version }
+fileWith f received =
+    record { taken = f .taken + 1; total = f .total + received; version = f .version; lined = f .lined }
 
 abbrev pub fileResultOf : File → ℕ → FileResult
 fileResultOf f received =
@@ -103,7 +105,7 @@ RefusalKeepsFile =
 
 abbrev pub StaysWithin : Type 0
 StaysWithin =
-    ((version : ℕ) → FileWithin (freshFile version))
+    ((version : ℕ) (lined : Bool) → FileWithin (freshFile version lined))
     × ((f : File) (received : ℕ) → FileWithin f → FileWithin (fileResultOf f received .file))
 
 -- Promises: of all payments of a file. A fresh file takes a list of them exactly where it is within the limits, counts
@@ -111,13 +113,15 @@ StaysWithin =
 
 abbrev pub FreshFileTakes : Type 0
 FreshFileTakes =
-    (version : ℕ) (xs : List ℕ)
-    → (fileAnswers (freshFile version) xs ≡ Accepted) ↔ ((length xs ≤ mostPayments) × (receivedOf xs ≤ mostCentavos))
+    (version : ℕ) (lined : Bool) (xs : List ℕ)
+    → (fileAnswers (freshFile version lined) xs ≡ Accepted)
+    ↔ ((length xs ≤ mostPayments) × (receivedOf xs ≤ mostCentavos))
 
 abbrev pub FreshFileHolds : Type 0
 FreshFileHolds =
-    (version : ℕ) (xs : List ℕ)
-    → fileWithAll (freshFile version) xs ≡ record { taken = length xs; total = receivedOf xs; version = version }
+    (version : ℕ) (lined : Bool) (xs : List ℕ)
+    → fileWithAll (freshFile version lined) xs
+    ≡ record { taken = length xs; total = receivedOf xs; version = version; lined = lined }
 
 -- Promises: of the trailer. Exactly one is right, and its six and seventeen digits have room for a file within its
 -- limits.

@@ -1,17 +1,19 @@
-// An open file (SPEC.md, "Records" and "Sessions"): the payments it took so far, whether it takes one more, and the one
-// trailer that is right for it. Session and writer share it.
+// An open file (SPEC.md, "Records", "Line ends", "Sessions"): the payments it took so far, whether it takes one more,
+// the one trailer that is right for it, and its form, lined or bare. Session and writer share it.
 ghost use mathlib.Core.Path.{_≡_};
 ghost use Rattle.file.specs.Files.{freshFile, fileResultOf, figuresAnswer, closeResultOf};
+ghost use Rattle.file.specs.Forms.{lengthOf, hasLineEnd};
 use answer::Answer;
 use answer::Reason;
 
-// How many payments were taken, the centavos they received in all, and the version of the layout that the header names:
-// 4 or 6, and 0 where no file is open.
+// How many payments were taken, the centavos they received in all, the version of the layout that the header names, 4
+// or 6, and whether CR and LF follow each record. In a session all are 0 and false while no file is open.
 #[repr(C)]
 pub struct File {
     pub taken: u64,
     pub total: u64,
     pub version: u64,
+    pub lined: bool,
 }
 
 // The file with the payment; a refusal leaves it as it was.
@@ -32,6 +34,37 @@ pub struct CloseResult {
     pub figures: Figures,
 }
 
+// The bytes of a record with CR and LF behind it.
+pub const LINED: usize = layout::LENGTH + 2;
+
+// The two bytes that follow each record of a lined file.
+pub const CR: u8 = 13;
+
+pub const LF: u8 = 10;
+
+// The bytes of a record in a file of this form, CR and LF included.
+pub fn record_length(lined: bool) -> usize
+    ensures { λ r. ⌜ r ≡ lengthOf lined ⌝ }
+{
+    if lined {
+        return LINED;
+    }
+    layout::LENGTH
+}
+
+// Whether CR and LF follow the 150 bytes of a record, and nothing more.
+pub fn has_line_end(bytes: &[u8]) -> bool
+    ensures { λ r. ⌜ r ≡ hasLineEnd (now (bytes .entry)) ⌝ }
+{
+    if bytes.len() != LINED {
+        return false;
+    }
+    if bytes[layout::LENGTH] != CR {
+        return false;
+    }
+    bytes[layout::LENGTH + 1] == LF
+}
+
 // Where a trailer shows its count and its total.
 const COUNT_PLACE: usize = 2;
 
@@ -43,15 +76,16 @@ impl File {
 
     pub const MOST_CENTAVOS: u64 = 99_999_999_999_999_999;
 
-    // A file without payments, whose header names this version. Any number is taken; under one that is no version each
-    // payment record is refused.
-    pub fn new(version: u64) -> Self
-        ensures { λ r. ⌜ r ≡ freshFile version ⌝ }
+    // A file without payments, whose header names this version, lined or bare. Any number is taken; under one that is
+    // no version each payment record is refused.
+    pub fn new(version: u64, lined: bool) -> Self
+        ensures { λ r. ⌜ r ≡ freshFile version lined ⌝ }
     {
         File {
             taken: 0,
             total: 0,
             version,
+            lined,
         }
     }
 
@@ -85,6 +119,7 @@ impl File {
                 taken: self.taken + 1,
                 total: self.total + received,
                 version: self.version,
+                lined: self.lined,
             },
         }
     }
