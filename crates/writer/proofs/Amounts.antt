@@ -19,7 +19,7 @@ use Rattle.layout.specs.declared.Kind.{Kind}
 use Rattle.layout.specs.declared.Kind.the-variants as kind
 use Rattle.layout.specs.declared.Record.{Record}
 use Rattle.layout.specs.declared.Record.the-variants.{Payment, Trailer}
-use Rattle.layout.specs.Layouts.{layoutOf, stretchOf, givenLength, joinedOf, rowAt, table, countRow}
+use Rattle.layout.specs.Layouts.{recordLength, layoutOf, stretchOf, givenLength, joinedOf, rowAt, table, countRow}
 use Rattle.kinds.specs.Terms.{Terms}
 use Rattle.kinds.specs.Kinds.{kindAnswer}
 use Rattle.record.specs.Records.{fieldBytes}
@@ -130,15 +130,20 @@ count-written : (w : Writer) → closingAnswer (w .file) ≡ Accepted → number
 unfolding givenLength layoutOf
 count-written w c = number-of-digits 6 (figuresOf (w .file) .count) (figures-fit (w .file) (closing-accepts (w .file) .0 c) .0)
 
-total-back : (w : Writer) (size : ℕ) → makeAnswer (writerTerms w) Trailer (countBytes w) (figuresOf (w .file) .total ∷ 0 ∷ []) size ≡ Accepted → trailerShown (trailerBytes w) .total ≡ w .file .total
+total-back : (w : Writer)
+    → makeAnswer (writerTerms w) Trailer (countBytes w) (figuresOf (w .file) .total ∷ 0 ∷ []) recordLength ≡ Accepted
+    → trailerShown (trailerBytes w) .total ≡ w .file .total
 unfolding layoutOf rowAt table
-total-back w size e = ap (λ (l : List ℕ). getD l 0 0) (read-back (writerTerms w) Trailer (countBytes w) (figuresOf (w .file) .total ∷ 0 ∷ []) size e)
+total-back w e =
+    ap (λ (l : List ℕ). getD l 0 0)
+    (read-back (writerTerms w) Trailer (countBytes w) (figuresOf (w .file) .total ∷ 0 ∷ []) recordLength e)
 
 pub trailer-shows-the-figures : TrailerShowsTheFigures
 trailer-shows-the-figures w size e =
+    let amounts = figuresOf (w .file) .total ∷ 0 ∷ [] in
     let call = callAnswer w Trailer (givenLength Trailer) size in
-    let make = makeAnswer (writerTerms w) Trailer (countBytes w) (figuresOf (w .file) .total ∷ 0 ∷ []) size in
+    let make = makeAnswer (writerTerms w) Trailer (countBytes w) amounts recordLength in
     let behind-call = then-accepts call (closingAnswer (w .file) then make) .0 e .1 in
     let both = then-accepts (closingAnswer (w .file)) make .0 behind-call in
-    let joined = written-is-accepted (writerTerms w) Trailer (countBytes w) (figuresOf (w .file) .total ∷ 0 ∷ []) size (both .1) .1 in
-    (ap numberOf (sym (count-back (trailerBytes w)) ∙ joined) ∙ count-written w (both .0), total-back w size (both .1))
+    let joined = written-is-accepted (writerTerms w) Trailer (countBytes w) amounts recordLength (both .1) .1 in
+    (ap numberOf (sym (count-back (trailerBytes w)) ∙ joined) ∙ count-written w (both .0), total-back w (both .1))

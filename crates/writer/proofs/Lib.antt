@@ -1,4 +1,5 @@
 pub mod Amounts
+pub mod Buffers
 pub mod Calls
 pub mod Trailers
 pub mod Written

@@ -7,8 +7,6 @@ use native.Mathlib.Omega.{arith}
 use lib.Dec.{lit<}
 use lib.ListN.{length, getD}
 use Rattle.answer.specs.declared.Answer.the-variants.{Accepted}
-use Rattle.answer.specs.Orders.{_then_}
-use Rattle.answer.proofs.Orders.{then-accepts}
 use Rattle.decimal.specs.declared.Class.the-variants.{Digit}
 use Rattle.decimal.specs.Bytes.{isOf, all}
 use Rattle.decimal.specs.Numbers.{numberOf, digitsOf}
@@ -26,11 +24,13 @@ use Rattle.record.proofs.Shown.{layout-accepts, other-records-ignore-terms}
 use Rattle.fields.specs.Promises.{amountsIn}
 use Rattle.fields.specs.Making.{madeOf, makingAnswer, makeAnswer}
 use Rattle.file.specs.Files.{figuresOf, closingAnswer}
+use Rattle.file.specs.Forms.{lengthOf}
 use Rattle.file.proofs.Files.{closing-accepts}
 use Rattle.writer.specs.declared.Writer.{Writer}
 use Rattle.writer.specs.Writers.{writerTerms, writerExpects, callAnswer, countBytes}
 use Rattle.writer.specs.Promises.{FieldsWriteTheTrailer}
 use Rattle.writer.proofs.Amounts.{count-back}
+use Rattle.writer.proofs.Buffers.{open-fits}
 use Rattle.writer.proofs.Written.{body, made, call-accepted, makes, joined-length}
 
 -- its count has six digits, its total 17
@@ -84,13 +84,13 @@ fields-write-the-trailer any w rec accepted named opened c d =
     let n = right w t rec accepts named .0 in
     let both = made w t Trailer rec amounts accepts named in
     let same = one-amount t rec given in
+    let size = lengthOf (w .file .lined) in
     let expected : writerExpects (w .stage) Trailer ≡ true = rw opened in
-    let call : callAnswer w Trailer (givenLength Trailer) recordLength ≡ Accepted =
-    ap (λ (k : ℕ). callAnswer w Trailer k recordLength) (sym (joined-length Trailer rec n)) ∙ call-accepted w t Trailer rec amounts accepts named expected in
+    let call : callAnswer w Trailer (givenLength Trailer) size ≡ Accepted =
+    ap (λ (k : ℕ). callAnswer w Trailer k size) (sym (joined-length Trailer rec n))
+    ∙ call-accepted w t Trailer rec amounts accepts named size (open-fits w opened) expected in
     let count = count-is w t rec accepts named c in
     let make : makeAnswer t Trailer (countBytes w) (figuresOf (w .file) .total ∷ 0 ∷ []) recordLength ≡ Accepted =
-    rw (count, ← d) (makes w t Trailer rec amounts accepts named (sym (same .0) ∙ both .0)) in (
-      then-accepts (callAnswer w Trailer (givenLength Trailer) recordLength) (closingAnswer (w .file) then makeAnswer t Trailer (countBytes w) (figuresOf (w .file) .total ∷ 0 ∷ []) recordLength) .1
-          (call, then-accepts (closingAnswer (w .file)) (makeAnswer t Trailer (countBytes w) (figuresOf (w .file) .total ∷ 0 ∷ []) recordLength) .1 (closes w t rec accepts named c d, make)),
-      rw (count, ← d) (sym (same .1) ∙ both .1),
-    )
+    rw (count, ← d) (makes w t Trailer rec amounts accepts named (sym (same .0) ∙ both .0)) in
+    let close = closes w t rec accepts named c d in
+    (rw (call, close, make), rw (count, ← d) (sym (same .1) ∙ both .1))

@@ -8,7 +8,7 @@ use borrow.Author.Tests.{eqb-true, leb-true, eq-eqb}
 use lib.Dec.{eqb, leb}
 use lib.ListN.{length, getD, drop, length-append, length-drop}
 use lib.Seq.{length-take-le}
-use Rattle.answer.specs.declared.Reason.the-variants.{WrongLength, NotExpected}
+use Rattle.answer.specs.declared.Reason.the-variants.{WrongLength}
 use Rattle.answer.specs.declared.Answer.the-variants.{Accepted}
 use Rattle.answer.specs.Orders.{require, _then_}
 use Rattle.answer.proofs.Orders.{require-accepts, then-accepts}
@@ -25,10 +25,11 @@ use Rattle.fields.specs.Promises.{amountsIn}
 use Rattle.fields.specs.Making.{madeOf, makingAnswer, makeAnswer}
 use Rattle.record.proofs.Shown.{accepted-named, named-is, other-records-ignore-terms}
 use Rattle.fields.proofs.Trips.{fields-make-the-record, made-is-accepted}
-use Rattle.file.specs.Files.{fileAnswer}
+use Rattle.file.specs.Forms.{lengthOf}
 use Rattle.writer.specs.declared.Writer.{Writer}
-use Rattle.writer.specs.Writers.{writerTerms, writerExpects, callAnswer, headerAnswer, headerBytes}
+use Rattle.writer.specs.Writers.{writerTerms, writerExpects, fitsBuffer, callAnswer, headerAnswer, headerBytes}
 use Rattle.writer.specs.Promises.{WrittenIsAccepted, FieldsWriteTheHeader, FieldsWriteThePayment, PaymentsWrittenUnderAVersion}
+use Rattle.writer.proofs.Buffers.{form-of-length, either-fits, open-fits}
 
 pub first-byte : (r : Record) (given amounts : List ℕ) → getD (madeOf (layoutOf r) given amounts) 0 0 ≡ markOf r
 unfolding layoutOf
@@ -93,20 +94,16 @@ module _ (w : Writer) (t : Terms) (r : Record) (rec amounts : List ℕ) (accepts
       × (madeOf (layoutOf r) (joinedOf r rec) (amountsIn (layoutOf r) rec) ≡ rec)
   made = fields-make-the-record t r rec (body .0) (body .2)
 
-  lengths-right : eqb recordLength recordLength && eqb (length (joinedOf r rec)) (givenLength r) ≡ true
-  lengths-right = let n = joined-length r rec (body .0) in rw n (and-eq-true-iff (eqb recordLength recordLength) (eqb (givenLength r) (givenLength r)) .1 (refl, eq-eqb (givenLength r) (givenLength r) refl))
+  given-right : eqb (length (joinedOf r rec)) (givenLength r) ≡ true
+  given-right = eq-eqb (length (joinedOf r rec)) (givenLength r) (joined-length r rec (body .0))
 
-  pub call-accepted : writerExpects (w .stage) r ≡ true → callAnswer w r (length (joinedOf r rec)) recordLength ≡ Accepted
-  call-accepted e =
-      then-accepts (require (eqb recordLength recordLength && eqb (length (joinedOf r rec)) (givenLength r)) WrongLength 0) (require (writerExpects (w .stage) r) NotExpected 1) .1
-      (require-accepts (eqb recordLength recordLength && eqb (length (joinedOf r rec)) (givenLength r)) WrongLength 0 .1 lengths-right, require-accepts (writerExpects (w .stage) r) NotExpected 1 .1 e)
+  pub call-accepted : (size : ℕ) → fitsBuffer (w .stage) (w .file .lined) size ≡ true → writerExpects (w .stage) r ≡ true
+      → callAnswer w r (length (joinedOf r rec)) size ≡ Accepted
+  call-accepted size fits expected = rw (fits, given-right, expected)
 
   pub makes : makingAnswer t (layoutOf r) (joinedOf r rec) amounts ≡ Accepted → makeAnswer t r (joinedOf r rec) amounts recordLength ≡ Accepted
   unfolding makeAnswer
-  makes a =
-      let making = makingAnswer t (layoutOf r) (joinedOf r rec) amounts in
-      then-accepts (require (eqb recordLength recordLength && eqb (length (joinedOf r rec)) (givenLength r)) WrongLength 0) (termsAnswer t r then making) .1
-      (require-accepts (eqb recordLength recordLength && eqb (length (joinedOf r rec)) (givenLength r)) WrongLength 0 .1 lengths-right, then-accepts (termsAnswer t r) making .1 (body .1, a))
+  makes a = rw (given-right, body .1, a)
 
 -- A has no amounts; those of G are what it received and its tariff.
 header-amounts : (t : Terms) (rec : List ℕ)
@@ -120,35 +117,35 @@ unfolding layoutOf rowAt table
 payment-amounts rec = refl
 
 pub fields-write-the-header : FieldsWriteTheHeader
-fields-write-the-header any w rec accepted named fresh =
+fields-write-the-header any w lined rec accepted named fresh =
     let t = writerTerms w in
+    let size = lengthOf lined in
     let accepts = other-records-ignore-terms t any rec (ap isPayment named) ∙ accepted in
     let both = made w t Header rec (0 ∷ 0 ∷ []) accepts named in
     let same = header-amounts t rec in
     let bytes : headerBytes (joinedOf Header rec) ≡ rec = sym (same .1) ∙ both .1 in
     let expected : writerExpects (w .stage) Header ≡ true = rw fresh in
-    let written : headerAnswer w (joinedOf Header rec) recordLength ≡ Accepted =
-    then-accepts (callAnswer w Header (length (joinedOf Header rec)) recordLength) (makeAnswer t Header (joinedOf Header rec) (0 ∷ 0 ∷ []) recordLength) .1
-    (call-accepted w t Header rec (0 ∷ 0 ∷ []) accepts named expected, makes w t Header rec (0 ∷ 0 ∷ []) accepts named (sym (same .0) ∙ both .0)) in
-    (written, bytes, rw (written, bytes))
+    let fits : fitsBuffer (w .stage) (w .file .lined) size ≡ true = rw fresh (either-fits (w .file .lined) lined) in
+    let call = call-accepted w t Header rec (0 ∷ 0 ∷ []) accepts named size fits expected in
+    let make = makes w t Header rec (0 ∷ 0 ∷ []) accepts named (sym (same .0) ∙ both .0) in
+    let written : headerAnswer w (joinedOf Header rec) size ≡ Accepted = rw (call, make) in
+    (written, bytes, rw (written, bytes, form-of-length lined))
 
 pub payments-written-under-a-version : PaymentsWrittenUnderAVersion
 unfolding makeAnswer termsAnswer
 payments-written-under-a-version w given received tariff opened n none =
-    rw (opened, n, eq-eqb (givenLength Payment) (givenLength Payment) refl, none)
+    rw (open-fits w opened, opened, n, eq-eqb (givenLength Payment) (givenLength Payment) refl, none)
 
 pub fields-write-the-payment : FieldsWriteThePayment
-fields-write-the-payment w rec accepts named opened size =
+fields-write-the-payment w rec accepts named opened limits =
     let t = writerTerms w in
+    let size = lengthOf (w .file .lined) in
     let amounts = paymentShown rec .received ∷ paymentShown rec .tariff ∷ [] in
     let given = joinedOf Payment rec in
     let both = made w t Payment rec amounts accepts named in
     let same = payment-amounts rec in
     let expected : writerExpects (w .stage) Payment ≡ true = rw opened in
-    let makes-it : makingAnswer t (layoutOf Payment) given amounts ≡ Accepted = rw same at (both .0) in (
-      then-accepts (callAnswer w Payment (length given) recordLength) (makeAnswer t Payment given amounts recordLength then fileAnswer (w .file) (paymentShown rec .received)) .1 (
-        call-accepted w t Payment rec amounts accepts named expected,
-        then-accepts (makeAnswer t Payment given amounts recordLength) (fileAnswer (w .file) (paymentShown rec .received)) .1 (makes w t Payment rec amounts accepts named makes-it, size),
-      ),
-      ap (madeOf (layoutOf Payment) given) (sym same) ∙ both .1,
-    )
+    let call = call-accepted w t Payment rec amounts accepts named size (open-fits w opened) expected in
+    let making : makingAnswer t (layoutOf Payment) given amounts ≡ Accepted = rw same at (both .0) in
+    let make = makes w t Payment rec amounts accepts named making in
+    (rw (call, make, limits), ap (madeOf (layoutOf Payment) given) (sym same) ∙ both .1)

@@ -1,6 +1,6 @@
 -- Claims about the writer, beside the equations of its operations' contracts. Assumes nothing.
 use Prim.Native.Nat.{ℕ, _+_}
-use mathlib.Core.Bool.{false}
+use mathlib.Core.Bool.{Bool, false}
 use mathlib.Core.List.{List, [], _∷_}
 use mathlib.Core.Path.{_≡_}
 use lib.ListN.{length, getD}
@@ -10,12 +10,13 @@ use Rattle.answer.specs.declared.Answer.the-variants.{Accepted, Refused}
 use Rattle.layout.specs.declared.MaybeRecord.the-variants.{Is}
 use Rattle.layout.specs.declared.Record.{Record}
 use Rattle.layout.specs.declared.Record.the-variants.{Header, Payment, Trailer}
-use Rattle.layout.specs.Layouts.{recordLength, namedBy, layoutOf, rowAt, versionRow, givenLength, joinedOf}
-use Rattle.kinds.specs.Terms.{Terms, told, isVersion}
+use Rattle.layout.specs.Layouts.{namedBy, layoutOf, rowAt, versionRow, givenLength, joinedOf}
+use Rattle.kinds.specs.Terms.{Terms, isVersion}
 use Rattle.record.specs.Records.{recordAnswer}
 use Rattle.record.specs.Values.{versionIn, paymentShown, trailerShown}
 use Rattle.fields.specs.Making.{madeOf, makeAnswer}
-use Rattle.file.specs.Files.{fileAnswer}
+use Rattle.file.specs.Files.{freshFile, fileAnswer}
+use Rattle.file.specs.Forms.{lengthOf}
 use Rattle.writer.specs.declared.Stage.the-variants.{Fresh, Open}
 use Rattle.writer.specs.declared.Writer.{Writer}
 use Rattle.writer.specs.Writers.{writerTerms, writeResult, headerAnswer, headerWritten, headerBytes}
@@ -43,22 +44,24 @@ TrailerShowsTheFigures =
     → (trailerShown (trailerBytes w) .count ≡ w .file .taken + 2)
     × (trailerShown (trailerBytes w) .total ≡ w .file .total)
 
--- the fields of an accepted A, given to a writer whose stage is fresh, write that A, and its version is then the
--- writer's; those of a G that is accepted under the writer's version, given to a writer whose file is open and can take
--- it, that G
+-- the fields of an accepted A, given to a writer whose stage is fresh, with a buffer for either form, write that A; its
+-- version and that form are then the writer's. Those of a G that is accepted under the writer's version, given to a
+-- writer whose file is open and can take it, write that G.
 abbrev pub FieldsWriteTheHeader : Type 0
 FieldsWriteTheHeader =
-    (t : Terms) (w : Writer) (rec : List ℕ) → recordAnswer t rec ≡ Accepted → namedBy (getD rec 0 0) ≡ Is Header
-    → w .stage ≡ Fresh
-    → (headerAnswer w (joinedOf Header rec) recordLength ≡ Accepted)
+    (t : Terms) (w : Writer) (lined : Bool) (rec : List ℕ) → recordAnswer t rec ≡ Accepted
+    → namedBy (getD rec 0 0) ≡ Is Header → w .stage ≡ Fresh
+    → (headerAnswer w (joinedOf Header rec) (lengthOf lined) ≡ Accepted)
     × (headerBytes (joinedOf Header rec) ≡ rec)
-    × (writerTerms (headerWritten w (joinedOf Header rec) recordLength .writer) ≡ told (versionIn rec))
+    × (headerWritten w (joinedOf Header rec) (lengthOf lined) .writer
+    ≡ record { stage = Open; file = freshFile (versionIn rec) lined })
 
 abbrev pub FieldsWriteThePayment : Type 0
 FieldsWriteThePayment =
     (w : Writer) (rec : List ℕ) → recordAnswer (writerTerms w) rec ≡ Accepted → namedBy (getD rec 0 0) ≡ Is Payment
     → w .stage ≡ Open → fileAnswer (w .file) (paymentShown rec .received) ≡ Accepted
-    → (paymentAnswer w (joinedOf Payment rec) (paymentShown rec .received) (paymentShown rec .tariff) recordLength
+    → (paymentAnswer w (joinedOf Payment rec) (paymentShown rec .received) (paymentShown rec .tariff)
+    (lengthOf (w .file .lined))
     ≡ Accepted)
     × (paymentBytes (joinedOf Payment rec) (paymentShown rec .received) (paymentShown rec .tariff) ≡ rec)
 
@@ -67,7 +70,7 @@ abbrev pub FieldsWriteTheTrailer : Type 0
 FieldsWriteTheTrailer =
     (t : Terms) (w : Writer) (rec : List ℕ) → recordAnswer t rec ≡ Accepted → namedBy (getD rec 0 0) ≡ Is Trailer
     → w .stage ≡ Open → trailerShown rec .count ≡ w .file .taken + 2 → trailerShown rec .total ≡ w .file .total
-    → (trailerAnswer w recordLength ≡ Accepted) × (trailerBytes w ≡ rec)
+    → (trailerAnswer w (lengthOf (w .file .lined)) ≡ Accepted) × (trailerBytes w ≡ rec)
 
 -- an open writer in an arbitrary state whose version is another number than 4 and 6 refuses every G whose lengths are
 -- right, 10 at the version's place in a header
@@ -75,7 +78,8 @@ abbrev pub PaymentsWrittenUnderAVersion : Type 0
 PaymentsWrittenUnderAVersion =
     (w : Writer) (given : List ℕ) (received tariff : ℕ) → w .stage ≡ Open → length given ≡ givenLength Payment
     → isVersion (w .file .version) ≡ false
-    → paymentAnswer w given received tariff recordLength ≡ Refused FixedDiffers (rowAt versionRow .first)
+    → paymentAnswer w given received tariff (lengthOf (w .file .lined))
+    ≡ Refused FixedDiffers (rowAt versionRow .first)
 
 -- a refusal leaves the writer as it was
 abbrev pub RefusalKeepsWriter : Type 0

@@ -1,6 +1,6 @@
 -- The file writer (SPEC.md, "Writer"): A, then each G, then Z with its own count and total. Assumes nothing.
 use Prim.Native.Nat.{ℕ}
-use mathlib.Core.Bool.{Bool, true, false, _&&_}
+use mathlib.Core.Bool.{Bool, true, false, _&&_, _||_}
 use mathlib.Core.List.{List, [], _∷_}
 use lib.Dec.{eqb}
 use lib.ListN.{length}
@@ -14,6 +14,7 @@ use Rattle.layout.specs.Layouts.{recordLength, layoutOf, givenLength}
 use Rattle.kinds.specs.Terms.{Terms, told}
 use Rattle.record.specs.Values.{versionIn}
 use Rattle.fields.specs.Making.{madeOf, makeAnswer}
+use Rattle.file.specs.Forms.{linedLength, lengthOf}
 use Rattle.file.specs.Files.{freshFile, noFile, fileAnswer, fileWith, figuresOf, closingAnswer}
 use Rattle.writer.specs.declared.Stage.{Stage}
 use Rattle.writer.specs.declared.Stage.the-variants.{Fresh, Open, Closed}
@@ -33,10 +34,21 @@ writerExpects Open Payment = true
 writerExpects Open Trailer = true
 writerExpects Closed r = false
 
+-- the length of the caller's buffer: 150 or 152 for a fresh writer, whose header it makes bare or lined; then that of
+-- the file's form, once it is closed too
+abbrev pub fitsBuffer : Stage → Bool → ℕ → Bool
+fitsBuffer Fresh lined size = eqb size recordLength || eqb size linedLength
+fitsBuffer Open lined size = eqb size (lengthOf lined)
+fitsBuffer Closed lined size = eqb size (lengthOf lined)
+
+-- a buffer of 152 bytes is for a lined file
+abbrev pub isLinedBuffer : ℕ → Bool
+isLinedBuffer size = eqb size linedLength
+
 -- 1 for the length of the caller's buffer or of the field bytes, then 9
 abbrev pub callAnswer : Writer → Record → ℕ → ℕ → Answer
 callAnswer w r given size =
-    require (eqb size recordLength && eqb given (givenLength r)) WrongLength 0
+    require (fitsBuffer (w .stage) (w .file .lined) size && eqb given (givenLength r)) WrongLength 0
     then require (writerExpects (w .stage) r) NotExpected 1
 
 -- the next writer where it is accepted, else the old one
@@ -47,10 +59,11 @@ writeResult a new old = record { answer = a; writer = ifAccepted a new old }
 abbrev pub writerTerms : Writer → Terms
 writerTerms w = told (w .file .version)
 
--- A: the fields; the file is then open under the version that they name
+-- A: the fields; the file is then open under the version that they name, in the form of its buffer. The
+-- bytes defined here and below are those of the record: a lined file has CR and LF behind them (`inForm`).
 abbrev pub headerAnswer : Writer → List ℕ → ℕ → Answer
 headerAnswer w given size =
-    callAnswer w Header (length given) size then makeAnswer (writerTerms w) Header given (0 ∷ 0 ∷ []) size
+    callAnswer w Header (length given) size then makeAnswer (writerTerms w) Header given (0 ∷ 0 ∷ []) recordLength
 
 abbrev pub headerBytes : List ℕ → List ℕ
 headerBytes given = madeOf (layoutOf Header) given (0 ∷ 0 ∷ [])
@@ -58,7 +71,7 @@ headerBytes given = madeOf (layoutOf Header) given (0 ∷ 0 ∷ [])
 abbrev pub headerWritten : Writer → List ℕ → ℕ → WriteResult
 headerWritten w given size =
     writeResult (headerAnswer w given size)
-    (record { stage = Open; file = freshFile (versionIn (headerBytes given)) }) w
+    (record { stage = Open; file = freshFile (versionIn (headerBytes given)) (isLinedBuffer size) }) w
 
 -- G: 10 for a writer in an arbitrary state whose version is another number than 4 and 6, the fields, 21 in the money
 -- fields' turn, then 15 and 16
@@ -85,7 +98,7 @@ abbrev pub trailerAnswer : Writer → ℕ → Answer
 trailerAnswer w size =
     callAnswer w Trailer (givenLength Trailer) size
     then closingAnswer (w .file)
-    then makeAnswer (writerTerms w) Trailer (countBytes w) (figuresOf (w .file) .total ∷ 0 ∷ []) size
+    then makeAnswer (writerTerms w) Trailer (countBytes w) (figuresOf (w .file) .total ∷ 0 ∷ []) recordLength
 
 abbrev pub trailerWritten : Writer → ℕ → WriteResult
 trailerWritten w size = writeResult (trailerAnswer w size) (record { stage = Closed; file = w .file }) w

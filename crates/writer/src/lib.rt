@@ -1,11 +1,15 @@
 // A return file written record by record (SPEC.md, "Writer"): A, then each G, then Z with the file's own figures.
+ghost use mathlib.Core.Bool.{_||_};
 ghost use mathlib.Core.Path.{_≡_};
+ghost use lib.Dec.{eqb};
 ghost use lib.ListN.{length};
 ghost use Rattle.answer.specs.declared.Answer.the-variants as answers;
-ghost use Rattle.answer.specs.Orders.{_then_, ifAccepted};
+ghost use Rattle.answer.specs.Orders.{ifAccepted};
 ghost use Rattle.layout.specs.Layouts.{recordLength};
+ghost use Rattle.file.specs.Forms.{inForm, linedLength, lengthOf};
 ghost use Rattle.record.specs.Values.{versionIn};
-ghost use Rattle.writer.specs.Writers.{freshWriter, writerExpects, callAnswer, writeResult};
+ghost use Rattle.writer.specs.Writers.{freshWriter, writerExpects, fitsBuffer, isLinedBuffer};
+ghost use Rattle.writer.specs.Writers.{callAnswer, writeResult};
 ghost use Rattle.writer.specs.Writers.{headerWritten, headerBytes, paymentWritten, paymentBytes};
 ghost use Rattle.writer.specs.Writers.{trailerWritten, trailerBytes};
 use answer::Answer;
@@ -21,7 +25,8 @@ pub enum Stage {
     Closed,
 }
 
-// The stage, and what was written so far: how many payments, their centavos, and the version that the header names.
+// The stage, and what was written so far: how many payments, their centavos, the version that the header names, and
+// whether the file is lined.
 pub struct Writer {
     pub stage: Stage,
     pub file: File,
@@ -52,13 +57,38 @@ fn is_expected(stage: Stage, which: Record) -> bool
     }
 }
 
-// The first refusal of two answers.
-fn first_refusal(first: Answer, second: Answer) -> Answer
-    ensures { λ r. ⌜ r ≡ first then second ⌝ }
+// Whether a buffer of this length is one for a record of either form.
+fn is_either_length(size: usize) -> bool
+    ensures { λ r. ⌜ r ≡ (eqb size recordLength || eqb size linedLength) ⌝ }
 {
-    match first {
-        Answer::Accepted => second,
-        Answer::Refused(_, _) => first,
+    if size == layout::LENGTH {
+        return true;
+    }
+    size == file::LINED
+}
+
+// Whether a buffer of this length fits a call to a writer at this stage: one for a record of either form fits a fresh
+// writer, else it must be of the file's form.
+fn fits_buffer(stage: Stage, lined: bool, size: usize) -> bool
+    ensures { λ r. ⌜ r ≡ fitsBuffer stage lined size ⌝ }
+{
+    match stage {
+        Stage::Fresh => is_either_length(size),
+        Stage::Open => size == file::record_length(lined),
+        Stage::Closed => size == file::record_length(lined),
+    }
+}
+
+// Puts the record's 150 bytes into a buffer of 150 or 152, and CR and LF behind them in one of 152.
+fn put_in_form(made: &[u8], out: &mut [u8])
+    requires { ⌜ (length (now made) ≡ recordLength)
+        × (length (now out) ≡ lengthOf (isLinedBuffer (length (now out)))) ⌝ }
+    ensures { λ _. ⌜ now (out .exit) ≡ inForm (isLinedBuffer (length (now (out .entry)))) (now (made .entry)) ⌝ }
+{
+    bytes::copy(made, out);
+    if out.len() == file::LINED {
+        out[layout::LENGTH] = file::CR;
+        out[layout::LENGTH + 1] = file::LF;
     }
 }
 
@@ -73,8 +103,11 @@ fn version_in(header: &[u8]) -> u64
 }
 
 impl Writer {
-    // The bytes of a record, and so of the buffer of each call.
+    // The bytes of a record, and so of the buffer of each call for a bare file; of one with CR and LF behind it, for a
+    // lined file.
     pub const RECORD: usize = layout::LENGTH;
+
+    pub const LINED: usize = file::LINED;
 
     // The digits of a trailer's count, which are all its field bytes.
     const COUNT: usize = 6;
@@ -85,38 +118,40 @@ impl Writer {
     {
         Writer {
             stage: Stage::Fresh,
-            file: File::new(0),
+            file: File::new(0, false),
         }
     }
 
-    // 1 unless the buffer has 150 bytes and the field bytes are as many as the record takes, then 9 unless the record
-    // is expected now.
+    // 1 unless the buffer is as long as a record of the file's form, of either form for a fresh writer, and the field
+    // bytes are as many as the record takes; then 9 unless the record is expected now.
     fn check_call(self, which: Record, given: usize, size: usize) -> Answer
         ensures { λ r. ⌜ r ≡ callAnswer self which given size ⌝ }
     {
-        if size != Self::RECORD {
+        let stage = self.stage;
+        if !fits_buffer(stage, self.file.lined, size) {
             return Answer::Refused(Reason::WrongLength, 0);
         }
         if given != layout::given_length(which) {
             return Answer::Refused(Reason::WrongLength, 0);
         }
-        let stage = self.stage;
         if !is_expected(stage, which) {
             return Answer::Refused(Reason::NotExpected, 1);
         }
         Answer::Accepted
     }
 
-    // The end of every call: where it is accepted, the record is written and the next writer follows; a refusal
-    // changes nothing.
+    // The end of every call: where it is accepted, the record is written, with CR and LF behind it in a buffer of 152,
+    // and the next writer follows; a refusal changes nothing.
     fn finish(self, answer: Answer, next: Writer, made: &[u8], out: &mut [u8]) -> WriteResult
-        requires { ⌜ (answer ≡ answers.Accepted → length (now made) ≡ length (now out)) ⌝ }
+        requires { ⌜ (length (now made) ≡ recordLength)
+            × (answer ≡ answers.Accepted → length (now out) ≡ lengthOf (isLinedBuffer (length (now out)))) ⌝ }
         ensures answer { λ r. ⌜ r ≡ writeResult answer next self ⌝ }
-        ensures bytes { λ _. ⌜ now (out .exit) ≡ ifAccepted answer (now (made .entry)) (now (out .entry)) ⌝ }
+        ensures bytes { λ _. ⌜ now (out .exit) ≡ ifAccepted answer
+            (inForm (isLinedBuffer (length (now (out .entry)))) (now (made .entry))) (now (out .entry)) ⌝ }
     {
         match answer {
             Answer::Accepted => {
-                bytes::copy(made, out);
+                put_in_form(made, out);
                 WriteResult {
                     answer,
                     writer: next,
@@ -129,32 +164,35 @@ impl Writer {
         }
     }
 
-    // Writes the header with these 80 field bytes into the caller's buffer of 150 bytes; the file is open then, under
-    // the version that they name. A refusal leaves buffer and writer unchanged: 1, 9, then the fields.
+    // Writes the header with these 80 field bytes into the caller's buffer; the file is open then, under the version
+    // that they name. A buffer of 150 bytes makes it bare; one of 152 makes it lined, and each of its records is
+    // written with CR and LF behind it. A refusal leaves buffer and writer unchanged: 1, 9, then the fields.
     pub fn header(self, fields: &[u8], out: &mut [u8]) -> WriteResult
         ensures answer { λ r. ⌜ r ≡ headerWritten self (now (fields .entry)) (length (now (out .entry))) ⌝ }
         ensures bytes { λ r. ⌜ now (out .exit) ≡ ifAccepted (r .answer)
-            (headerBytes (now (fields .entry))) (now (out .entry)) ⌝ }
+            (inForm (isLinedBuffer (length (now (out .entry)))) (headerBytes (now (fields .entry))))
+            (now (out .entry)) ⌝ }
     {
         let call = self.check_call(Record::Header, fields.len(), out.len());
         let mut made = [0u8; Self::RECORD];
         let making = fields::make(Record::Header, fields, self.file.version, 0, 0, &mut made);
-        let answer = first_refusal(call, making);
+        let answer = answer::first_refusal(call, making);
         let opened = Writer {
             stage: Stage::Open,
-            file: File::new(version_in(&made)),
+            file: File::new(version_in(&made), out.len() == Self::LINED),
         };
         self.finish(answer, opened, &made, out)
     }
 
-    // Writes a payment with these 121 field bytes and amounts into the caller's buffer of 150 bytes and counts it. A
-    // refusal leaves buffer and writer unchanged: 1, 9, 10 at 80 for a writer in an arbitrary state whose version is
-    // another number than 4 and 6, then the fields with 21 in an amount's turn, then 15 and 16.
+    // Writes a payment with these 121 field bytes and amounts into the caller's buffer, as long as the header's, and
+    // counts it. A refusal leaves buffer and writer unchanged: 1, 9, 10 at 80 for a writer in an arbitrary state whose
+    // version is another number than 4 and 6, then the fields with 21 in an amount's turn, then 15 and 16.
     pub fn payment(self, fields: &[u8], received: u64, tariff: u64, out: &mut [u8]) -> WriteResult
         ensures answer { λ r. ⌜ r ≡ paymentWritten self (now (fields .entry)) received tariff
             (length (now (out .entry))) ⌝ }
         ensures bytes { λ r. ⌜ now (out .exit) ≡ ifAccepted (r .answer)
-            (paymentBytes (now (fields .entry)) received tariff) (now (out .entry)) ⌝ }
+            (inForm (isLinedBuffer (length (now (out .entry)))) (paymentBytes (now (fields .entry)) received tariff))
+            (now (out .entry)) ⌝ }
     {
         let call = self.check_call(Record::Payment, fields.len(), out.len());
         let mut made = [0u8; Self::RECORD];
@@ -171,7 +209,7 @@ impl Writer {
         let taken = file.take(received);
         let counting = taken.answer;
         let counted = taken.file;
-        let answer = first_refusal(call, first_refusal(making, counting));
+        let answer = answer::first_refusal(call, answer::first_refusal(making, counting));
         let next = Writer {
             stage,
             file: counted,
@@ -179,12 +217,13 @@ impl Writer {
         self.finish(answer, next, &made, out)
     }
 
-    // Writes the trailer with the file's own count and total into the caller's buffer of 150 bytes; then the writer is
-    // closed. A refusal leaves buffer and writer unchanged: 1, 9, then 15 and 16, which only a writer in an arbitrary
-    // state can give.
+    // Writes the trailer with the file's own count and total into the caller's buffer, as long as the header's; then
+    // the writer is closed. A refusal leaves buffer and writer unchanged: 1, 9, then 15 and 16, which only a writer in
+    // an arbitrary state can give.
     pub fn trailer(self, out: &mut [u8]) -> WriteResult
         ensures answer { λ r. ⌜ r ≡ trailerWritten self (length (now (out .entry))) ⌝ }
-        ensures bytes { λ r. ⌜ now (out .exit) ≡ ifAccepted (r .answer) (trailerBytes self) (now (out .entry)) ⌝ }
+        ensures bytes { λ r. ⌜ now (out .exit) ≡ ifAccepted (r .answer)
+            (inForm (isLinedBuffer (length (now (out .entry)))) (trailerBytes self)) (now (out .entry)) ⌝ }
     {
         let call = self.check_call(Record::Trailer, Self::COUNT, out.len());
         let file = self.file;
@@ -202,7 +241,7 @@ impl Writer {
             0,
             &mut made,
         );
-        let answer = first_refusal(call, first_refusal(closing, making));
+        let answer = answer::first_refusal(call, answer::first_refusal(closing, making));
         let ended = Writer {
             stage: Stage::Closed,
             file,

@@ -31,13 +31,16 @@ slice-aggregate-finish : tie.Need-slice-aggregate-finish
 slice-aggregate-finish c = search needs
 
 finish-requires : tie.Need-finish-requires
-finish-requires c κs h =
+finish-requires c κs =
     let choosing = c .before .before .before .before .before in
     let making = choosing .before .before in
     let calling = making .before .before in
     let a = calling .before .before .before .args in
-    let size = size-is (a .self) Header (length (a .fields .now)) (length (a .out .now)) (making .make .result) (calling .check-call .ensures) (choosing .first-refusal .ensures) h in
-    search needs
+    let made = making .make .kept .1 .1 .1 .1 .1 .0 in (
+      made,
+      size-is (a .self) Header (length (a .fields .now)) (length (a .out .now))
+          (making .make .result) (calling .check-call .ensures) (choosing .first-refusal .ensures),
+    )
 
 same-length : tie.Need-same-length
 same-length c = search needs

@@ -1,5 +1,5 @@
 -- `writer::Writer::trailer` meets its contract. Assumes nothing.
-use mathlib.Core.Path.{refl, sym, _∙_}
+use mathlib.Core.Path.{refl}
 use borrow.Author.Needs.{needs}
 use lib.ListN.{length}
 use Rattle.layout.specs.declared.Record.the-variants.{Trailer}
@@ -38,13 +38,16 @@ slice-aggregate-finish : tie.Need-slice-aggregate-finish
 slice-aggregate-finish c = search needs
 
 finish-requires : tie.Need-finish-requires
-finish-requires c κs h =
+finish-requires c κs =
     let choosing = c .before .before in
     let making = choosing .before .before .before in
     let calling = making .before .before .before .before .before .before .before .before .before in
     let a = calling .before .before .args in
-    let size = size-is (a .self) Trailer 6 (length (a .out .now)) (choosing .before .first-refusal .result) (calling .check-call .ensures) (choosing .first-refusal2 .ensures) h in
-    making .make .kept .1 .1 .1 .1 .1 .0 ∙ sym size
+    let made = making .make .kept .1 .1 .1 .1 .1 .0 in (
+      made,
+      size-is (a .self) Trailer 6 (length (a .out .now))
+          (choosing .before .first-refusal .result) (calling .check-call .ensures) (choosing .first-refusal2 .ensures),
+    )
 
 same-length : tie.Need-same-length
 same-length c = search needs
