@@ -1,15 +1,14 @@
 -- Ties the fast path to `take`: a payment posted in place is accepted, and leaves the same session. Assumes nothing.
-use Prim.Native.Nat.{ℕ, _+_, _-_, _<_, min}
+use Prim.Native.Nat.{ℕ, _+_, _-_, _≤_, _<_, min}
 use mathlib.Core.Bool.{Bool, true}
 use mathlib.Core.List.{List}
 use mathlib.Core.Path.{_≡_, refl, sym, ap, _∙_}
 use native.Mathlib.Omega.{arith}
-use lib.Dec.{eqb}
-use lib.ListN.{length, getD, set, take, drop}
+use lib.ListN.{length, getD, set, take, drop, length-drop}
+use lib.Seq.{take-take, length-take-le}
 use Rattle.answer.specs.declared.Answer.{Answer}
 use Rattle.answer.specs.declared.Answer.the-variants as answer
 use Rattle.answer.specs.Orders.{ifAccepted}
-use Rattle.answer.proofs.Steps.{passed}
 use Rattle.layout.specs.declared.MaybeRecord.{MaybeRecord}
 use Rattle.layout.specs.declared.MaybeRecord.the-variants.{Is, Other}
 use Rattle.layout.specs.declared.Record.the-variants as layout
@@ -25,6 +24,8 @@ use Rattle.record.specs.Records.{recordAnswer}
 use Rattle.record.specs.Values.{recordShown, shownUnlessRefused, decodedRecord, paymentDueOf}
 use Rattle.file.specs.declared.FileResult.{FileResult}
 use Rattle.file.specs.Files.{fileResultOf, fileAnswer, fileWith}
+use Rattle.file.specs.Forms.{lengthOf, bodyOf, fitsLength, endAnswer}
+use Rattle.file.proofs.Forms.{first-in}
 use Rattle.board.specs.declared.Lane.{Lane}
 use Rattle.board.specs.declared.SlotResult.{SlotResult}
 use Rattle.board.specs.declared.PostResult.{PostResult}
@@ -36,11 +37,12 @@ use Rattle.session.specs.declared.leading.Progress.{Progress}
 use Rattle.session.specs.declared.leading.MaybePayment.{MaybePayment}
 use Rattle.session.specs.declared.leading.MaybePayment.the-variants as maybe
 use Rattle.session.specs.declared.leading.LeadingPayments.{LeadingPayments}
-use Rattle.session.specs.Sessions.{sessionTerms, laneOfPayment, takeAnswer, takeOf, sessionWith}
-use Rattle.session.specs.Runs.{filesClosed}
+use Rattle.session.specs.Sessions.{sessionTerms, laneOfPayment, takeAnswer, nextSession, takeOf}
+use Rattle.session.specs.Runs.{pieceLength, leastLeft, filesClosed}
 use Rattle.session.specs.LeadingPayments.{Taken, NextPaymentOf, withLeading, LeadingPaymentsOf}
 use Rattle.session.proofs.Steps.{posted-board, taken-file}
-use Rattle.session.proofs.Runs.{piece-part, piece-first, run-goes}
+use Rattle.session.proofs.Lengths.{some-bytes, at-least-bare, fits-form}
+use Rattle.session.proofs.Runs.{least-some, piece-part, piece-first, run-goes}
 
 -- what is decoded as a payment was accepted, and its first byte names a payment
 shown-payment : (a : Answer) (n : MaybeRecord) (rec : List ℕ) {p : Payment}
@@ -52,23 +54,23 @@ shown-payment answer.Accepted (Is layout.Trailer) rec h = (refl, cc)
 shown-payment answer.Accepted Other rec h = (refl, cc)
 shown-payment (answer.Refused why place) n rec h = (cc, cc)
 
-module _ (t : Terms) (rec : List ℕ) {p : Payment} (is : decodedRecord t rec ≡ decoded.Payment p) where
+module _ (t : Terms) (rec : List ℕ) {p : Payment} (is : decodedRecord t (bodyOf rec) ≡ decoded.Payment p) where
   pub payment-named : namedBy (getD rec 0 0) ≡ Is layout.Payment
-  payment-named = shown-payment (recordAnswer t rec) (namedBy (getD rec 0 0)) rec is .1
+  payment-named =
+      ap namedBy (sym (first-in rec))
+      ∙ shown-payment (recordAnswer t (bodyOf rec)) (namedBy (getD (bodyOf rec) 0 0)) (bodyOf rec) is .1
 
-  payment-long : eqb (length rec) recordLength ≡ true
-  unfolding recordAnswer
-  payment-long = passed _ _ _ (shown-payment (recordAnswer t rec) (namedBy (getD rec 0 0)) rec is .0) .0
-
-  -- in an open session of its version, with a file and a slot that take it
-  module _ (s : Session) (terms : sessionTerms s ≡ t) (opened : s .opened ≡ true) (fits : fileAnswer (s .file) (p .received) ≡ answer.Accepted)
+  -- in an open session of its version, with a file and a slot that take it, and with the end that its form has
+  module _ (s : Session) (terms : sessionTerms s ≡ t) (opened : s .opened ≡ true)
+      (long : fitsLength true (s .file .lined) rec ≡ true) (ended : endAnswer true (s .file .lined) rec ≡ answer.Accepted)
+      (fits : fileAnswer (s .file) (p .received) ≡ answer.Accepted)
       {at : ℕ} (found : at ≡ indexOf (p .barcode .issuer) (lanesOf (s .work))) {e : SlotResult} (posted : e ≡ slotResultOf (slotAt (s .work) at) (laneOfPayment p))
       (accepted : e .answer ≡ answer.Accepted) where
     pub payment-taken : takeAnswer s rec ≡ answer.Accepted
     payment-taken =
         let b : postAnswer (s .work) (laneOfPayment p) ≡ answer.Accepted =
         sym (ap (λ (x : PostResult). x .answer) (put-back (s .work) (laneOfPayment p) at e found posted)) ∙ accepted in
-        rw (terms, is, payment-long, payment-named, opened, fits, b)
+        rw (terms, is, opened, long, payment-named, fits, b, ended)
 
     pub payment-leaves : _≡_ {A = Session}
         (record {
@@ -78,7 +80,7 @@ module _ (t : Terms) (rec : List ℕ) {p : Payment} (is : decodedRecord t rec �
           opened = s .opened;
           file = fileWith (s .file) (p .received);
         })
-        (sessionWith s (decodedRecord (sessionTerms s) rec))
+        (nextSession s rec)
     payment-leaves =
         rw (terms, is, posted-board (s .work) (laneOfPayment p) (put-back (s .work) (laneOfPayment p) at e found posted) accepted)
 
@@ -96,61 +98,78 @@ paid-to (decoded.Trailer t) e = let z : _≡_ {A = ℕ} 0 1 = cc in absurd (omeg
 paid-to (decoded.Refused why place) e = let z : _≡_ {A = ℕ} 0 1 = cc in absurd (omega arith)
 
 -- what was read, and the file that took it
-pub next-is : {opened : Bool} {before : Progress} {bytes : List ℕ} {end : ℕ} → opened ≡ true → before .at < length bytes
-    → end ≡ before .at + min recordLength (length bytes - before .at)
+pub next-is : {opened more : Bool} {before : Progress} {bytes : List ℕ} {end : ℕ} → opened ≡ true
+    → before .at + leastLeft more ≤ length bytes → end ≡ before .at + lengthOf (before .file .lined) → end ≤ length bytes
+    → endAnswer true (before .file .lined) (take (end - before .at) (drop (before .at) bytes)) ≡ answer.Accepted
     → {d : PaymentDue} {i : Issuer} {x : ℕ}
-    → d ≡ paymentDueOf (decodedRecord (told (before .file .version)) (take (end - before .at) (drop (before .at) bytes))) → d ≡ due.To i x
+    → d ≡ paymentDueOf (decodedRecord (told (before .file .version)) (take (before .at + recordLength - before .at) (drop (before .at) bytes)))
+    → d ≡ due.To i x
     → {t : FileResult} → t ≡ fileResultOf (before .file) x → t .answer ≡ answer.Accepted → {l : Lane}
     → l ≡ laneOfOne i x
-    → Taken opened before bytes l (record { file = t .file; records = before .records + 1; at = end })
-next-is {before = before} {bytes} {end} going inside ends read found {t} took fits paid =
-    let payment = paid-to (decodedRecord (told (before .file .version)) (take (end - before .at) (drop (before .at) bytes))) (sym read ∙ found) in
+    → Taken opened more before bytes l (record { file = t .file; records = before .records + 1; at = end })
+next-is {before = before} {bytes} {end} going enough ends inside ended read found {t} took fits paid =
+    let own : before .at + recordLength - before .at ≡ recordLength = omega arith in
+    let payment = paid-to (decodedRecord (told (before .file .version)) (take recordLength (drop (before .at) bytes))) (sym (rw own at read) ∙ found) in
     let took′ : t ≡ fileResultOf (before .file) (payment .shown .received) = rw (payment .received) took in
     record {
       going = going;
-      inside = inside;
+      enough = enough;
       ends = ends;
+      inside = inside;
       shown = payment .shown;
       is = payment .is;
+      ended = ended;
       lane = paid ∙ rw (payment .to, payment .received);
       fits = sym (ap (λ (x : FileResult). x .answer) took′) ∙ fits;
       file = taken-file (before .file) (payment .shown .received) took′ fits;
       counts = refl;
     }
 
-pub next-told : {opened : Bool} {before next : Progress} {bytes : List ℕ} {paid : Lane} {r : MaybePayment}
-    → NextPaymentOf opened before bytes r → r ≡ maybe.Is paid next
-    → Taken opened before bytes paid next
+pub next-told : {opened more : Bool} {before next : Progress} {bytes : List ℕ} {paid : Lane} {r : MaybePayment}
+    → NextPaymentOf opened more before bytes r → r ≡ maybe.Is paid next
+    → Taken opened more before bytes paid next
 next-told h e = rw e at h
 
 -- one more payment posted in place: the run goes on behind it
-pub one-more : (self : Session) (bytes : List ℕ) (b : LeadingPayments) → LeadingPaymentsOf self bytes b
+pub one-more : (self : Session) (more : Bool) (bytes : List ℕ) (b : LeadingPayments) → LeadingPaymentsOf self more bytes b
     → {paid : Lane} {next : Progress}
-    → Taken (self .opened) (b .progress) bytes paid next
+    → Taken (self .opened) more (b .progress) bytes paid next
     → {at : ℕ} → at ≡ indexOf (paid .issuer) (lanesOf (b .work)) → {e : SlotResult}
     → e ≡ slotResultOf (slotAt (b .work) at) paid → e .answer ≡ answer.Accepted
-    → LeadingPaymentsOf self bytes
+    → LeadingPaymentsOf self more bytes
     (record { work = record { lanes = set (b .work .lanes) at (e .slot .lane); used = e .slot .used; total = e .slot .total }; progress = next })
-one-more self bytes b inv {paid} {next} took {at} found {e} posted accepted =
+one-more self more bytes b inv {paid} {next} took {at} found {e} posted accepted =
     let s = withLeading self b in
     let from = b .progress .at in
+    let lined = b .progress .file .lined in
+    let size = pieceLength s (drop from bytes) in
     let p = took .shown in
     let piece = take (next .at - from) (drop from bytes) in
+    let own : size ≡ lengthOf lined = rw (took .going) in
+    let some = some-bytes lined in
+    let least = least-some more in
+    let l = length-drop from bytes in
+    let long : length piece ≡ lengthOf lined = length-take-le (next .at - from) (drop from bytes) (omega (arith, took .ends, took .inside)) ∙ omega (arith, took .ends) in
+    let body : bodyOf piece ≡ take recordLength (drop from bytes) = take-take recordLength (next .at - from) (drop from bytes) (omega (arith, took .ends, at-least-bare lined)) in
+    let is : decodedRecord (sessionTerms s) (bodyOf piece) ≡ decoded.Payment p = ap (decodedRecord (sessionTerms s)) body ∙ took .is in
     let found′ : at ≡ indexOf (p .barcode .issuer) (lanesOf (b .work)) = rw (took .lane) at found in
     let posted′ : e ≡ slotResultOf (slotAt (b .work) at) (laneOfPayment p) = rw (took .lane) at posted in
+    let fits-it = fits-form lined piece long in
     let accepts : takeAnswer s piece ≡ answer.Accepted =
-    payment-taken (sessionTerms s) piece (took .is) s refl (took .going) (took .fits) found′ posted′ accepted in
+    payment-taken (sessionTerms s) piece is s refl (took .going) fits-it (took .ended) (took .fits) found′ posted′ accepted in
     let next′ =
-    payment-leaves (sessionTerms s) piece (took .is) s refl (took .going) (took .fits) found′ posted′ accepted
-    ∙ ap (λ (a : Answer). ifAccepted a (sessionWith s (decodedRecord (sessionTerms s) piece)) s) (sym accepts) in
+    payment-leaves (sessionTerms s) piece is s refl (took .going) fits-it (took .ended) (took .fits) found′ posted′ accepted
+    ∙ ap (λ (a : Answer). ifAccepted a (nextSession s piece) s) (sym accepts) in
+    let end : next .at ≡ from + min size (length bytes - from) = omega (arith, took .ends, took .inside, own) in
+    let inside : from < length bytes = omega (arith, took .ends, took .inside, some) in
     let first : getD piece 0 0 ≡ getD bytes from 0 =
-    ap (λ (x : List ℕ). getD x 0 0) (piece-part bytes from (took .inside) (took .ends))
-    ∙ piece-first bytes from (took .inside) (took .ends) in
+    ap (λ (x : List ℕ). getD x 0 0) (piece-part bytes from size inside (omega (arith, own, some)) end)
+    ∙ piece-first bytes from size inside (omega (arith, own, some)) end in
     let none : filesClosed (namedBy (getD bytes from 0)) ≡ 0 =
-    ap (λ (x : ℕ). filesClosed (namedBy x)) (sym first) ∙ ap filesClosed (payment-named (sessionTerms s) piece (took .is)) in
+    ap (λ (x : ℕ). filesClosed (namedBy x)) (sym first) ∙ ap filesClosed (payment-named (sessionTerms s) piece is) in
     record {
-      within = omega (arith, took .ends, took .inside);
-      few = omega (arith, inv .few, took .ends, took .inside, took .counts);
+      within = took .inside;
+      few = omega (arith, inv .few, took .ends, some, took .counts);
       rest =
-          rw (took .counts, took .file, next′) (run-goes self s bytes from (b .progress .records) 0 (inv .rest) (took .inside) (took .ends) {t = takeOf s piece} refl accepts (sym none));
+          rw (took .counts, took .file, next′) (run-goes self s more bytes from (b .progress .records) 0 (inv .rest) inside (omega (arith, took .enough)) end {t = takeOf s piece} refl accepts (sym none));
     }

@@ -3,22 +3,26 @@ use Prim.Native.Nat.{ℕ}
 use mathlib.Core.Bool.{Bool, true, false}
 use mathlib.Core.List.{List}
 use mathlib.Core.Path.{_≡_, sym, ap, _∙_}
+use lib.ListN.{getD}
 use Rattle.answer.specs.declared.Reason.{Reason}
+use Rattle.answer.specs.declared.Reason.the-variants.{WrongLength, NotExpected}
 use Rattle.answer.specs.declared.Answer.{Answer}
 use Rattle.answer.specs.declared.Answer.the-variants.{Accepted, Refused}
 use Rattle.answer.specs.Orders.{require, _then_}
 use Rattle.file.specs.declared.File.{File}
 use Rattle.file.specs.declared.FileResult.{FileResult}
 use Rattle.file.specs.Files.{fileResultOf, fileAnswer, fileWith}
+use Rattle.file.specs.Forms.{bodyOf, hasLineEnd, fitsLength, endAnswer}
 use Rattle.board.specs.declared.Lane.{Lane}
 use Rattle.board.specs.declared.Board.{Board}
 use Rattle.board.specs.declared.PostResult.{PostResult}
 use Rattle.board.specs.Boards.{postAnswer, boardWith, postResultOf}
+use Rattle.layout.specs.Layouts.{namedBy}
 use Rattle.record.specs.declared.Decoded.{Decoded}
 use Rattle.record.specs.Values.{decodedRecord}
 use Rattle.session.specs.declared.Session.{Session}
 use Rattle.session.specs.declared.TakeResult.{TakeResult}
-use Rattle.session.specs.Sessions.{sessionTerms, sessionAnswer, sessionWith, takeResult}
+use Rattle.session.specs.Sessions.{sessionTerms, sessionExpects, sessionAnswer, sessionWith, takeResult, recordResult, takeOf}
 
 -- an answer passed on, with the old session or with the next
 pub took-refused : {a b : Answer} {why : Reason} {p : ℕ} (new old : Session) → a ≡ b → a ≡ Refused why p
@@ -58,7 +62,21 @@ taken-file {r} f x e h =
     ap (λ (t : FileResult). t .file) e ∙ rw g
 
 -- a record by what it was decoded as
-pub decoded-as : (s : Session) (rec : List ℕ) {e d : Decoded} {r : TakeResult} → e ≡ decodedRecord (sessionTerms s) rec → e ≡ d
-    → r ≡ takeResult (sessionAnswer s d) (sessionWith s d) s
-    → r ≡ takeResult (sessionAnswer s (decodedRecord (sessionTerms s) rec)) (sessionWith s (decodedRecord (sessionTerms s) rec)) s
-decoded-as s rec {e} {d} q f h = let g : decodedRecord (sessionTerms s) rec ≡ d = sym q ∙ f in rw g h
+pub decoded-as : (s : Session) (ended : Bool) (ending : Answer) (rec : List ℕ) {e d : Decoded} {r : TakeResult}
+    → e ≡ decodedRecord (sessionTerms s) rec → e ≡ d → r ≡ recordResult s ended ending d
+    → r ≡ recordResult s ended ending (decodedRecord (sessionTerms s) rec)
+decoded-as s ended ending rec {e} {d} q f h = let g : decodedRecord (sessionTerms s) rec ≡ d = sym q ∙ f in rw g h
+
+-- a record whose length fits and which is expected: what it is decoded as decides, and its end
+pub take-is : (s : Session) (rec : List ℕ) {ended : Bool} {ending : Answer} {r : TakeResult}
+    → fitsLength (s .opened) (s .file .lined) rec ≡ true → sessionExpects (s .opened) (namedBy (getD rec 0 0)) ≡ true
+    → ending ≡ endAnswer (s .opened) (s .file .lined) rec → ended ≡ hasLineEnd rec
+    → r ≡ recordResult s ended ending (decodedRecord (sessionTerms s) (bodyOf rec))
+    → r ≡ takeOf s rec
+take-is s rec {r = r} fits expected e f took =
+    let d = decodedRecord (sessionTerms s) (bodyOf rec) in
+    let ending = endAnswer (s .opened) (s .file .lined) rec in
+    let new = sessionWith s (hasLineEnd rec) d in
+    let own : r ≡ takeResult (sessionAnswer s d then ending) new s = rw (← f, ← e) took in
+    let expects = require (sessionExpects (s .opened) (namedBy (getD rec 0 0))) NotExpected 1 in
+    took-go WrongLength 0 (expects then sessionAnswer s d then ending) new s fits (took-go NotExpected 1 (sessionAnswer s d then ending) new s expected own)

@@ -1,5 +1,5 @@
 -- Serves the run's fast path alone (src/leading.rt): the next payment, and what payments leave. Assumes nothing.
-use Prim.Native.Nat.{ℕ, _+_, _-_, _≤_, _<_, min}
+use Prim.Native.Nat.{ℕ, _+_, _-_, _≤_}
 use mathlib.Core.Bool.{Bool, true}
 use mathlib.Core.List.{List}
 use mathlib.Core.Path.{_≡_}
@@ -11,6 +11,7 @@ use Rattle.record.specs.declared.Payment.{Payment}
 use Rattle.record.specs.declared.Decoded.the-variants as decoded
 use Rattle.record.specs.Values.{decodedRecord}
 use Rattle.file.specs.Files.{fileAnswer, fileWith}
+use Rattle.file.specs.Forms.{lengthOf, endAnswer}
 use Rattle.board.specs.declared.Lane.{Lane}
 use Rattle.session.specs.declared.Session.{Session}
 use Rattle.session.specs.declared.leading.Progress.{Progress}
@@ -18,33 +19,40 @@ use Rattle.session.specs.declared.leading.MaybePayment.{MaybePayment}
 use Rattle.session.specs.declared.leading.MaybePayment.the-variants.{Is, Other}
 use Rattle.session.specs.declared.leading.LeadingPayments.{LeadingPayments}
 use Rattle.session.specs.Sessions.{laneOfPayment}
-use Rattle.session.specs.Runs.{addCounts, runOf}
+use Rattle.session.specs.Runs.{leastLeft, addCounts, runOf}
 
--- a payment that the open file takes: its record starts where the progress before it ended
-pub record Taken (opened : Bool) (before : Progress) (bytes : List ℕ) (payment : Lane) (next : Progress) : Type 0 where
+-- a payment that the open file takes: its record starts where the progress before it ended, and is there whole
+pub record Taken (opened more : Bool) (before : Progress) (bytes : List ℕ) (payment : Lane) (next : Progress) :
+    Type 0 where
   pub going : opened ≡ true
-  pub inside : before .at < length bytes
-  pub ends : next .at ≡ before .at + min recordLength (length bytes - before .at)
+  pub enough : before .at + leastLeft more ≤ length bytes
+  pub ends : next .at ≡ before .at + lengthOf (before .file .lined)
+  pub inside : next .at ≤ length bytes
   pub shown : Payment
   pub is :
-      decodedRecord (told (before .file .version)) (take (next .at - before .at) (drop (before .at) bytes))
+      decodedRecord (told (before .file .version)) (take recordLength (drop (before .at) bytes))
       ≡ decoded.Payment shown
+  pub ended :
+      endAnswer true (before .file .lined) (take (next .at - before .at) (drop (before .at) bytes)) ≡ Accepted
   pub lane : payment ≡ laneOfPayment shown
   pub fits : fileAnswer (before .file) (shown .received) ≡ Accepted
   pub file : next .file ≡ fileWith (before .file) (shown .received)
   pub counts : next .records ≡ before .records + 1
 
 -- unspecified if there is no such payment: `take` then answers
-abbrev pub NextPaymentOf : Bool → Progress → List ℕ → MaybePayment → Type 0
-NextPaymentOf opened before bytes (Is payment next) = Taken opened before bytes payment next
-NextPaymentOf opened before bytes Other = Unit {0}
+abbrev pub NextPaymentOf : Bool → Bool → Progress → List ℕ → MaybePayment → Type 0
+NextPaymentOf opened more before bytes (Is payment next) = Taken opened more before bytes payment next
+NextPaymentOf opened more before bytes Other = Unit {0}
 
 -- the session with what the payments left of its working board and its file
 abbrev pub withLeading : Session → LeadingPayments → Session
 withLeading s p = record { shown = s .shown; work = p .work; opened = s .opened; file = p .progress .file }
 
--- payments at the front were taken: what is left to run, with their number added, is the whole run
-pub record LeadingPaymentsOf (s : Session) (bytes : List ℕ) (p : LeadingPayments) : Type 0 where
+-- payments at the front were taken: what is left to run, with their number and bytes added, is the whole run
+pub record LeadingPaymentsOf (s : Session) (more : Bool) (bytes : List ℕ) (p : LeadingPayments) : Type 0 where
   pub within : p .progress .at ≤ length bytes
   pub few : p .progress .records ≤ p .progress .at
-  pub rest : addCounts (p .progress .records) 0 (runOf (withLeading s p) (drop (p .progress .at) bytes)) ≡ runOf s bytes
+  pub rest :
+      addCounts (p .progress .records) 0 (p .progress .at)
+      (runOf (withLeading s p) more (drop (p .progress .at) bytes))
+      ≡ runOf s more bytes

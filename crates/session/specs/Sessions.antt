@@ -2,8 +2,7 @@
 use Prim.Native.Nat.{ℕ}
 use mathlib.Core.Bool.{Bool, true, false, cond, not}
 use mathlib.Core.List.{List}
-use lib.Dec.{eqb}
-use lib.ListN.{length, getD}
+use lib.ListN.{getD}
 use Rattle.answer.specs.declared.Reason.the-variants.{WrongLength, NotExpected, FileOpen}
 use Rattle.answer.specs.declared.Answer.{Answer}
 use Rattle.answer.specs.declared.Answer.the-variants as answer
@@ -20,6 +19,7 @@ use Rattle.kinds.specs.Terms.{Terms, told}
 use Rattle.record.specs.Values.{decodedRecord}
 use Rattle.file.specs.declared.File.{File}
 use Rattle.file.specs.declared.Figures.{Figures}
+use Rattle.file.specs.Forms.{bodyOf, hasLineEnd, fitsLength, endAnswer}
 use Rattle.file.specs.Files.{mostPayments, mostCentavos, freshFile, noFile, fileAnswer, fileWith, figuresAnswer}
 use Rattle.board.specs.declared.Lane.{Lane}
 use Rattle.board.specs.declared.Board.{Board}
@@ -48,9 +48,9 @@ closedAt b = record { shown = b; work = b; opened = false; file = noFile }
 abbrev pub freshSession : Session
 freshSession = closedAt freshBoard
 
--- a file just opened by a header of this version, and this board shown: the working board starts from it
-abbrev pub openedAt : Board → ℕ → Session
-openedAt b version = record { shown = b; work = b; opened = true; file = freshFile version }
+-- a file just opened by a header of this version and form, and this board shown: the working board starts from it
+abbrev pub openedAt : Board → ℕ → Bool → Session
+openedAt b version lined = record { shown = b; work = b; opened = true; file = freshFile version lined }
 
 -- what the session knows of the records to come: the version of its open file
 abbrev pub sessionTerms : Session → Terms
@@ -89,39 +89,46 @@ sessionAnswer s (decoded.Payment p) = payAnswer s (laneOfPayment p)
 sessionAnswer s (decoded.Trailer t) = figuresAnswer (s .file) (figuresIn t)
 sessionAnswer s (decoded.Refused why place) = answer.Refused why place
 
--- the session with an accepted record: payments of an open file are shown together when its Z is accepted
-abbrev pub sessionWith : Session → Decoded → Session
-sessionWith s (decoded.Header h) = openedAt (s .shown) (h .version)
-sessionWith s (decoded.Payment p) = sessionWithPayment s (laneOfPayment p)
-sessionWith s (decoded.Trailer t) = closedAt (s .work)
-sessionWith s (decoded.Refused why place) = s
+-- the session with an accepted record, where CR and LF follow it or not: a header's decide the form of its file, and
+-- payments of an open file are shown together when its Z is accepted
+abbrev pub sessionWith : Session → Bool → Decoded → Session
+sessionWith s lined (decoded.Header h) = openedAt (s .shown) (h .version) lined
+sessionWith s lined (decoded.Payment p) = sessionWithPayment s (laneOfPayment p)
+sessionWith s lined (decoded.Trailer t) = closedAt (s .work)
+sessionWith s lined (decoded.Refused why place) = s
 
 -- an answer, and the new session if it is accepted, else the old one
 abbrev pub takeResult : Answer → Session → Session → TakeResult
 takeResult a new old = record { answer = a; session = ifAccepted a new old }
 
--- the results of the parts of `take`
-abbrev pub postingResult : Session → Lane → File → TakeResult
-postingResult s p file = takeResult (postAnswer (s .work) p) (sessionWithPosted s p file) s
+-- the results of the parts of `take`, each with the answer to what follows the record behind its own
+abbrev pub postingResult : Session → Lane → File → Answer → TakeResult
+postingResult s p file ending = takeResult (postAnswer (s .work) p then ending) (sessionWithPosted s p file) s
 
-abbrev pub paymentResult : Session → Lane → TakeResult
-paymentResult s p = takeResult (payAnswer s p) (sessionWithPayment s p) s
+abbrev pub paymentResult : Session → Lane → Answer → TakeResult
+paymentResult s p ending = takeResult (payAnswer s p then ending) (sessionWithPayment s p) s
 
-abbrev pub trailerResult : Session → Figures → TakeResult
-trailerResult s shown = takeResult (figuresAnswer (s .file) shown) (closedAt (s .work)) s
+abbrev pub trailerResult : Session → Figures → Answer → TakeResult
+trailerResult s shown ending = takeResult (figuresAnswer (s .file) shown then ending) (closedAt (s .work)) s
 
-abbrev pub recordResult : Session → Decoded → TakeResult
-recordResult s d = takeResult (sessionAnswer s d) (sessionWith s d) s
+abbrev pub recordResult : Session → Bool → Answer → Decoded → TakeResult
+recordResult s lined ending d = takeResult (sessionAnswer s d then ending) (sessionWith s lined d) s
 
--- taking a record: 1, 9, then its own refusals, under the version of the open file, and the session's
+-- taking a record: 1; then, of its first 150 bytes, 9, its own refusals, under the version of the open file, and the
+-- session's; last 22
 abbrev pub takeAnswer : Session → List ℕ → Answer
 takeAnswer s rec =
-    require (eqb (length rec) recordLength) WrongLength 0
+    require (fitsLength (s .opened) (s .file .lined) rec) WrongLength 0
     then require (sessionExpects (s .opened) (namedBy (getD rec 0 0))) NotExpected 1
-    then sessionAnswer s (decodedRecord (sessionTerms s) rec)
+    then sessionAnswer s (decodedRecord (sessionTerms s) (bodyOf rec))
+    then endAnswer (s .opened) (s .file .lined) rec
+
+-- the session with a record, if it is accepted
+abbrev pub nextSession : Session → List ℕ → Session
+nextSession s rec = sessionWith s (hasLineEnd rec) (decodedRecord (sessionTerms s) (bodyOf rec))
 
 abbrev pub takeOf : Session → List ℕ → TakeResult
-takeOf s rec = takeResult (takeAnswer s rec) (sessionWith s (decodedRecord (sessionTerms s) rec)) s
+takeOf s rec = takeResult (takeAnswer s rec) (nextSession s rec) s
 
 -- abandoning drops an open file and does nothing otherwise
 abbrev pub abandonOf : Session → Session

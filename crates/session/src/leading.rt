@@ -1,20 +1,21 @@
 // The fast path of a run: the accepted payments at the front of a slice, posted in place on one copy of the working
 // board. It mirrors what `Session::take` (taking.rt) does with an accepted payment: the kind is expected,
-// `record::decode`, `File::take`, `Board::post`. Everything else, refused payments included, is left to
-// `Session::take`: no refusal is made here.
+// `record::decode`, `File::take`, `Board::post`, `check_end`. Everything else, refused payments included, is left to
+// `Session::take`: no refusal is made here, so the order of these checks does not matter.
 // What must change together: if `take` checks one more thing of a payment, so does `next_payment`; if a payment changes
 // one more member of the session, so does the loop, and `run` (running.rt) takes it over from `LeadingPayments`.
 // The proof that ties them is proofs/Payments.antt: by `payment-taken` and `payment-leaves`, a payment posted here is
-// accepted by `takeAnswer` and leaves the session that `take` leaves, `sessionWith`.
+// accepted by `takeAnswer` and leaves the session that `take` leaves, `nextSession`.
 // What is slow and so avoided: a board by value is 2 KB, and each call that takes one copies it. So the loop itself
 // reads and stores lanes, and the board's functions get numbers and one lane (board: src/searching.rt, `Slot::post`).
 ghost use mathlib.Core.Path.{_≡_};
 ghost use Prim.Native.Nat.{_≤_};
+ghost use lib.ListN.{length};
 ghost use Rattle.board.specs.Lanes.{laneOfOne};
 ghost use Rattle.board.specs.Boards.{slotResultOf};
 ghost use Rattle.session.specs.LeadingPayments.{NextPaymentOf, LeadingPaymentsOf};
 use crate::Session;
-use crate::pieces;
+use crate::ends;
 use answer::Answer;
 use barcode::Issuer;
 use board::Board;
@@ -68,22 +69,27 @@ fn payment_lane(issuer: Issuer, received: u64) -> Lane
     }
 }
 
-// The next payment, if the file is open, its record is accepted and the file takes it.
-fn next_payment(opened: bool, done: Progress, bytes: &[u8]) -> MaybePayment
-    requires { ⌜ done .records ≤ done .at ⌝ }
-    ensures { λ r. ⌜ NextPaymentOf opened done (now (bytes .entry)) r ⌝ }
+// The next payment, if the file is open, its record is there whole and accepted, and the file takes it.
+fn next_payment(opened: bool, more: bool, done: Progress, bytes: &[u8]) -> MaybePayment
+    requires { ⌜ (done .records ≤ done .at) × (done .at ≤ length (now bytes)) ⌝ }
+    ensures { λ r. ⌜ NextPaymentOf opened more done (now (bytes .entry)) r ⌝ }
 {
     let at = done.at;
+    let file = done.file;
     if !opened {
         return MaybePayment::Other;
     }
-    if bytes.len() <= at {
+    if bytes.len() - at < ends::record_needs(file.lined, more) {
         return MaybePayment::Other;
     }
-    let end = pieces::piece_end(at, bytes.len());
-    let file = done.file;
-    let PaymentDue::To(issuer, received) = record::accepted_payment(&bytes[at..end], file.version)
-    else {
+    let end = at + file::record_length(file.lined);
+    let Answer::Accepted = ends::check_end(true, file.lined, &bytes[at..end]) else {
+        return MaybePayment::Other;
+    };
+    let PaymentDue::To(issuer, received) = record::accepted_payment(
+        &bytes[at..at + layout::LENGTH],
+        file.version,
+    ) else {
         return MaybePayment::Other;
     };
     let taken = file.take(received);
@@ -116,15 +122,16 @@ fn post_at(at: usize, lane: Lane, used: usize, total: Tally, payment: Lane) -> S
 
 impl Session {
     // Takes the accepted payments at the front, up to the first record of any other kind, or refused, or not expected.
-    pub(crate) fn take_leading_payments(self, bytes: &[u8]) -> LeadingPayments
-        ensures { λ r. ⌜ LeadingPaymentsOf self (now (bytes .entry)) r ⌝ }
+    pub(crate) fn take_leading_payments(self, bytes: &[u8], more: bool) -> LeadingPayments
+        ensures { λ r. ⌜ LeadingPaymentsOf self more (now (bytes .entry)) r ⌝ }
     {
         let mut work = self.work;
         let mut progress = no_progress(self.file);
         // Where each issuer's lane was found last. No payment moves a lane, so an index once found stays right.
         let mut cache = [0u8; board::CACHE_LENGTH];
         loop {
-            let MaybePayment::Is(payment, next) = next_payment(self.opened, progress, bytes) else {
+            let MaybePayment::Is(payment, next) = next_payment(self.opened, more, progress, bytes)
+            else {
                 break;
             };
             let entry = board::cache_index(payment.issuer);

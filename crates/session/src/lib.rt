@@ -1,6 +1,6 @@
 // A session takes the records of return files one after the other (SPEC.md, "Sessions").
+mod ends;
 mod leading;
-mod pieces;
 mod running;
 mod taking;
 
@@ -11,8 +11,8 @@ use board::Board;
 use file::File;
 
 // The board shown has the payments of accepted files only. While a file is open, the working board has its payments
-// too, and `file` their number, their sum and the version that the header names; otherwise the working board equals the
-// board shown and `file` is all zeros.
+// too, and `file` their number, their sum, the version that the header names and whether CR and LF follow each record;
+// otherwise the working board equals the board shown, and `file` is all zeros and not lined.
 #[repr(C)]
 pub struct Session {
     pub shown: Board,
@@ -27,13 +27,14 @@ pub struct TakeResult {
     pub session: Session,
 }
 
-// The answer of a run, the first refusal, and how many records were accepted and files closed before it. The session is
-// the one after those records.
+// The answer of a run, the first refusal, and how many records were accepted and files closed before it, and how many
+// bytes those records had, CR and LF included. The session is the one after those records.
 pub struct RunResult {
     pub answer: Answer,
     pub session: Session,
     pub records: u64,
     pub files: u64,
+    pub bytes: usize,
 }
 
 // The limits of a session: the lanes of its board, the bytes of a record, the most payments and the most centavos of a

@@ -4,7 +4,7 @@ ghost use Prim.Native.Nat.{_≤_};
 ghost use Rattle.session.specs.Runs.{filesClosed, runOf};
 use crate::RunResult;
 use crate::Session;
-use crate::pieces;
+use crate::ends;
 use answer::Answer;
 use layout::MaybeRecord;
 use layout::Record;
@@ -25,10 +25,13 @@ fn files_closed(named: MaybeRecord) -> u64
 }
 
 impl Session {
-    // Takes records one after the other, each 150 bytes, up to the first refusal or the end; a short last piece is a
-    // record of wrong length. The same as one `take` each, but faster (leading.rt). No bytes: accepted, no records.
-    pub fn run(self, bytes: &[u8]) -> RunResult
-        ensures { λ r. ⌜ r ≡ runOf self (now (bytes .entry)) ⌝ }
+    // Takes records one after the other, up to the first refusal or the end: each 150 bytes, and 152 in a lined file,
+    // which a header opens that CR and LF follow. If `more` bytes are to follow, it takes nothing once fewer than 152
+    // are left: hand what is left, at the front of what follows, to the next run. Else the last piece may be shorter,
+    // and is refused as `take` refuses it. The same as one `take` each, but faster (leading.rt). No bytes: accepted, no
+    // records.
+    pub fn run(self, bytes: &[u8], more: bool) -> RunResult
+        ensures { λ r. ⌜ r ≡ runOf self more (now (bytes .entry)) ⌝ }
     {
         let mut session = self;
         let mut answer = Answer::Accepted;
@@ -36,17 +39,17 @@ impl Session {
         let mut files: u64 = 0;
         let mut at: usize = 0;
         loop {
-            let paid = session.take_leading_payments(&bytes[at..]);
+            let paid = session.take_leading_payments(&bytes[at..], more);
             let work = paid.work;
             let file = paid.progress.file;
             session.work = work;
             session.file = file;
             records += paid.progress.records;
             at += paid.progress.at;
-            if bytes.len() <= at {
+            if bytes.len() - at < ends::least_left(more) {
                 break;
             }
-            let end = pieces::piece_end(at, bytes.len());
+            let end = at + ends::piece_length(session.opened, session.file.lined, &bytes[at..]);
             let took = session.take(&bytes[at..end]);
             answer = took.answer;
             let Answer::Accepted = answer else {
@@ -62,6 +65,7 @@ impl Session {
             session,
             records,
             files,
+            bytes: at,
         }
     }
 }

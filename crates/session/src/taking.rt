@@ -3,9 +3,11 @@ ghost use mathlib.Core.Path.{_≡_};
 ghost use Rattle.record.specs.Values.{decodedRecord};
 ghost use Rattle.board.specs.Lanes.{laneOfOne};
 ghost use Rattle.session.specs.Sessions.{freshSession, openedAt, sessionTerms, sessionExpects, paymentResult};
-ghost use Rattle.session.specs.Sessions.{postingResult, trailerResult, recordResult, takeOf, abandonOf, finishOf};
+ghost use Rattle.session.specs.Sessions.{takeResult, postingResult, trailerResult, recordResult, takeOf};
+ghost use Rattle.session.specs.Sessions.{abandonOf, finishOf};
 use crate::Session;
 use crate::TakeResult;
+use crate::ends;
 use answer::Answer;
 use answer::Reason;
 use barcode::Issuer;
@@ -39,27 +41,14 @@ impl Session {
             shown: Board::new(),
             work: Board::new(),
             opened: false,
-            file: File::new(0),
+            file: File::new(0, false),
         }
     }
 
-    // The session with a file just opened, whose header names this version: its working board starts from the board
-    // shown.
-    fn with_file_open(self, version: u64) -> Session
-        ensures { λ r. ⌜ r ≡ openedAt (self .shown) version ⌝ }
-    {
-        let shown = self.shown;
-        Session {
-            shown,
-            work: shown,
-            opened: true,
-            file: File::new(version),
-        }
-    }
-
-    // Takes a payment into the open file and onto the working board: 15, 16, 17, 18, or the session with it.
-    fn take_payment(self, issuer: Issuer, received: u64) -> TakeResult
-        ensures { λ r. ⌜ r ≡ paymentResult self (laneOfOne issuer received) ⌝ }
+    // Takes a payment into the open file and onto the working board: 15, 16, 17, 18, the answer to what follows the
+    // record, or the session with it.
+    fn take_payment(self, issuer: Issuer, received: u64, ending: Answer) -> TakeResult
+        ensures { λ r. ⌜ r ≡ paymentResult self (laneOfOne issuer received) ending ⌝ }
     {
         let file = self.file;
         let taken = file.take(received);
@@ -69,17 +58,19 @@ impl Session {
                 answer: a,
                 session: self,
             },
-            Answer::Accepted => self.post_payment(issuer, received, taken.file),
+            Answer::Accepted => self.post_payment(issuer, received, taken.file, ending),
         }
     }
 
-    // Posts a payment to the working board: 17, 18, or the session with it and with `file`, the file that took it.
-    fn post_payment(self, issuer: Issuer, received: u64, file: File) -> TakeResult
-        ensures { λ r. ⌜ r ≡ postingResult self (laneOfOne issuer received) file ⌝ }
+    // Posts a payment to the working board: 17, 18, the answer to what follows the record, or the session with it and
+    // with `file`, the file that took it.
+    fn post_payment(self, issuer: Issuer, received: u64, file: File, ending: Answer) -> TakeResult
+        ensures { λ r. ⌜ r ≡ postingResult self (laneOfOne issuer received) file ending ⌝ }
     {
         let work = self.work;
         let posted = work.post(issuer, received);
-        let a = posted.answer;
+        let posting = posted.answer;
+        let a = answer::first_refusal(posting, ending);
         match a {
             Answer::Refused(_, _) => TakeResult {
                 answer: a,
@@ -101,12 +92,13 @@ impl Session {
         }
     }
 
-    // Closes the open file if its trailer shows these figures: 13, 14, or the session that shows the file's payments.
-    fn take_trailer(self, shown: Figures) -> TakeResult
-        ensures { λ r. ⌜ r ≡ trailerResult self shown ⌝ }
+    // Closes the open file if its trailer shows these figures: 13, 14, the answer to what follows the record, or the
+    // session that shows the file's payments.
+    fn take_trailer(self, shown: Figures, ending: Answer) -> TakeResult
+        ensures { λ r. ⌜ r ≡ trailerResult self shown ending ⌝ }
     {
         let file = self.file;
-        let a = file.check_trailer(shown);
+        let a = answer::first_refusal(file.check_trailer(shown), ending);
         match a {
             Answer::Refused(_, _) => TakeResult {
                 answer: a,
@@ -120,40 +112,68 @@ impl Session {
                         shown: work,
                         work,
                         opened: false,
-                        file: File::new(0),
+                        file: File::new(0, false),
                     },
                 }
             }
         }
     }
 
-    // Takes a record of the right length whose kind is expected: its own refusal, or what the session makes of it.
-    fn take_expected(self, rec: &[u8]) -> TakeResult
-        ensures { λ r. ⌜ r ≡ recordResult self (decodedRecord (sessionTerms self) (now (rec .entry))) ⌝ }
+    // Opens a file with an accepted header, unless what follows it is refused. From `take` it never is: 22 is given in
+    // an open file alone, where no header is expected.
+    fn take_header(self, version: u64, lined: bool, ending: Answer) -> TakeResult
+        ensures { λ r. ⌜ r ≡ takeResult ending (openedAt (self .shown) version lined) self ⌝ }
+    {
+        match ending {
+            Answer::Refused(_, _) => TakeResult {
+                answer: ending,
+                session: self,
+            },
+            Answer::Accepted => {
+                let shown = self.shown;
+                TakeResult {
+                    answer: ending,
+                    session: Session {
+                        shown,
+                        work: shown,
+                        opened: true,
+                        file: File::new(version, lined),
+                    },
+                }
+            }
+        }
+    }
+
+    // Takes the 150 bytes of a record whose kind is expected, which CR and LF follow or not, and the answer to that:
+    // its own refusal, or what the session makes of it.
+    fn take_expected(self, rec: &[u8], lined: bool, ending: Answer) -> TakeResult
+        ensures { λ r. ⌜ r ≡ recordResult self lined ending (decodedRecord (sessionTerms self) (now (rec .entry))) ⌝ }
     {
         match record::decode(rec, self.file.version) {
             Decoded::Refused(why, place) => TakeResult {
                 answer: Answer::Refused(why, place),
                 session: self,
             },
-            Decoded::Header(h) => TakeResult {
-                answer: Answer::Accepted,
-                session: self.with_file_open(h.version),
-            },
-            Decoded::Payment(p) => self.take_payment(p.barcode.issuer, p.received),
-            Decoded::Trailer(t) => self.take_trailer(Figures {
-                count: t.count,
-                total: t.total,
-            }),
+            Decoded::Header(h) => self.take_header(h.version, lined, ending),
+            Decoded::Payment(p) => self.take_payment(p.barcode.issuer, p.received, ending),
+            Decoded::Trailer(t) => self.take_trailer(
+                Figures {
+                    count: t.count,
+                    total: t.total,
+                },
+                ending,
+            ),
         }
     }
 
-    // Takes one record of any bytes and any length: the session with it, or the first refusal (1, 9, the record's own,
-    // then 13 to 18) and the session as it was. For many records use `run`: it copies no board for a payment.
+    // Takes one record of any bytes and any length, with CR and LF behind it in a lined file: the session with it, or
+    // the first refusal (1, 9, the record's own, then 13 to 18, then 22) and the session as it was. For many records
+    // use `run`: it copies no board for a payment.
     pub fn take(self, rec: &[u8]) -> TakeResult
         ensures { λ r. ⌜ r ≡ takeOf self (now (rec .entry)) ⌝ }
     {
-        if rec.len() != Self::RECORD {
+        let lined = self.file.lined;
+        if !ends::fits_length(self.opened, lined, rec) {
             return TakeResult {
                 answer: Answer::Refused(Reason::WrongLength, 0),
                 session: self,
@@ -165,7 +185,8 @@ impl Session {
                 session: self,
             };
         }
-        self.take_expected(rec)
+        let ending = ends::check_end(self.opened, lined, rec);
+        self.take_expected(&rec[..Self::RECORD], file::has_line_end(rec), ending)
     }
 
     // The session without its open file: the board shown stays, and a header is expected. With no file open, the very
@@ -179,7 +200,7 @@ impl Session {
                 shown,
                 work: shown,
                 opened: false,
-                file: File::new(0),
+                file: File::new(0, false),
             };
         }
         self

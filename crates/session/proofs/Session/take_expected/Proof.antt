@@ -14,8 +14,8 @@ enum-known-why c = search needs
 enum-known-h : tie.Need-enum-known-h
 enum-known-h c = search needs
 
-with-file-open-requires : tie.Need-with-file-open-requires
-with-file-open-requires c κs = search needs
+take-header-requires : tie.Need-take-header-requires
+take-header-requires c κs = search needs
 
 enum-known-p : tie.Need-enum-known-p
 enum-known-p c = search needs
@@ -30,16 +30,24 @@ take-trailer-requires : tie.Need-take-trailer-requires
 take-trailer-requires c κs = search needs
 
 returns : tie.Need-returns
-returns c = decoded-as (c .before .before .before .before .before .args .self) (c .before .before .before .before .before .args .rec .now) (c .before .before .before .decode .ensures) (c .before .why .given .1) refl
+returns c =
+    let a = c .before .before .before .before .before .args in
+    decoded-as (a .self) (a .lined) (a .ending) (a .rec .now) (c .before .before .before .decode .ensures) (c .before .why .given .1) refl
 
 returns-2 : tie.Need-returns-2
-returns-2 c = decoded-as (c .before .before .before .before .before .before .args .self) (c .before .before .before .before .before .before .args .rec .now) (c .before .before .before .before .decode .ensures) (c .before .before .h .given .1) (rw (c .with-file-open .ensures))
+returns-2 c =
+    let a = c .before .before .before .before .before .before .args in
+    decoded-as (a .self) (a .lined) (a .ending) (a .rec .now) (c .before .before .before .before .decode .ensures) (c .before .before .h .given .1) (c .take-header .ensures)
 
 returns-3 : tie.Need-returns-3
-returns-3 c = decoded-as (c .before .before .before .before .before .before .args .self) (c .before .before .before .before .before .before .args .rec .now) (c .before .before .before .before .decode .ensures) (c .before .before .p .given .1) (c .take-payment .ensures)
+returns-3 c =
+    let a = c .before .before .before .before .before .before .args in
+    decoded-as (a .self) (a .lined) (a .ending) (a .rec .now) (c .before .before .before .before .decode .ensures) (c .before .before .p .given .1) (c .take-payment .ensures)
 
 returns-4 : tie.Need-returns-4
-returns-4 c = decoded-as (c .before .before .before .before .before .before .args .self) (c .before .before .before .before .before .before .args .rec .now) (c .before .before .before .before .decode .ensures) (c .before .before .t .given .1) (c .take-trailer .ensures)
+returns-4 c =
+    let a = c .before .before .before .before .before .before .args in
+    decoded-as (a .self) (a .lined) (a .ending) (a .rec .now) (c .before .before .before .before .decode .ensures) (c .before .before .t .given .1) (c .take-trailer .ensures)
 
 pub take-expected-spec : {M : Type 1} → statement M
 take-expected-spec =
@@ -48,7 +56,7 @@ take-expected-spec =
     decode-requires
     enum-known-why
     enum-known-h
-    with-file-open-requires
+    take-header-requires
     enum-known-p
     take-payment-requires
     enum-known-t

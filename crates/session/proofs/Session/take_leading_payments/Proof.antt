@@ -11,6 +11,7 @@ use Rattle.board.specs.Lanes.{mostLanes}
 use Rattle.board.specs.Searches.{cacheLength}
 use Rattle.board.proofs.Searches.{Searched, search-on, search-hits, search-ends}
 use Rattle.board.proofs.Caches.{Caches, zeros-cache, cached-starts, caches-on}
+use Rattle.session.proofs.Lengths.{some-bytes}
 use Rattle.session.proofs.Payments.{next-told, one-more}
 use Rattle.session.proofs.Runs.{counts-none}
 use Rattle.session.specs.Runs.{runOf}
@@ -19,18 +20,18 @@ use Rattle.session.proofs.Session.take_leading_payments.Statement.{stat
 use Rattle.session.proofs.Session.take_leading_payments.Tie as tie
 
 abbrev Inv-loop2 : tie.InvT-loop2
-Inv-loop2 self bytes work progress cache payment next entry guess range at₀ at = Searched work (payment .issuer) (range .to) at
+Inv-loop2 self bytes more work progress cache payment next entry guess range at₀ at = Searched work (payment .issuer) (range .to) at
 
 abbrev μ-loop2 : tie.MeasureT-loop2
-μ-loop2 self bytes work progress cache payment next entry guess range at₀ at = range .to - at
+μ-loop2 self bytes more work progress cache payment next entry guess range at₀ at = range .to - at
 
 abbrev Inv-loop : tie.InvT-loop
-Inv-loop self bytes work₀ progress₀ cache₀ work progress cache =
+Inv-loop self bytes more work₀ progress₀ cache₀ work progress cache =
     (length (work .lanes) ≡ mostLanes) × (length cache ≡ cacheLength) × Caches work cache
-    × LeadingPaymentsOf self bytes (record { work = work; progress = progress })
+    × LeadingPaymentsOf self more bytes (record { work = work; progress = progress })
 
 abbrev μ-loop : tie.MeasureT-loop
-μ-loop self bytes work₀ progress₀ cache₀ work progress cache = length bytes - progress .at
+μ-loop self bytes more work₀ progress₀ cache₀ work progress cache = length bytes - progress .at
 
 no-progress-requires : tie.Need-no-progress-requires Inv-loop2 μ-loop2 Inv-loop μ-loop
 no-progress-requires c κs = search needs
@@ -41,11 +42,11 @@ loop-holds c =
       sym (length-map (a .self .work .lanes) _) ∙ c .before .before .before .good .0 .1 .1 .1 .0 .1 .1 .0 .1 .0 .1,
       refl,
       zeros-cache (a .self .work) cacheLength,
-      rw (c .no-progress .ensures) (record { within = omega arith; few = omega arith; rest = counts-none (runOf (a .self) (a .bytes .now)) }),
+      rw (c .no-progress .ensures) (record { within = omega arith; few = omega arith; rest = counts-none (runOf (a .self) (a .more) (a .bytes .now)) }),
     )
 
 next-payment-requires : tie.Need-next-payment-requires Inv-loop2 μ-loop2 Inv-loop μ-loop
-next-payment-requires c κs = c .loop .inv .3 .few
+next-payment-requires c κs = let inv = c .loop .inv .3 in (inv .few, inv .within)
 
 enum-known-payment : tie.Need-enum-known-payment Inv-loop2 μ-loop2 Inv-loop μ-loop
 enum-known-payment c = search needs
@@ -131,7 +132,7 @@ loop-less : tie.Need-loop-less Inv-loop2 μ-loop2 Inv-loop μ-loop
 loop-less c =
     let read = c .before .before .before .before .before .before .before .before .before .before .before .before .before .before .before in
     let took = next-told (read .before .before .next-payment .ensures) (read .payment .given .1) in
-    omega (arith, took .inside, took .ends)
+    omega (arith, took .inside, took .ends, some-bytes (read .before .before .before .loop .progress .file .lined))
 
 loop-again : tie.Need-loop-again Inv-loop2 μ-loop2 Inv-loop μ-loop
 loop-again c =
@@ -155,7 +156,7 @@ loop-again c =
       length-set (o .work .lanes) (l .at) _ ∙ o .inv .0,
       length-set (o .cache) (entry .result) (l .at) ∙ o .inv .1,
       caches-on (o .work) (o .inv .0) p (l .at) found (left .if3 .left) posted accepted (o .cache) (entry .result) (omega (arith, entry .ensures, o .inv .1)) (o .inv .2),
-      one-more (a .self) (a .bytes .now) (record { work = o .work; progress = o .progress }) (o .inv .3) took found posted accepted,
+      one-more (a .self) (a .more) (a .bytes .now) (record { work = o .work; progress = o .progress }) (o .inv .3) took found posted accepted,
     )
 
 returns : tie.Need-returns Inv-loop2 μ-loop2 Inv-loop μ-loop

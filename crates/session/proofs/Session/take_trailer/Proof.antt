@@ -1,11 +1,17 @@
 -- `session::Session::take_trailer` meets its contract. Assumes nothing.
+use mathlib.Core.Path.{ap, _∙_}
 use borrow.Author.Needs.{needs}
+use Rattle.answer.specs.declared.Answer.{Answer}
+use Rattle.answer.specs.Orders.{_then_}
 use Rattle.session.proofs.Steps.{took-refused, took-next}
 use Rattle.session.proofs.Session.take_trailer.Statement.{statement}
 use Rattle.session.proofs.Session.take_trailer.Tie as tie
 
 check-trailer-requires : tie.Need-check-trailer-requires
 check-trailer-requires c κs = search needs
+
+first-refusal-requires : tie.Need-first-refusal-requires
+first-refusal-requires c κs = search needs
 
 enum-told : tie.Need-enum-told
 enum-told c = search needs
@@ -17,11 +23,20 @@ new-requires : tie.Need-new-requires
 new-requires c κs = search needs
 
 returns : tie.Need-returns
-returns c = took-refused _ _ (c .before .before .check-trailer .ensures) (c .enum-told .given .1)
+returns c =
+    let chosen = c .before .before in
+    let checked = chosen .before in
+    let ending = checked .before .before .args .ending in
+    took-refused _ _ (chosen .first-refusal .ensures ∙ ap (λ (a : Answer). a then ending) (checked .check-trailer .ensures)) (c .enum-told .given .1)
 
 returns-2 : tie.Need-returns-2
-returns-2 c = took-next (c .before .before .before .before .before .before .args .self) (c .before .before .before .before .check-trailer .ensures) (c .before .before .enum-told2 .given .1) (rw (c .new .ensures))
+returns-2 c =
+    let chosen = c .before .before .before .before in
+    let checked = chosen .before in
+    let a = checked .before .before .args in
+    took-next (a .self) (chosen .first-refusal .ensures ∙ ap (λ (x : Answer). x then a .ending) (checked .check-trailer .ensures)) (c .before .before .enum-told2 .given .1) (rw (c .new .ensures))
 
 pub take-trailer-spec : {M : Type 1} → statement M
 take-trailer-spec =
-    tie.close (tie.spec check-trailer-requires enum-told enum-told-2 new-requires returns returns-2)
+    tie.close
+    (tie.spec check-trailer-requires first-refusal-requires enum-told enum-told-2 new-requires returns returns-2)
