@@ -1,11 +1,11 @@
 -- A session and the ledger agree at first and after every step, so their answers are equal. Assumes nothing.
 use Prim.Native.Nat.{ℕ, _+_}
-use mathlib.Core.Bool.{true, not, false≢true}
+use mathlib.Core.Bool.{Bool, true, false, not, false≢true}
 use mathlib.Core.List.{List, [], _∷_, _++_, append-assoc, append-nil}
 use mathlib.Core.Option.{Option, none, some}
 use mathlib.Core.Path.{_≡_, refl, sym, ap, ap₂, _∙_}
 use native.Mathlib.Omega.{arith}
-use lib.Dec.{eqb, ltb, leb}
+use lib.Dec.{ltb, leb}
 use lib.ListN.{length, getD, length-append}
 use Rattle.answer.specs.Refusals.{receivedPlace}
 use Rattle.answer.specs.declared.Reason.the-variants.{WrongLength, NotExpected, FileFull, FileTotalPassed}
@@ -18,10 +18,12 @@ use Rattle.answer.proofs.Tests.{split}
 use Rattle.layout.specs.declared.MaybeRecord.{MaybeRecord}
 use Rattle.layout.specs.declared.MaybeRecord.the-variants.{Is, Other}
 use Rattle.layout.specs.declared.Record.the-variants.{Header, Payment, Trailer}
-use Rattle.layout.specs.Layouts.{recordLength, namedBy}
+use Rattle.layout.specs.Layouts.{namedBy}
 use Rattle.record.specs.Records.{recordAnswer}
 use Rattle.record.specs.Values.{versionIn, paymentShown, trailerShown, recordShown, shownUnlessRefused, decodedRecord}
 use Rattle.file.specs.Files.{mostPayments, mostCentavos, freshFile, fileAnswer, figuresAnswer}
+use Rattle.file.specs.Forms.{bodyOf, hasLineEnd, fitsLength, endAnswer}
+use Rattle.file.proofs.Forms.{first-in}
 use Rattle.board.specs.declared.Board.{Board}
 use Rattle.board.specs.Lanes.{placed, lanesFrom}
 use Rattle.board.specs.Boards.{lanesOf, postAnswer, SoundBoard}
@@ -29,9 +31,9 @@ use Rattle.board.proofs.Lanes.{one-payment-more}
 use Rattle.board.proofs.Posting.{fit, with-sound, post-places, stays-sound}
 use Rattle.board.proofs.Boards.{answers-as-payments}
 use Rattle.session.specs.declared.Session.{Session}
-use Rattle.session.specs.Sessions.{freshSession, openedAt, closedAt, sessionTerms, sessionExpects, figuresIn, payAnswer, sessionWithPayment, sessionAnswer, sessionWith, takeAnswer, takeOf, abandonOf}
-use Rattle.ledger.specs.Ledgers.{Opened, Filed, Ledger, freshLedger, paymentRecords, openRecords, laneOfRecord, lanesOfRecords, receivedIn, limitsAnswer, ledgerExpects, ledgerTerms, filedWith, paymentStateAnswer, trailerStateAnswer, stateAnswer, ledgerAnswer, withRecord, Step, taking, abandoning, ledgerStep, ledgerAfter, ledgerAnswers}
-use Rattle.ledger.specs.Promises.{sessionStep, sessionAfter, answersOf, isOpen, allRecords, Agrees, SessionAgrees, AnswersAreTheLedgers, NextAnswerIsTheLedgers}
+use Rattle.session.specs.Sessions.{freshSession, openedAt, closedAt, sessionTerms, sessionExpects, figuresIn, payAnswer, sessionWithPayment, sessionAnswer, sessionWith, takeAnswer, nextSession, takeOf, abandonOf}
+use Rattle.ledger.specs.Ledgers.{Opened, Filed, Ledger, freshLedger, paymentRecords, openRecords, laneOfRecord, lanesOfRecords, receivedIn, limitsAnswer, isOpen, isOpenLined, ledgerExpects, ledgerTerms, filedWith, paymentStateAnswer, trailerStateAnswer, stateAnswer, ledgerAnswer, withRecord, nextLedger, Step, taking, abandoning, ledgerStep, ledgerAfter, ledgerAnswers}
+use Rattle.ledger.specs.Promises.{sessionStep, sessionAfter, answersOf, allRecords, Agrees, SessionAgrees, AnswersAreTheLedgers, NextAnswerIsTheLedgers}
 use Rattle.ledger.proofs.Records.{lanes-joined, limits-are-the-boards}
 
 -- The answers.
@@ -71,11 +73,22 @@ module _ (s : Session) (files : List Filed) (rec : List ℕ) where
   record-answer (some f) (Is Trailer) (Refused why p) h = rw (h .opened)
   record-answer (some f) Other a h = refl
 
+-- a record with its end
 pub answer-agrees : (s : Session) (k : Ledger) (rec : List ℕ) → Agrees s k → takeAnswer s rec ≡ ledgerAnswer k rec
 answer-agrees s k rec h =
-    ap (λ (a : Answer). require (eqb (length rec) recordLength) WrongLength 0 then a)
-    (record-answer s (k .accepted) rec (k .opened) (namedBy (getD rec 0 0)) (recordAnswer (sessionTerms s) rec) h
-    ∙ rw (h .terms))
+    let n = namedBy (getD rec 0 0) in
+    let body = bodyOf rec in
+    let own = recordAnswer (ledgerTerms (k .opened)) body in
+    let state = stateAnswer (k .accepted) (k .opened) n body in
+    let ending = endAnswer (s .opened) (s .file .lined) rec in
+    let shown = sessionAnswer s (shownUnlessRefused own (recordShown n body)) in
+    let expects = require (sessionExpects (s .opened) n) NotExpected 1 in
+    let met = require (ledgerExpects (k .opened) n) NotExpected 1 in
+    let same : expects then (shown then ending) ≡ met then (own then (state then ending)) =
+    sym (then-groups expects shown ending) ∙ ap (λ (a : Answer). a then ending) (record-answer s (k .accepted) body (k .opened) n own h)
+    ∙ then-groups met (own then state) ending ∙ ap (λ (a : Answer). met then a) (then-groups own state ending) in
+    rw (first-in rec, h .terms, ← h .opened, ← h .lined)
+    (ap (λ (a : Answer). require (fitsLength (s .opened) (s .file .lined) rec) WrongLength 0 then a) same)
 
 -- The records of a ledger, one more at the end.
 
@@ -96,7 +109,7 @@ received-joined (r ∷ recs) rec = omega (arith, received-joined recs rec)
 -- both boards are those of the accepted files
 at-rest : (b : Board) (files : List Filed) (o : Option Opened)
     → lanesOf b ≡ lanesFrom (lanesOfRecords (paymentRecords files)) → SoundBoard b → openRecords o ≡ []
-    → Agrees (record { shown = b; work = b; opened = isOpen o; file = freshFile (ledgerTerms o .version) }) (record { accepted = files; opened = o })
+    → Agrees (record { shown = b; work = b; opened = isOpen o; file = freshFile (ledgerTerms o .version) (isOpenLined o) }) (record { accepted = files; opened = o })
 at-rest b files o e sound none-yet =
     record {
       opened = refl;
@@ -105,28 +118,30 @@ at-rest b files o e sound none-yet =
       taken = rw none-yet;
       total = rw none-yet;
       terms = refl;
+      lined = refl;
       soundShown = sound;
       soundWork = sound;
     }
 
-module _ (s : Session) (files : List Filed) (rec : List ℕ) where
+module _ (s : Session) (files : List Filed) (ended : Bool) (rec : List ℕ) where
   opens : (o : Option Opened) → Agrees s (record { accepted = files; opened = o })
-      → Agrees (openedAt (s .shown) (versionIn rec)) (withRecord files none (Is Header) rec)
-  opens o h = at-rest (s .shown) files (some (record { header = rec; payments = [] })) (h .shown) (h .soundShown) refl
+      → Agrees (openedAt (s .shown) (versionIn rec) ended) (withRecord files none (Is Header) ended rec)
+  opens o h =
+      at-rest (s .shown) files (some (record { header = rec; payments = []; lined = ended })) (h .shown) (h .soundShown) refl
 
   drops : (o : Option Opened) → Agrees s (record { accepted = files; opened = o })
       → Agrees (closedAt (s .shown)) (record { accepted = files; opened = none })
   drops o h = at-rest (s .shown) files none (h .shown) (h .soundShown) refl
 
   module _ (f : Opened) (h : Agrees s (record { accepted = files; opened = some f })) where
-    closes : Agrees (closedAt (s .work)) (withRecord files (some f) (Is Trailer) rec)
+    closes : Agrees (closedAt (s .work)) (withRecord files (some f) (Is Trailer) ended rec)
     closes = at-rest (s .work) (files ++ (filedWith f rec ∷ [])) none (rw (records-joined files (filedWith f rec)) (h .work)) (h .soundWork) refl
 
-    more : allRecords (withRecord files (some f) (Is Payment) rec) ≡ (paymentRecords files ++ f .payments) ++ (rec ∷ [])
+    more : allRecords (withRecord files (some f) (Is Payment) ended rec) ≡ (paymentRecords files ++ f .payments) ++ (rec ∷ [])
     more = sym (append-assoc (paymentRecords files) (f .payments) (rec ∷ []))
 
     pays : payAnswer s (laneOfRecord rec) ≡ Accepted
-        → Agrees (sessionWithPayment s (laneOfRecord rec)) (withRecord files (some f) (Is Payment) rec)
+        → Agrees (sessionWithPayment s (laneOfRecord rec)) (withRecord files (some f) (Is Payment) ended rec)
     pays e =
         let before = paymentRecords files ++ f .payments in
         let posted =
@@ -144,6 +159,7 @@ module _ (s : Session) (files : List Filed) (rec : List ℕ) where
           taken = omega (arith, h .taken, length-append (f .payments) (rec ∷ []));
           total = omega (arith, h .total, received-joined (f .payments) rec);
           terms = h .terms;
+          lined = h .lined;
           soundShown = h .soundShown;
           soundWork =
               with-sound (s .work) (laneOfRecord rec) (h .soundWork) (fit (s .work) (laneOfRecord rec) .0 posted);
@@ -152,7 +168,7 @@ module _ (s : Session) (files : List Filed) (rec : List ℕ) where
   followed : (o : Option Opened) (n : MaybeRecord) (a : Answer) → Agrees s (record { accepted = files; opened = o })
       → sessionExpects (s .opened) n ≡ true
       → sessionAnswer s (shownUnlessRefused a (recordShown n rec)) ≡ Accepted
-      → Agrees (sessionWith s (shownUnlessRefused a (recordShown n rec))) (withRecord files o n rec)
+      → Agrees (sessionWith s ended (shownUnlessRefused a (recordShown n rec))) (withRecord files o n ended rec)
   followed o n (Refused why p) h x e = not-both _ refl e
   followed o Other Accepted h x e = absurd (false≢true x)
   followed none (Is Header) Accepted h x e = opens none h
@@ -175,16 +191,21 @@ pub take-agrees : (s : Session) (k : Ledger) (rec : List ℕ) → Agrees s k
 take-agrees s k rec h = rw (← answer-agrees s k rec h) (go (takeAnswer s rec) refl)
   where
     go : (a : Answer) → takeAnswer s rec ≡ a
-        → Agrees (ifAccepted a (sessionWith s (decodedRecord (sessionTerms s) rec)) s) (ifAccepted a (withRecord (k .accepted) (k .opened) (namedBy (getD rec 0 0)) rec) k)
+        → Agrees (ifAccepted a (nextSession s rec) s) (ifAccepted a (nextLedger k rec) k)
     go (Refused why p) e = h
     go Accepted e =
-        let own = passed (eqb (length rec) recordLength) WrongLength 0 e .1 in
-        let met = passed (sessionExpects (s .opened) (namedBy (getD rec 0 0))) NotExpected 1 own in
-        followed s (k .accepted) rec (k .opened) (namedBy (getD rec 0 0)) (recordAnswer (sessionTerms s) rec) h (met .0) (met .1)
+        let n = namedBy (getD rec 0 0) in
+        let own = recordAnswer (sessionTerms s) (bodyOf rec) in
+        let fits = passed (fitsLength (s .opened) (s .file .lined) rec) WrongLength 0 e .1 in
+        let met = passed (sessionExpects (s .opened) n) NotExpected 1 fits in
+        let accepts =
+        then-accepts (sessionAnswer s (decodedRecord (sessionTerms s) (bodyOf rec))) (endAnswer (s .opened) (s .file .lined) rec) .0 (met .1) .0 in
+        rw (first-in rec)
+        (followed s (k .accepted) (hasLineEnd rec) (bodyOf rec) (k .opened) n own h (met .0) (rw (first-in rec) at accepts))
 
 step-agrees : (s : Session) (k : Ledger) (step : Step) → Agrees s k → Agrees (sessionStep s step) (ledgerStep k step)
 step-agrees s k (taking rec) h = take-agrees s k rec h
-step-agrees s k abandoning h = abandoned s (k .accepted) [] (k .opened) h
+step-agrees s k abandoning h = abandoned s (k .accepted) false [] (k .opened) h
 
 -- Any list of steps.
 
@@ -203,7 +224,7 @@ answers-agree (abandoning ∷ steps) s k h =
 
 pub fresh-agrees : Agrees freshSession freshLedger
 fresh-agrees =
-    record { opened = refl; shown = refl; work = refl; taken = refl; total = refl; terms = refl; soundShown = stays-sound .0; soundWork = stays-sound .0 }
+    record { opened = refl; shown = refl; work = refl; taken = refl; total = refl; terms = refl; lined = refl; soundShown = stays-sound .0; soundWork = stays-sound .0 }
 
 pub session-agrees : SessionAgrees
 session-agrees steps = steps-agree steps freshSession freshLedger fresh-agrees

@@ -12,14 +12,15 @@ use Rattle.answer.specs.Orders.{require, _then_, ifAccepted}
 use Rattle.answer.proofs.Orders.{not-both}
 use Rattle.session.specs.declared.Session.{Session}
 use Rattle.session.specs.Sessions.{freshSession}
-use Rattle.session.specs.Runs.{piecesOf, runAll}
+use Rattle.session.specs.Runs.{runAll, bytesOf}
+use Rattle.session.proofs.Feeding.{run-size}
 use Rattle.ledger.specs.Ledgers.{Ledger, freshLedger, ledgerAnswer, Step, taking, abandoning, ledgerStep, ledgerAfter, ledgerAnswers}
 use Rattle.ledger.specs.Promises.{sessionStep, sessionAfter, Agrees}
 use Rattle.ledger.specs.WholeFiles.{AllAccepted}
-use Rattle.ledger.specs.Runs.{nextLedgerAnswer}
-use Rattle.ledger.specs.Calls.{Call, stepping, running, finishing, Reply, answered, sessionCall, sessionReply, sessionAfterCalls, sessionReplies, recordsTaken, runAnswer, stepsOfCall, ledgerCall, ledgerReply, ledgerAfterCalls, ledgerReplies, stepsOfCalls, CallsAgree, RepliesAreTheLedgers, CallsAreSteps}
+use Rattle.ledger.specs.Runs.{ledgerPieces, nextLedgerAnswer}
+use Rattle.ledger.specs.Calls.{Call, stepping, running, finishing, Reply, answered, ran, sessionCall, sessionReply, sessionAfterCalls, sessionReplies, recordsTaken, runAnswer, stepsOfCall, ledgerCall, ledgerReply, ledgerAfterCalls, ledgerReplies, stepsOfCalls, CallsAgree, RepliesAreTheLedgers, CallsAreSteps}
 use Rattle.ledger.proofs.Agreement.{answer-agrees, steps-agree, fresh-agrees}
-use Rattle.ledger.proofs.Runs.{run-on}
+use Rattle.ledger.proofs.Runs.{run-on, same-pieces}
 
 -- n records that the ledger accepts, where the next is refused or there is none, are those that a run takes
 same-records : (n : ℕ) (recs : List (List ℕ)) (k : Ledger) (a : Answer)
@@ -58,17 +59,20 @@ module _ (s : Session) (k : Ledger) (h : Agrees s k) where
       × (runAll s recs .answer ≡ runAnswer k recs) × (runAll s recs .records ≡ length (recordsTaken k recs))
       × (runAll s recs .files
       ≡ length (ledgerAfter k (map taking (recordsTaken k recs)) .accepted) - length (k .accepted))
+      × (runAll s recs .bytes ≡ length (bytesOf (recordsTaken k recs)))
   run-agrees recs =
       let r = runAll s recs in
       let t = run-on recs s k h in
       let q = same-records (r .records) recs k (r .answer) (t .accepted) (t .answer) (t .whole) in
       let grown =
       t .files ∙ ap (λ (l : List (List ℕ)). length (ledgerAfter k (map taking l) .accepted)) (q .0) in
-      (t .session ∙ ap (λ (l : List (List ℕ)). sessionAfter s (map taking l)) (q .0), q .1, q .2, omega (arith, grown))
+      let size = sym (run-size recs s) ∙ ap (λ (l : List (List ℕ)). length (bytesOf l)) (q .0) in
+      (t .session ∙ ap (λ (l : List (List ℕ)). sessionAfter s (map taking l)) (q .0), q .1, q .2, omega (arith, grown), size)
 
   call-steps : (call : Call) → sessionCall s call ≡ sessionAfter s (stepsOfCall k call)
   call-steps (stepping step) = refl
-  call-steps (running bytes) = run-agrees (piecesOf bytes) .0
+  call-steps (running more bytes) =
+      ap (λ (ps : List (List ℕ)). runAll s ps .session) (same-pieces s k more bytes h) ∙ run-agrees (ledgerPieces k more bytes) .0
   call-steps finishing = refl
 
   call-agrees : (call : Call) → Agrees (sessionCall s call) (ledgerCall k call)
@@ -79,9 +83,10 @@ module _ (s : Session) (k : Ledger) (h : Agrees s k) where
   reply-agrees : (call : Call) → sessionReply s call ≡ ledgerReply k call
   reply-agrees (stepping (taking rec)) = ap answered (answer-agrees s k rec h)
   reply-agrees (stepping abandoning) = refl
-  reply-agrees (running bytes) =
-      let t = run-agrees (piecesOf bytes) in
-      rw (t .1, t .2, t .3)
+  reply-agrees (running more bytes) =
+      let t = run-agrees (ledgerPieces k more bytes) in
+      ap (λ (ps : List (List ℕ)). ran (runAll s ps .answer) (runAll s ps .records) (runAll s ps .files) (runAll s ps .bytes)) (same-pieces s k more bytes h)
+      ∙ rw (t .1, t .2, t .3, t .4)
   reply-agrees finishing = ap (λ (t : Bool). answered (require (not t) FileOpen 0)) (h .opened)
 
 -- Any calls.

@@ -1,40 +1,108 @@
--- A run over the bytes of a file whose records are all accepted. Assumes nothing.
-use Prim.Native.Nat.{ℕ, suc, _+_, _<_}
-use mathlib.Core.List.{List, [], _∷_, _++_, map, map-append}
-use mathlib.Core.Path.{_≡_, refl, sym, ap, ap₂, _∙_, subst}
+-- A run over the bytes of a file, lined or bare, whose records are all accepted. Assumes nothing.
+use Prim.Native.Nat.{ℕ, suc, _+_, _≤_}
+use mathlib.Core.Bool.{Bool, true, false, _&&_}
+use mathlib.Core.List.{List, [], _∷_, _++_, map, append-nil}
+use mathlib.Core.Path.{_≡_, refl, sym, ap, ap₂, _∙_}
 use native.Mathlib.Omega.{arith}
-use lib.ListN.{length, getD, length-append}
-use lib.Seq.{take-at, drop-at}
+use borrow.Author.Tests.{ne-eqb}
+use lib.Dec.{eqb}
+use lib.ListN.{length, getD, take, drop, length-append, length-take, length-map}
+use lib.Seq.{take-at, drop-at, getD-take, getD-append-add}
 use Rattle.answer.specs.declared.Answer.{Answer}
-use Rattle.answer.specs.declared.Answer.the-variants.{Accepted}
-use Rattle.answer.specs.Orders.{Each}
+use Rattle.answer.specs.declared.Answer.the-variants.{Accepted, Refused}
+use Rattle.answer.specs.Orders.{ifAccepted, Each}
 use Rattle.answer.proofs.Orders.{accepted-takes}
+use Rattle.answer.proofs.Tests.{unequal}
+use Rattle.layout.specs.declared.MaybeRecord.the-variants.{Is, Other}
 use Rattle.layout.specs.declared.Record.{Record}
-use Rattle.layout.specs.declared.Record.the-variants.{Payment, Trailer}
+use Rattle.layout.specs.declared.Record.the-variants.{Header, Payment, Trailer}
 use Rattle.layout.specs.Layouts.{recordLength, namedBy}
 use Rattle.kinds.specs.Terms.{Terms}
 use Rattle.record.specs.Values.{decodedRecord}
 use Rattle.record.proofs.Shown.{accepted-is}
+use Rattle.file.specs.Forms.{endOf, inForm, linedLength, lengthOf, hasLineEnd, formOf}
+use Rattle.file.proofs.Forms.{length-in, ended-in, not-ended}
 use Rattle.board.specs.Boards.{boardWithAll}
 use Rattle.session.specs.declared.Session.{Session}
 use Rattle.session.specs.declared.RunResult.{RunResult}
-use Rattle.session.specs.Sessions.{closedAt, sessionTerms, sessionWith, takeAnswer, takeOf}
-use Rattle.session.specs.Runs.{piecesOf, filesClosed, addCounts, stoppedIfRefused, runAll}
+use Rattle.session.specs.Sessions.{closedAt, sessionTerms, takeAnswer, nextSession, takeOf}
+use Rattle.session.specs.Runs.{pieceLength, pieceOf, piecesOf, filesClosed, addCounts, stoppedIfRefused, runAll, bytesOf}
 use Rattle.session.proofs.Runs.{pieces-cons}
-use Rattle.ledger.specs.Ledgers.{lanesOfRecords, headerTerms, Step, taking}
+use Rattle.ledger.specs.Ledgers.{lanesOfRecords, headerTerms, taking}
 use Rattle.ledger.specs.Promises.{sessionAfter, answersOf}
-use Rattle.ledger.specs.WholeFiles.{IsRight, fileOf, AllAccepted}
-use Rattle.ledger.specs.Runs.{recordsOf, bytesOf, PiecesAreTheRecords, FileBytesRun}
-use Rattle.ledger.proofs.WholeFiles.{file-posted}
+use Rattle.ledger.specs.WholeFiles.{IsRight, recordsOf, allInForm, AllAccepted}
+use Rattle.ledger.specs.Runs.{PiecesAreTheRecords, FileBytesRun}
+use Rattle.ledger.proofs.WholeFiles.{first-of, file-posted}
+use Rattle.ledger.proofs.Forms.{next-in, keeps-form}
+
+-- The pieces.
+
+-- without CR behind it a record is not ended
+no-cr : (bytes : List ℕ) → (getD bytes recordLength 0 ≡ 13 → ⊥) → hasLineEnd bytes ≡ false
+unfolding hasLineEnd
+no-cr bytes h = rw (ne-eqb (getD bytes recordLength 0) 13 h) (neither (eqb (length bytes) linedLength))
+  where
+    neither : (t : Bool) → (t && false) ≡ false
+    neither true = refl
+    neither false = refl
+
+-- a record of 150 bytes, which does not begin with 13 if it is bare
+abbrev Joins : Bool → List ℕ → Type 0
+Joins lined rec = (length rec ≡ recordLength) × (lined ≡ false → getD rec 0 0 ≡ 13 → ⊥)
+
+-- what follows a record among others of its form
+ahead : (lined : Bool) (rec : List ℕ) (recs : List (List ℕ)) → length rec ≡ recordLength → Each (Joins lined) recs
+    → hasLineEnd (take linedLength (inForm lined rec ++ bytesOf (allInForm lined recs))) ≡ lined
+ahead true rec recs n h =
+    ap hasLineEnd (take-at (inForm true rec) (bytesOf (allInForm true recs)) linedLength (length-in rec n true)) ∙ ended-in rec n true
+ahead false rec [] n h =
+    let bytes = inForm false rec ++ [] in
+    let l : length bytes ≡ recordLength = ap length (append-nil (inForm false rec)) ∙ length-in rec n false in
+    not-ended (take linedLength bytes) (λ e. omega (arith, e, length-take linedLength bytes, l))
+ahead false rec (next ∷ recs) n h =
+    let rest = inForm false next ++ bytesOf (allInForm false recs) in
+    let bytes = inForm false rec ++ rest in
+    let at : getD (take linedLength bytes) recordLength 0 ≡ getD next 0 0 =
+    getD-take linedLength bytes recordLength 0 (omega arith)
+    ∙ ap (λ (k : ℕ). getD bytes k 0) (sym (omega (arith, length-in rec n false)))
+    ∙ getD-append-add (inForm false rec) rest 0 0
+    ∙ first-joined next (bytesOf (allInForm false recs)) (h .0 .0) in
+    no-cr (take linedLength bytes) (λ e. h .0 .1 refl (sym at ∙ e))
+  where
+    first-joined : (rec rest : List ℕ) → length rec ≡ recordLength → getD (inForm false rec ++ rest) 0 0 ≡ getD rec 0 0
+    first-joined [] rest n = absurd (omega arith)
+    first-joined (b ∷ rec) rest n = refl
 
 pub pieces-are-the-records : PiecesAreTheRecords
-pieces-are-the-records [] h = refl
-pieces-are-the-records (rec ∷ recs) h =
-    let rest = bytesOf recs in
-    let some-bytes : 0 < length (rec ++ rest) = omega (arith, length-append rec rest, h .0) in
-    pieces-cons (rec ++ rest) some-bytes
-    ∙ ap₂ (λ (r : List ℕ) (rs : List (List ℕ)). r ∷ rs) (take-at rec rest recordLength (h .0))
-    (ap piecesOf (drop-at rec rest recordLength (h .0)) ∙ pieces-are-the-records recs (h .1))
+pieces-are-the-records s lined [] form h = refl
+pieces-are-the-records s lined (rec ∷ recs) form h =
+    let rest = bytesOf (allInForm lined recs) in
+    let bytes = inForm lined rec ++ rest in
+    let n = h .0 .0 in
+    let own : length (inForm lined rec) ≡ lengthOf lined = length-in rec n lined in
+    let size : pieceLength s bytes ≡ lengthOf lined =
+    ap lengthOf (piece-form (s .opened) refl) in
+    let piece : pieceOf s bytes ≡ inForm lined rec =
+    ap (λ (k : ℕ). take k bytes) size ∙ take-at (inForm lined rec) rest (lengthOf lined) own in
+    let left : drop (pieceLength s bytes) bytes ≡ rest =
+    ap (λ (k : ℕ). drop k bytes) size ∙ drop-at (inForm lined rec) rest (lengthOf lined) own in
+    let enough : 1 ≤ length bytes = omega (arith, length-append (inForm lined rec) rest, length-append rec (endOf lined), n) in
+    pieces-cons s false bytes enough
+    ∙ ap₂ (λ (r l : List ℕ). r ∷ piecesOf (takeOf s r .session) false l) piece left
+    ∙ ap (λ (rs : List (List ℕ)). inForm lined rec ∷ rs)
+    (pieces-are-the-records (takeOf s (inForm lined rec) .session) lined recs (keeps (takeAnswer s (inForm lined rec))) (h .1))
+  where
+    piece-form : (t : Bool) → s .opened ≡ t → formOf (s .opened) (s .file .lined) (take linedLength (inForm lined rec ++ bytesOf (allInForm lined recs))) ≡ lined
+    piece-form true e = rw e (form e)
+    piece-form false e = rw e (ahead lined rec recs (h .0 .0) (h .1))
+
+    keeps : (a : Answer) → ifAccepted a (nextSession s (inForm lined rec)) s .opened ≡ true
+        → ifAccepted a (nextSession s (inForm lined rec)) s .file .lined ≡ lined
+    keeps (Refused why p) e = form e
+    keeps Accepted e =
+        let d = decodedRecord (sessionTerms s) rec in
+        let next = next-in s lined rec (h .0 .0) (λ x. sym (form x)) in
+        rw next (sym (keeps-form s lined d (λ x. sym (form x)) (rw next at e)))
 
 -- Records that are all accepted.
 
@@ -42,53 +110,69 @@ abbrev closedIn : List (List ℕ) → ℕ
 closedIn [] = 0
 closedIn (rec ∷ recs) = filesClosed (namedBy (getD rec 0 0)) + closedIn recs
 
-abbrev taken : Session → ℕ → ℕ → RunResult
-taken s records files = record { answer = Accepted; session = s; records = records; files = files }
+abbrev taken : Session → ℕ → ℕ → ℕ → RunResult
+taken s records files bytes = record { answer = Accepted; session = s; records = records; files = files; bytes = bytes }
 
 run-accepted : (recs : List (List ℕ)) (s : Session) → AllAccepted (answersOf s (map taking recs))
-    → runAll s recs ≡ taken (sessionAfter s (map taking recs)) (length recs) (closedIn recs)
+    → runAll s recs ≡ taken (sessionAfter s (map taking recs)) (length recs) (closedIn recs) (length (bytesOf recs))
 run-accepted [] s h = refl
 run-accepted (rec ∷ recs) s h =
     let c = filesClosed (namedBy (getD rec 0 0)) in
-    let next : takeOf s rec .session ≡ sessionWith s (decodedRecord (sessionTerms s) rec) =
-    accepted-takes (takeAnswer s rec) (sessionWith s (decodedRecord (sessionTerms s) rec)) s (h .0) in
+    let after = sessionAfter (takeOf s rec .session) (map taking recs) in
+    let next : takeOf s rec .session ≡ nextSession s rec = accepted-takes (takeAnswer s rec) (nextSession s rec) s (h .0) in
     let one : 1 + length recs ≡ suc (length recs) = omega arith in
-    ap (λ (a : Answer). stoppedIfRefused a s (addCounts 1 c (runAll (sessionWith s (decodedRecord (sessionTerms s) rec)) recs))) (h .0)
-    ∙ ap (λ (x : Session). addCounts 1 c (runAll x recs)) (sym next)
-    ∙ ap (addCounts 1 c) (run-accepted recs (takeOf s rec .session) (h .1))
-    ∙ ap (λ (n : ℕ). taken (sessionAfter (takeOf s rec .session) (map taking recs)) n (c + closedIn recs)) one
+    ap (λ (a : Answer). stoppedIfRefused a s (addCounts 1 c (length rec) (runAll (nextSession s rec) recs))) (h .0)
+    ∙ ap (λ (x : Session). addCounts 1 c (length rec) (runAll x recs)) (sym next)
+    ∙ ap (addCounts 1 c (length rec)) (run-accepted recs (takeOf s rec .session) (h .1))
+    ∙ ap₂ (λ (n k : ℕ). taken after n (c + closedIn recs) k) one (sym (length-append rec (bytesOf recs)))
 
 -- A file's records.
-
-one-closed : (t : Terms) (recs : List (List ℕ)) (z : List ℕ) → Each (IsRight t Payment) recs → IsRight t Trailer z
-    → closedIn (recs ++ (z ∷ [])) ≡ 1
-one-closed t [] z h right = rw (right .1)
-one-closed t (rec ∷ recs) z h right = rw (h .0 .1) (omega (arith, one-closed t recs z (h .1) right))
 
 long : (t : Terms) (r : Record) (rec : List ℕ) → IsRight t r rec → length rec ≡ recordLength
 long t r rec h = accepted-is t rec (h .0) .0
 
-all-long : (t : Terms) (recs : List (List ℕ)) (z : List ℕ) → Each (IsRight t Payment) recs → IsRight t Trailer z
-    → Each (λ (rec : List ℕ). length rec ≡ recordLength) (recs ++ (z ∷ []))
-all-long t [] z h right = (long t Trailer z right, tt)
-all-long t (rec ∷ recs) z h right = (long t Payment rec (h .0), all-long t recs z (h .1) right)
+-- they do not begin with 13
+named-no-cr : (r : Record) (b : ℕ) → namedBy b ≡ Is r → b ≡ 13 → ⊥
+unfolding namedBy
+named-no-cr r b h e =
+    let none : Other ≡ Is r = rw e at h in
+    let z : _≡_ {A = ℕ} 0 1 = cc in
+    omega arith
+
+joins : (lined : Bool) (t : Terms) (r : Record) (rec : List ℕ) → IsRight t r rec → Joins lined rec
+joins lined t r rec h = (long t r rec h, λ e. named-no-cr r (getD rec 0 0) (h .1))
+
+all-join : (lined : Bool) (t : Terms) (recs : List (List ℕ)) (z : List ℕ) → Each (IsRight t Payment) recs → IsRight t Trailer z
+    → Each (Joins lined) (recs ++ (z ∷ []))
+all-join lined t [] z h right = (joins lined t Trailer z right, tt)
+all-join lined t (rec ∷ recs) z h right = (joins lined t Payment rec (h .0), all-join lined t recs z (h .1) right)
+
+-- how many files a record closes, in either form
+closes : (lined : Bool) (t : Terms) (r : Record) (rec : List ℕ) → IsRight t r rec
+    → filesClosed (namedBy (getD (inForm lined rec) 0 0)) ≡ filesClosed (Is r)
+closes lined t r rec h = ap (λ (b : ℕ). filesClosed (namedBy b)) (first-of lined rec (long t r rec h)) ∙ ap filesClosed (h .1)
+
+one-closed : (lined : Bool) (t : Terms) (recs : List (List ℕ)) (z : List ℕ) → Each (IsRight t Payment) recs → IsRight t Trailer z
+    → closedIn (allInForm lined (recs ++ (z ∷ []))) ≡ 1
+one-closed lined t [] z h right = omega (arith, closes lined t Trailer z right)
+one-closed lined t (rec ∷ recs) z h right = omega (arith, closes lined t Payment rec (h .0), one-closed lined t recs z (h .1) right)
 
 pub file-bytes-run : FileBytesRun
-file-bytes-run s a recs z none-open whole e =
+file-bytes-run s lined a recs z none-open whole e =
     let t = headerTerms a in
-    let all = recordsOf a recs z in
-    let steps : map taking all ≡ fileOf a recs z =
-    ap (λ (l : List Step). taking a ∷ l) (map-append taking recs (z ∷ [])) in
+    let records = recordsOf a recs z in
+    let all = allInForm lined records in
     let pieces =
-    pieces-are-the-records all
-    (accepted-is t a (whole .header .0) .0, all-long t recs z (whole .payments) (whole .trailer)) in
-    let accepted =
-    subst (λ (l : List Step). AllAccepted (answersOf s l)) (sym steps) e in
+    pieces-are-the-records s lined records (λ x. unequal x none-open)
+    (joins lined t Header a (whole .header), all-join lined t recs z (whole .payments) (whole .trailer)) in
     let left : sessionAfter s (map taking all) ≡ closedAt (boardWithAll (s .shown) (lanesOfRecords recs)) =
-    ap (sessionAfter s) steps ∙ file-posted s a recs z none-open whole e in
-    let count : length all ≡ length recs + 2 = omega (arith, length-append recs (z ∷ [])) in
+    file-posted s lined a recs z none-open whole e in
+    let count : length all ≡ length recs + 2 = as-many lined records ∙ omega (arith, length-append recs (z ∷ [])) in
     let closed : closedIn all ≡ 1 =
-    rw (whole .header .1) (omega (arith, one-closed t recs z (whole .payments) (whole .trailer))) in
-    ap (runAll s) pieces ∙ run-accepted all s accepted
-    ∙ ap (λ (x : Session). taken x (length all) (closedIn all)) left
-    ∙ ap₂ (taken (closedAt (boardWithAll (s .shown) (lanesOfRecords recs)))) count closed
+    omega (arith, closes lined t Header a (whole .header), one-closed lined t recs z (whole .payments) (whole .trailer)) in
+    ap (runAll s) pieces ∙ run-accepted all s e
+    ∙ ap (λ (x : Session). taken x (length all) (closedIn all) (length (bytesOf all))) left
+    ∙ ap₂ (λ (n c : ℕ). taken (closedAt (boardWithAll (s .shown) (lanesOfRecords recs))) n c (length (bytesOf all))) count closed
+  where
+    as-many : (lined : Bool) (recs : List (List ℕ)) → length (allInForm lined recs) ≡ length recs
+    as-many lined recs = simp length-map

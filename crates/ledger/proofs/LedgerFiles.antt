@@ -1,33 +1,35 @@
--- Every accepted file of a ledger is whole: what holds of the open file, and of the accepted ones, is kept by each step.
--- Assumes nothing.
+-- Every accepted file of a ledger is whole: what holds of the open file, and of the accepted ones, is kept by each
+-- step. Assumes nothing.
 use Prim.Native.Nat.{ℕ, _+_, _≤_}
-use mathlib.Core.Bool.{true, false, false≢true}
+use mathlib.Core.Bool.{Bool, true, false, false≢true}
 use mathlib.Core.List.{List, [], _∷_, _++_}
 use mathlib.Core.Option.{Option, none, some}
 use mathlib.Core.Path.{_≡_, refl, sym, ap, _∙_}
 use native.Mathlib.Omega.{arith}
 use borrow.Author.Tests.{ltb-true, leb-true}
-use lib.Dec.{eqb, ltb, leb}
+use lib.Dec.{ltb, leb}
 use lib.ListN.{length, getD, length-append}
 use Rattle.answer.specs.Refusals.{receivedPlace}
 use Rattle.answer.specs.declared.Reason.the-variants.{WrongLength, NotExpected, FileFull, FileTotalPassed}
 use Rattle.answer.specs.declared.Answer.{Answer}
 use Rattle.answer.specs.declared.Answer.the-variants.{Accepted, Refused}
-use Rattle.answer.specs.Orders.{ifAccepted, Each}
+use Rattle.answer.specs.Orders.{_then_, ifAccepted, Each}
 use Rattle.answer.proofs.Orders.{then-accepts}
 use Rattle.answer.proofs.Steps.{passed}
 use Rattle.layout.specs.declared.MaybeRecord.{MaybeRecord}
 use Rattle.layout.specs.declared.MaybeRecord.the-variants.{Is, Other}
 use Rattle.layout.specs.declared.Record.the-variants.{Header, Payment, Trailer}
-use Rattle.layout.specs.Layouts.{recordLength, namedBy}
+use Rattle.layout.specs.Layouts.{namedBy}
 use Rattle.kinds.specs.Terms.{Terms, told, isVersion}
 use Rattle.record.specs.Records.{recordAnswer}
 use Rattle.record.specs.Values.{paymentShown}
 use Rattle.record.proofs.Shown.{headers-name-a-version}
 use Rattle.file.specs.declared.File.{File}
 use Rattle.file.specs.Files.{mostPayments, mostCentavos, noFile}
-use Rattle.ledger.specs.Ledgers.{Opened, Filed, Ledger, freshLedger, openRecords, receivedIn, ledgerExpects, headerTerms, ledgerTerms, stateAnswer, ledgerAnswer, filedWith, withRecord, Step, taking, abandoning, ledgerStep, ledgerAfter}
-use Rattle.ledger.specs.Promises.{reached, ledgerOf, isOpen, Agrees, OpenFilesHaveAVersion}
+use Rattle.file.specs.Forms.{bodyOf, hasLineEnd, fitsLength, endAnswer}
+use Rattle.file.proofs.Forms.{first-in}
+use Rattle.ledger.specs.Ledgers.{Opened, Filed, Ledger, freshLedger, openRecords, receivedIn, isOpen, isOpenLined, ledgerExpects, headerTerms, ledgerTerms, stateAnswer, ledgerAnswer, filedWith, withRecord, nextLedger, Step, taking, abandoning, ledgerStep, ledgerAfter}
+use Rattle.ledger.specs.Promises.{reached, ledgerOf, Agrees, OpenFilesHaveAVersion}
 use Rattle.ledger.specs.WholeFiles.{IsRight, SoundFile, LedgerFilesAreWhole}
 use Rattle.ledger.proofs.Agreement.{received-joined, session-agrees}
 use Rattle.ledger.proofs.Sessions.{figures-accept}
@@ -52,10 +54,10 @@ each-last : {A : Type 0} (P : A → Type 0) (xs : List A) (x : A) → Each P xs 
 each-last P [] x h p = (p, tt)
 each-last P (y ∷ xs) x h p = (h .0, each-last P xs x (h .1) p)
 
-module _ (files : List Filed) (rec : List ℕ) (all : Each SoundFile files) where
+module _ (files : List Filed) (ended : Bool) (rec : List ℕ) (all : Each SoundFile files) where
   with-payment : (f : Opened) → Right f → recordAnswer (headerTerms (f .header)) rec ≡ Accepted → namedBy (getD rec 0 0) ≡ Is Payment
       → stateAnswer files (some f) (Is Payment) rec ≡ Accepted
-      → Kept (withRecord files (some f) (Is Payment) rec)
+      → Kept (withRecord files (some f) (Is Payment) ended rec)
   with-payment f h own n e =
       let room = passed (ltb (length (f .payments)) mostPayments) FileFull 1 e in
       let less =
@@ -76,7 +78,7 @@ module _ (files : List Filed) (rec : List ℕ) (all : Each SoundFile files) wher
 
   with-trailer : (f : Opened) → Right f → recordAnswer (headerTerms (f .header)) rec ≡ Accepted → namedBy (getD rec 0 0) ≡ Is Trailer
       → stateAnswer files (some f) (Is Trailer) rec ≡ Accepted
-      → Kept (withRecord files (some f) (Is Trailer) rec)
+      → Kept (withRecord files (some f) (Is Trailer) ended rec)
   with-trailer f h own n e =
       record {
         files =
@@ -91,7 +93,7 @@ module _ (files : List Filed) (rec : List ℕ) (all : Each SoundFile files) wher
       }
 
   with-record : (o : Option Opened) (n : MaybeRecord) → recordAnswer (ledgerTerms o) rec ≡ Accepted → RightIfOpen o → namedBy (getD rec 0 0) ≡ n
-      → ledgerExpects o n ≡ true → stateAnswer files o n rec ≡ Accepted → Kept (withRecord files o n rec)
+      → ledgerExpects o n ≡ true → stateAnswer files o n rec ≡ Accepted → Kept (withRecord files o n ended rec)
   with-record none (Is Header) own h is x e =
       record {
         files = all;
@@ -110,14 +112,19 @@ keeps k abandoning h = record { files = h .files; opened = tt }
 keeps k (taking rec) h = go (ledgerAnswer k rec) refl
   where
     go : (a : Answer) → ledgerAnswer k rec ≡ a
-        → Kept (ifAccepted a (withRecord (k .accepted) (k .opened) (namedBy (getD rec 0 0)) rec) k)
+        → Kept (ifAccepted a (nextLedger k rec) k)
     go (Refused why p) e = h
     go Accepted e =
         let n = namedBy (getD rec 0 0) in
-        let long = passed (eqb (length rec) recordLength) WrongLength 0 e in
-        let met = passed (ledgerExpects (k .opened) n) NotExpected 1 (long .1) in
-        let own = then-accepts (recordAnswer (ledgerTerms (k .opened)) rec) (stateAnswer (k .accepted) (k .opened) n rec) .0 (met .1) in
-        with-record (k .accepted) rec (h .files) (k .opened) n (own .0) (h .opened) refl (met .0) (own .1)
+        let body = bodyOf rec in
+        let own = recordAnswer (ledgerTerms (k .opened)) body in
+        let state = stateAnswer (k .accepted) (k .opened) n body in
+        let ending = endAnswer (isOpen (k .opened)) (isOpenLined (k .opened)) rec in
+        let fits = passed (fitsLength (isOpen (k .opened)) (isOpenLined (k .opened)) rec) WrongLength 0 e in
+        let met = passed (ledgerExpects (k .opened) n) NotExpected 1 (fits .1) in
+        let two = then-accepts own (state then ending) .0 (met .1) in
+        with-record (k .accepted) (hasLineEnd rec) body (h .files) (k .opened) n (two .0) (h .opened) (ap namedBy (first-in rec)) (met .0)
+        (then-accepts state ending .0 (two .1) .0)
 
 all-keep : (k : Ledger) (steps : List Step) → Kept k → Kept (ledgerAfter k steps)
 all-keep k [] h = h
@@ -131,8 +138,8 @@ ledger-files-are-whole steps = all-keep freshLedger steps (record { files = tt; 
 pub open-files-have-a-version : OpenFilesHaveAVersion
 open-files-have-a-version steps = go (ledgerOf steps) (all-keep freshLedger steps (record { files = tt; opened = tt }) .opened) (session-agrees steps)
   where
-    file-is : {f : File} → f .taken ≡ 0 → f .total ≡ 0 → f .version ≡ 0 → f ≡ noFile
-    file-is e g h i = record { taken = e i; total = g i; version = h i }
+    file-is : {f : File} → f .taken ≡ 0 → f .total ≡ 0 → f .version ≡ 0 → f .lined ≡ false → f ≡ noFile
+    file-is e g h l i = record { taken = e i; total = g i; version = h i; lined = l i }
 
     by : (o : Option Opened) (k : Ledger) → k .opened ≡ o → RightIfOpen o → Agrees (reached steps) k
         → (reached steps .opened ≡ true → isVersion (reached steps .file .version) ≡ true)
@@ -142,7 +149,7 @@ open-files-have-a-version steps = go (ledgerOf steps) (all-keep freshLedger step
       λ t.
           file-is (h .taken ∙ ap (λ (x : Option Opened). length (openRecords x)) e)
           (h .total ∙ ap (λ (x : Option Opened). receivedIn (openRecords x)) e)
-          (ap (λ (x : Terms). x .version) (h .terms ∙ ap ledgerTerms e)),
+          (ap (λ (x : Terms). x .version) (h .terms ∙ ap ledgerTerms e)) (h .lined ∙ ap isOpenLined e),
     )
     by (some f) k e right h = (
       λ t.

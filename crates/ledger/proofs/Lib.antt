@@ -3,6 +3,8 @@ pub mod Agreement
 pub mod Shown
 pub mod Sessions
 pub mod WholeFiles
+pub mod AcceptedFiles
+pub mod Forms
 pub mod LedgerFiles
 pub mod Runs
 pub mod FileBytes

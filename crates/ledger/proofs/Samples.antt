@@ -10,10 +10,11 @@ use Rattle.kinds.specs.Terms.{termsAnswer}
 use Rattle.kinds.specs.Kinds.{isVersionText, isService, dateAnswer, isCapture, isForm, kindAnswer}
 use Rattle.record.specs.Records.{fieldAnswer, recordAnswer}
 use Rattle.file.specs.Files.{fileAnswer, figuresAnswer}
+use Rattle.file.specs.Forms.{hasLineEnd, fitsLength, endAnswer}
 use Rattle.board.specs.Lanes.{fits}
 use Rattle.board.specs.Boards.{ownOf, usedAfter, slotAnswer}
 use Rattle.ledger.specs.Samples.{samples, Hold}
 
 pub samples-hold : Hold samples
-unfolding recordAnswer termsAnswer fieldAnswer kindAnswer isVersionText isService dateAnswer isCapture isForm namedBy layoutOf table rowAt figuresAnswer fileAnswer fits ownOf usedAfter slotAnswer firstThreeAnswer generalRight termOf addedBy digitOfRemainder dateOf isDate daysIn isLeap digitsOf valueOf isOf
+unfolding recordAnswer termsAnswer fieldAnswer kindAnswer isVersionText isService dateAnswer isCapture isForm namedBy layoutOf table rowAt hasLineEnd fitsLength endAnswer figuresAnswer fileAnswer fits ownOf usedAfter slotAnswer firstThreeAnswer generalRight termOf addedBy digitOfRemainder dateOf isDate daysIn isLeap digitsOf valueOf isOf
 samples-hold = refl

@@ -13,20 +13,22 @@ use Rattle.answer.specs.declared.Reason.the-variants.{WrongLength, NotExpected,
 use Rattle.answer.specs.declared.Answer.{Answer}
 use Rattle.answer.specs.declared.Answer.the-variants.{Accepted, Refused}
 use Rattle.answer.specs.Refusals.{answerNumber, answerPlace}
-use Rattle.answer.specs.Orders.{require, ifAccepted}
+use Rattle.answer.specs.Orders.{require, _then_, ifAccepted}
 use Rattle.answer.proofs.Orders.{require-accepts, then-accepts, refusal-keeps}
 use Rattle.answer.proofs.Steps.{passed}
 use Rattle.layout.specs.declared.MaybeRecord.{MaybeRecord}
 use Rattle.layout.specs.declared.MaybeRecord.the-variants.{Is, Other}
 use Rattle.layout.specs.declared.Record.the-variants.{Header, Payment, Trailer}
-use Rattle.layout.specs.Layouts.{recordLength, namedBy}
+use Rattle.layout.specs.Layouts.{namedBy}
 use Rattle.record.specs.declared.Decoded.{Decoded}
 use Rattle.record.specs.Records.{recordAnswer}
-use Rattle.record.specs.Values.{trailerShown, recordShown, shownUnlessRefused, decodedRecord}
+use Rattle.record.specs.Values.{trailerShown, recordShown, shownUnlessRefused}
 use Rattle.record.proofs.Shown.{accepted-is, payments-need-a-version}
 use Rattle.file.specs.Files.{countPlace, totalPlace}
+use Rattle.file.specs.Forms.{bodyOf, hasLineEnd, fitsLength, endAnswer}
+use Rattle.file.proofs.Forms.{first-in, fits-body, fitting-is-in-form}
 use Rattle.session.specs.declared.Session.{Session}
-use Rattle.session.specs.Sessions.{closedAt, sessionTerms, sessionExpects, sessionAnswer, sessionWith, takeAnswer, takeOf, abandonOf}
+use Rattle.session.specs.Sessions.{closedAt, sessionTerms, sessionExpects, sessionAnswer, sessionWith, takeAnswer, nextSession, takeOf, abandonOf}
 use Rattle.ledger.specs.Ledgers.{headerTerms, Opened, Ledger, receivedIn, trailerStateAnswer, ledgerAnswer, taking, abandoning}
 use Rattle.ledger.specs.Promises.{ledgerOf, TrueTrailersOnly, RefusalKeepsSession, OnlyTrailersShow, TrailersShowAll, NothingShowsBefore, AbandonKeepsBoard, AbandonDropsFile, AbandonNothing, FinishKeepsSession, FinishAnswers, PaymentsTakenUnderAVersion}
 use Rattle.ledger.proofs.Agreement.{next-answer-is-the-ledgers}
@@ -47,30 +49,50 @@ figures-accept f rec =
       λ h. two .1 (one .1 (eq-eqb _ _ (h .0)), other .1 (eq-eqb _ _ (h .1))),
     )
 
--- of a Z with right fields only the figures are checked
-trailer-answer : (k : Ledger) (f : Opened) (rec : List ℕ) → k .opened ≡ some f → recordAnswer (headerTerms (f .header)) rec ≡ Accepted
+-- of a Z with right fields the figures are checked, and what follows it
+trailer-answer : (k : Ledger) (f : Opened) (rec : List ℕ) → k .opened ≡ some f → recordAnswer (headerTerms (f .header)) (bodyOf rec) ≡ Accepted
     → namedBy (getD rec 0 0) ≡ Is Trailer
-    → ledgerAnswer k rec ≡ trailerStateAnswer f rec
-trailer-answer k f rec o e n = rw (o, e, n, eq-eqb (length rec) recordLength (accepted-is (headerTerms (f .header)) rec e .0))
+    → ledgerAnswer k rec
+    ≡ require (fitsLength true (f .lined) rec) WrongLength 0 then trailerStateAnswer f (bodyOf rec) then endAnswer true (f .lined) rec
+trailer-answer k f rec o e n = rw (o, e, n)
 
 pub true-trailers-only : TrueTrailersOnly
 true-trailers-only steps f rec o e n =
-    rw (next-answer-is-the-ledgers steps rec, trailer-answer (ledgerOf steps) f rec o e n) (figures-accept f rec)
+    let body = bodyOf rec in
+    let fits = require (fitsLength true (f .lined) rec) WrongLength 0 in
+    let state = trailerStateAnswer f body in
+    let ending = endAnswer true (f .lined) rec in
+    let long = accepted-is (headerTerms (f .header)) body e .0 in
+    let form = fitting-is-in-form true (f .lined) rec in
+    let figures = figures-accept f body in
+    rw (next-answer-is-the-ledgers steps rec, trailer-answer (ledgerOf steps) f rec o e n) (
+      λ a.
+          let one = then-accepts fits (state then ending) .0 a in
+          let two = then-accepts state ending .0 (one .1) in
+          let shown = figures .0 (two .0) in
+          (shown .0, shown .1, form .0 (require-accepts (fitsLength true (f .lined) rec) WrongLength 0 .0 (one .0), two .1) .1),
+      λ h.
+          let both = form .1 (long, h .2) in
+          then-accepts fits (state then ending) .1
+          (require-accepts (fitsLength true (f .lined) rec) WrongLength 0 .1 (both .0), then-accepts state ending .1 (figures .1 (h .0, h .1), both .1)),
+    )
 
 -- Any session.
 
 pub refusal-keeps-session : RefusalKeepsSession
-refusal-keeps-session s rec h = refusal-keeps (takeAnswer s rec) (sessionWith s (decodedRecord (sessionTerms s) rec)) s h
+refusal-keeps-session s rec h = refusal-keeps (takeAnswer s rec) (nextSession s rec) s h
 
 pub payments-taken-under-a-version : PaymentsTakenUnderAVersion
-payments-taken-under-a-version s rec opened none n named =
-    let own = payments-need-a-version (sessionTerms s) rec n named none in
-    rw (eq-eqb (length rec) recordLength n, named, opened, own)
+payments-taken-under-a-version s rec opened none fits named =
+    let body = bodyOf rec in
+    let first : namedBy (getD body 0 0) ≡ Is Payment = ap namedBy (first-in rec) ∙ named in
+    let own = payments-need-a-version (sessionTerms s) body (fits-body true (s .file .lined) rec fits) first none in
+    rw (opened, fits, named, own)
 
 -- what a record leaves of the board shown
-module _ (s : Session) (rec : List ℕ) where
+module _ (s : Session) (ended : Bool) (rec : List ℕ) where
   stays : (n : MaybeRecord) (own a : Answer) → (n ≡ Is Trailer → ⊥)
-      → ifAccepted a (sessionWith s (shownUnlessRefused own (recordShown n rec))) s .shown ≡ s .shown
+      → ifAccepted a (sessionWith s ended (shownUnlessRefused own (recordShown n rec))) s .shown ≡ s .shown
   stays n own (Refused why p) h = refl
   stays n (Refused why p) Accepted h = refl
   stays (Is Header) Accepted Accepted h = refl
@@ -79,7 +101,9 @@ module _ (s : Session) (rec : List ℕ) where
   stays Other Accepted Accepted h = refl
 
 pub only-trailers-show : OnlyTrailersShow
-only-trailers-show s rec h = stays s rec (namedBy (getD rec 0 0)) (recordAnswer (sessionTerms s) rec) (takeAnswer s rec) h
+only-trailers-show s rec h =
+    let body = bodyOf rec in
+    stays s (hasLineEnd rec) body (namedBy (getD body 0 0)) (recordAnswer (sessionTerms s) body) (takeAnswer s rec) (λ e. h (ap namedBy (sym (first-in rec)) ∙ e))
 
 own-accepts : (s : Session) (a : Answer) (d : Decoded) → sessionAnswer s (shownUnlessRefused a d) ≡ Accepted
     → a ≡ Accepted
@@ -88,9 +112,13 @@ own-accepts s (Refused why p) d e = e
 
 pub trailers-show-all : TrailersShowAll
 trailers-show-all s rec n e =
-    let own = passed (eqb (length rec) recordLength) WrongLength 0 e .1 in
-    let met = passed (sessionExpects (s .opened) (namedBy (getD rec 0 0))) NotExpected 1 own .1 in
-    rw (e, own-accepts s (recordAnswer (sessionTerms s) rec) (recordShown (namedBy (getD rec 0 0)) rec) met, n)
+    let body = bodyOf rec in
+    let own = recordAnswer (sessionTerms s) body in
+    let fits = passed (fitsLength (s .opened) (s .file .lined) rec) WrongLength 0 e .1 in
+    let met = passed (sessionExpects (s .opened) (namedBy (getD rec 0 0))) NotExpected 1 fits .1 in
+    let shown = recordShown (namedBy (getD body 0 0)) body in
+    let accepts = then-accepts (sessionAnswer s (shownUnlessRefused own shown)) (endAnswer (s .opened) (s .file .lined) rec) .0 met .0 in
+    rw (e, own-accepts s own shown accepts, first-in rec, n)
 
 pub abandon-keeps-board : AbandonKeepsBoard
 abandon-keeps-board s = go (s .opened)

@@ -1,8 +1,8 @@
 -- A file that the writer closed is whole with true figures, so a fresh session accepts it. Assumes nothing.
 use Prim.Native.Nat.{ℕ, _+_, _≤_}
-use mathlib.Core.Bool.{false}
+use mathlib.Core.Bool.{Bool, false}
 use mathlib.Core.List.{List, [], _∷_, map}
-use mathlib.Core.Path.{_≡_, refl, sym, ap, subst, _∙_}
+use mathlib.Core.Path.{_≡_, refl, sym, ap, ap₂, subst, _∙_}
 use lib.ListN.{length, length-map}
 use Rattle.answer.specs.declared.Answer.the-variants.{Accepted}
 use Rattle.answer.specs.Orders.{_then_, Each}
@@ -14,24 +14,28 @@ use Rattle.layout.proofs.Layouts.{mark-names}
 use Rattle.kinds.specs.Terms.{Terms, told}
 use Rattle.record.specs.Values as values
 use Rattle.fields.specs.Making.{madeOf, makeAnswer}
+use Rattle.file.specs.Forms.{lengthOf}
 use Rattle.file.specs.declared.File.{File}
 use Rattle.file.specs.Files.{mostPayments, mostCentavos, freshFile, fileAnswer, fileAnswers, fileWith, fileWithAll, figuresOf, closingAnswer}
 use Rattle.file.proofs.Files.{fresh-file-takes, fresh-file-holds}
 use Rattle.writer.specs.declared.Stage.the-variants.{Open}
 use Rattle.writer.specs.declared.Writer.{Writer}
-use Rattle.writer.specs.Writers.{freshWriter, writerTerms, callAnswer, headerAnswer, headerBytes, paymentAnswer, paymentWritten, trailerAnswer, countBytes}
+use Rattle.writer.specs.Writers.{freshWriter, isLinedBuffer, writerTerms, callAnswer, headerAnswer, headerBytes, paymentAnswer, paymentWritten, trailerAnswer, countBytes}
+use Rattle.writer.proofs.Buffers.{form-of-length}
 use Rattle.writer.proofs.Written.{first-byte, written-is-accepted, fields-write-the-header, fields-write-the-payment}
 use Rattle.writer.proofs.Trailers.{fields-write-the-trailer}
 use Rattle.writer.proofs.Amounts.{written-amounts-are-read, trailer-shows-the-figures}
 use Rattle.board.specs.Boards.{lanesOf, postAnswers}
+use Rattle.board.specs.Lanes.{lanesFrom}
 use Rattle.board.proofs.Boards.{fresh-board-holds}
 use Rattle.session.specs.declared.RunResult.{RunResult}
 use Rattle.session.specs.declared.Session.{Session}
 use Rattle.session.specs.Sessions.{freshSession}
-use Rattle.ledger.specs.Promises.{answersOf}
-use Rattle.ledger.specs.Ledgers.{receivedIn, lanesOfRecords, headerTerms}
-use Rattle.ledger.specs.WholeFiles.{IsRight, Whole, fileOf, receivedEach, TrueFigures, AllAccepted}
-use Rattle.ledger.specs.WrittenFiles.{GivenPayment, recordOf, writtenRecords, writerAfterPayments, PaymentsWritten, openedBy, Closed, trailerAfter, givenBy, ClosedFileIsWhole, ClosedFileIsAccepted, ClosedFileBytesRun, FieldsWriteTheFile}
+use Rattle.session.specs.Runs.{runOf, bytesOf}
+use Rattle.ledger.specs.Promises.{answersOf, shownLanes}
+use Rattle.ledger.specs.Ledgers.{Step, receivedIn, lanesOfRecords, headerTerms}
+use Rattle.ledger.specs.WholeFiles.{IsRight, Whole, recordsOf, allInForm, fileOf, receivedEach, TrueFigures, AllAccepted}
+use Rattle.ledger.specs.WrittenFiles.{GivenPayment, recordOf, writtenRecords, writerAfterPayments, PaymentsWritten, openedBy, Closed, trailerAfter, writtenFile, writtenBytes, givenBy, FewIssuers, ClosedFileIsWhole, ClosedFileIsAccepted, ClosedFileBytesRun, FieldsWriteTheFile}
 use Rattle.ledger.proofs.WholeFiles.{right-under-any-terms, received-each, file-accepted, fresh-session-accepts, fresh-session-shows}
 use Rattle.ledger.proofs.FileBytes.{file-bytes-run}
 
@@ -56,16 +60,17 @@ write-all f (g ∷ gs) p =
     let amounts = g .received ∷ g .tariff ∷ [] in
     let t = told (f .version) in
     let make = makeAnswer t Payment (g .fields) amounts recordLength in
+    let size = lengthOf (f .lined) in
     let own =
-    then-accepts (callAnswer (opened f) Payment (length (g .fields)) recordLength)
+    then-accepts (callAnswer (opened f) Payment (length (g .fields)) size)
     (make then fileAnswer f (g .received)) .0 (p .0) .1 in
     let both = then-accepts make (fileAnswer f (g .received)) .0 own in
     let x = values.paymentShown (recordOf g) .received in
     let xs = receivedEach (writtenRecords gs) in
     let read : x ≡ g .received =
     written-amounts-are-read t (g .fields) (g .received) (g .tariff) recordLength (both .0) .0 in
-    let next : paymentWritten (opened f) (g .fields) (g .received) (g .tariff) recordLength .writer ≡ opened (fileWith f (g .received)) =
-    accepted-takes (paymentAnswer (opened f) (g .fields) (g .received) (g .tariff) recordLength)
+    let next : paymentWritten (opened f) (g .fields) (g .received) (g .tariff) size .writer ≡ opened (fileWith f (g .received)) =
+    accepted-takes (paymentAnswer (opened f) (g .fields) (g .received) (g .tariff) size)
     (opened (fileWith f (g .received))) (opened f) (p .0) in
     let rest = write-all (fileWith f (g .received)) gs (subst (λ (w : Writer). PaymentsWritten w gs) next (p .1)) in
     record {
@@ -82,46 +87,47 @@ counted : (recs : List (List ℕ)) → length (receivedEach recs) ≡ length rec
 counted recs = simp length-map
 
 -- a fresh file that took these payments
-holds-all : (version : ℕ) (recs : List (List ℕ))
-    → fileWithAll (freshFile version) (receivedEach recs) ≡ record { taken = length recs; total = receivedIn recs; version = version }
-holds-all version recs =
-    fresh-file-holds version (receivedEach recs)
-    ∙ ap (λ (n : ℕ). record { taken = length (receivedEach recs); total = n; version = version }) (received-each recs)
-    ∙ ap (λ (n : ℕ). record { taken = n; total = receivedIn recs; version = version }) (counted recs)
+holds-all : (version : ℕ) (lined : Bool) (recs : List (List ℕ))
+    → fileWithAll (freshFile version lined) (receivedEach recs) ≡ record { taken = length recs; total = receivedIn recs; version = version; lined = lined }
+holds-all version lined recs =
+    fresh-file-holds version lined (receivedEach recs)
+    ∙ ap₂ {C = File} (λ (n c : ℕ). record { taken = n; total = c; version = version; lined = lined }) (counted recs) (received-each recs)
 
-module _ (header : List ℕ) (gs : List GivenPayment) (c : Closed header gs) where
-  -- the file under the version that the header names
+module _ (lined : Bool) (header : List ℕ) (gs : List GivenPayment) (c : Closed lined header gs) where
+  -- the file under the version that the header names, in the form of its buffer
   abbrev fresh : File
-  fresh = freshFile (values.versionIn (headerBytes header))
+  fresh = freshFile (values.versionIn (headerBytes header)) lined
 
-  opens : openedBy header ≡ opened fresh
-  opens = accepted-takes (headerAnswer freshWriter header recordLength) (opened fresh) freshWriter (c .opens)
+  opens : openedBy lined header ≡ opened fresh
+  opens =
+      accepted-takes (headerAnswer freshWriter header (lengthOf lined)) (opened (freshFile (values.versionIn (headerBytes header)) (isLinedBuffer (lengthOf lined)))) freshWriter (c .opens)
+      ∙ ap (λ (t : Bool). opened (freshFile (values.versionIn (headerBytes header)) t)) (form-of-length lined)
 
   all-written : AllWritten fresh gs
   all-written = write-all fresh gs (subst (λ (w : Writer). PaymentsWritten w gs) opens (c .pays))
 
   abbrev last : Writer
-  last = writerAfterPayments (openedBy header) gs
+  last = writerAfterPayments (openedBy lined header) gs
 
-  file-is : last .file ≡ record { taken = length (writtenRecords gs); total = receivedIn (writtenRecords gs); version = fresh .version }
+  file-is : last .file ≡ record { taken = length (writtenRecords gs); total = receivedIn (writtenRecords gs); version = fresh .version; lined = lined }
   file-is =
       ap (λ (w : Writer). writerAfterPayments w gs .file) opens ∙ ap (λ (w : Writer). w .file) (all-written .leaves)
-      ∙ holds-all (fresh .version) (writtenRecords gs)
+      ∙ holds-all (fresh .version) lined (writtenRecords gs)
 
   trailer-made : makeAnswer (writerTerms last) Trailer (countBytes last) (figuresOf (last .file) .total ∷ 0 ∷ []) recordLength ≡ Accepted
   trailer-made =
       let make = makeAnswer (writerTerms last) Trailer (countBytes last) (figuresOf (last .file) .total ∷ 0 ∷ []) recordLength in
       let own =
-      then-accepts (callAnswer last Trailer (givenLength Trailer) recordLength)
+      then-accepts (callAnswer last Trailer (givenLength Trailer) (lengthOf lined))
       (closingAnswer (last .file) then make) .0 (c .closes) .1 in
       then-accepts (closingAnswer (last .file)) make .0 own .1
 
   header-made : makeAnswer (writerTerms freshWriter) Header header (0 ∷ 0 ∷ []) recordLength ≡ Accepted
   header-made =
-      then-accepts (callAnswer freshWriter Header (length header) recordLength)
+      then-accepts (callAnswer freshWriter Header (length header) (lengthOf lined))
       (makeAnswer (writerTerms freshWriter) Header header (0 ∷ 0 ∷ []) recordLength) .0 (c .opens) .1
 
-  whole : Whole (headerBytes header) (writtenRecords gs) (trailerAfter header gs)
+  whole : Whole (headerBytes header) (writtenRecords gs) (trailerAfter lined header gs)
   whole =
       let t = headerTerms (headerBytes header) in
       let a = right (writerTerms freshWriter) Header header (0 ∷ 0 ∷ []) header-made in
@@ -129,39 +135,58 @@ module _ (header : List ℕ) (gs : List GivenPayment) (c : Closed header gs) whe
       record {
         header = right-under-any-terms (writerTerms freshWriter) t Header (headerBytes header) refl a;
         payments = all-written .each;
-        trailer = right-under-any-terms (writerTerms last) t Trailer (trailerAfter header gs) refl z;
+        trailer = right-under-any-terms (writerTerms last) t Trailer (trailerAfter lined header gs) refl z;
       }
 
-  figures : TrueFigures (writtenRecords gs) (trailerAfter header gs)
+  figures : TrueFigures (writtenRecords gs) (trailerAfter lined header gs)
   figures =
-      let shows = trailer-shows-the-figures last recordLength (c .closes) in
+      let shows = trailer-shows-the-figures last (lengthOf lined) (c .closes) in
       (shows .0 ∙ ap (λ (f : File). f .taken + 2) file-is, shows .1 ∙ ap (λ (f : File). f .total) file-is)
 
   limits : (length (writtenRecords gs) ≤ mostPayments) × (receivedIn (writtenRecords gs) ≤ mostCentavos)
   limits =
-      let both = fresh-file-takes (fresh .version) (receivedEach (writtenRecords gs)) .0 (all-written .fits) in
+      let both = fresh-file-takes (fresh .version) lined (receivedEach (writtenRecords gs)) .0 (all-written .fits) in
       (subst (λ (n : ℕ). n ≤ mostPayments) (counted (writtenRecords gs)) (both .0), subst (λ (n : ℕ). n ≤ mostCentavos) (received-each (writtenRecords gs)) (both .1))
 
 pub closed-file-is-whole : ClosedFileIsWhole
-closed-file-is-whole header gs c = (whole header gs c, figures header gs c)
+closed-file-is-whole lined header gs c = (whole lined header gs c, figures lined header gs c)
+
+-- what the writer put behind each record is what its form has there
+module _ (lined : Bool) (header : List ℕ) (gs : List GivenPayment) where
+  pub in-its-form : fileOf lined (headerBytes header) (writtenRecords gs) (trailerAfter lined header gs) ≡ writtenFile lined header gs
+  in-its-form =
+      ap (λ (t : Bool). fileOf t (headerBytes header) (writtenRecords gs) (trailerAfter lined header gs)) (sym (form-of-length lined))
+
+  bytes-in-form : bytesOf (allInForm lined (recordsOf (headerBytes header) (writtenRecords gs) (trailerAfter lined header gs))) ≡ writtenBytes lined header gs
+  bytes-in-form =
+      ap (λ (t : Bool). bytesOf (allInForm t (recordsOf (headerBytes header) (writtenRecords gs) (trailerAfter lined header gs)))) (sym (form-of-length lined))
+
+all-accepted : (lined : Bool) (header : List ℕ) (gs : List GivenPayment) → Closed lined header gs → FewIssuers gs
+    → AllAccepted (answersOf freshSession (fileOf lined (headerBytes header) (writtenRecords gs) (trailerAfter lined header gs)))
+all-accepted lined header gs c few =
+    let limits = limits lined header gs c in
+    fresh-session-accepts lined (headerBytes header) (writtenRecords gs) (trailerAfter lined header gs) (whole lined header gs c)
+    .1 (limits .0, limits .1, few, figures lined header gs c)
 
 pub closed-file-is-accepted : ClosedFileIsAccepted
-closed-file-is-accepted header gs c few =
+closed-file-is-accepted lined header gs c few =
     let recs = writtenRecords gs in
-    let all =
-    fresh-session-accepts (headerBytes header) recs (trailerAfter header gs) (whole header gs c) .1
-    (limits header gs c .0, limits header gs c .1, few, figures header gs c) in
-    (all, fresh-session-shows (headerBytes header) recs (trailerAfter header gs) (whole header gs c) all .0)
+    let all = all-accepted lined header gs c few in
+    let shows = fresh-session-shows lined (headerBytes header) recs (trailerAfter lined header gs) (whole lined header gs c) all .0 in
+    subst (λ (steps : List Step). AllAccepted (answersOf freshSession steps) × (shownLanes steps ≡ lanesFrom (lanesOfRecords recs)))
+    (in-its-form lined header gs) (all, shows)
 
 pub closed-file-bytes-run : ClosedFileBytesRun
-closed-file-bytes-run header gs c few =
+closed-file-bytes-run lined header gs c few =
     let recs = writtenRecords gs in
-    let all = closed-file-is-accepted header gs c few .0 in
+    let all = all-accepted lined header gs c few in
     let a = headerBytes header in
-    let z = trailerAfter header gs in
-    let run = file-bytes-run freshSession a recs z refl (whole header gs c) all in
+    let z = trailerAfter lined header gs in
+    let own = whole lined header gs c in
+    let run =
+    ap (runOf freshSession false) (sym (bytes-in-form lined header gs)) ∙ file-bytes-run freshSession lined a recs z refl own all in
     let given : length recs ≡ length gs = simp length-map in
-    let shows = fresh-board-holds (lanesOfRecords recs) (file-accepted freshSession a recs z refl (whole header gs c) .0 all .1) in (
+    let shows = fresh-board-holds (lanesOfRecords recs) (file-accepted freshSession lined a recs z refl own .0 all .1) in (
       ap (λ (r : RunResult). r .answer) run,
       ap (λ (r : RunResult). r .records) run ∙ ap (λ (n : ℕ). n + 2) given,
       ap (λ (r : RunResult). r .files) run,
@@ -181,8 +206,9 @@ rewrite-all f (rec ∷ recs) each room =
     let rooms = then-accepts (fileAnswer f x) (fileAnswers (fileWith f x) (receivedEach recs)) .0 room in
     let write = fields-write-the-payment (opened f) rec (each .0 .0) (each .0 .1) refl (rooms .0) in
     let g = givenBy rec in
-    let next : paymentWritten (opened f) (g .fields) (g .received) (g .tariff) recordLength .writer ≡ opened (fileWith f x) =
-    accepted-takes (paymentAnswer (opened f) (g .fields) (g .received) (g .tariff) recordLength)
+    let size = lengthOf (f .lined) in
+    let next : paymentWritten (opened f) (g .fields) (g .received) (g .tariff) size .writer ≡ opened (fileWith f x) =
+    accepted-takes (paymentAnswer (opened f) (g .fields) (g .received) (g .tariff) size)
     (opened (fileWith f x)) (opened f) (write .0) in
     let rest = rewrite-all (fileWith f x) recs (each .1) (rooms .1) in
     record {
@@ -192,8 +218,8 @@ rewrite-all f (rec ∷ recs) each room =
           ∙ ap (λ (l : List (List ℕ)). rec ∷ l) (rest .same);
     }
 
-module _ (s : Session) (a : List ℕ) (recs : List (List ℕ)) (z : List ℕ) (closed : s .opened ≡ false) (w : Whole a recs z)
-    (e : AllAccepted (answersOf s (fileOf a recs z))) where
+module _ (s : Session) (lined : Bool) (a : List ℕ) (recs : List (List ℕ)) (z : List ℕ) (closed : s .opened ≡ false) (w : Whole a recs z)
+    (e : AllAccepted (answersOf s (fileOf lined a recs z))) where
   abbrev header : List ℕ
   header = joinedOf Header a
 
@@ -201,43 +227,40 @@ module _ (s : Session) (a : List ℕ) (recs : List (List ℕ)) (z : List ℕ) (c
   gs = map givenBy recs
 
   abbrev start : File
-  start = freshFile (values.versionIn a)
+  start = freshFile (values.versionIn a) lined
 
   accepted : (fileAnswers start (receivedEach recs) ≡ Accepted) × (postAnswers (s .shown) (lanesOfRecords recs) ≡ Accepted)
       × TrueFigures recs z
-  accepted = file-accepted s a recs z closed w .0 e
+  accepted = file-accepted s lined a recs z closed w .0 e
 
   again : Rewritten start recs
   again = rewrite-all start recs (w .payments) (accepted .0)
 
-  head : (headerAnswer freshWriter header recordLength ≡ Accepted) × (headerBytes header ≡ a)
-  head = let write = fields-write-the-header (headerTerms a) freshWriter a (w .header .0) (w .header .1) refl in (write .0, write .1)
+  head : (headerAnswer freshWriter header (lengthOf lined) ≡ Accepted) × (headerBytes header ≡ a) × (openedBy lined header ≡ opened start)
+  head = fields-write-the-header (headerTerms a) freshWriter lined a (w .header .0) (w .header .1) refl
 
-  starts : openedBy header ≡ opened start
-  starts =
-      accepted-takes (headerAnswer freshWriter header recordLength) (opened (freshFile (values.versionIn (headerBytes header)))) freshWriter (head .0)
-      ∙ ap (λ (l : List ℕ). opened (freshFile (values.versionIn l))) (head .1)
+  pays-all : PaymentsWritten (openedBy lined header) gs
+  pays-all = subst (λ (x : Writer). PaymentsWritten x gs) (sym (head .2)) (again .pays)
 
-  pays-all : PaymentsWritten (openedBy header) gs
-  pays-all = subst (λ (x : Writer). PaymentsWritten x gs) (sym starts) (again .pays)
+  -- the writer after them
+  abbrev full : File
+  full = record { taken = length recs; total = receivedIn recs; version = start .version; lined = lined }
 
-  end : writerAfterPayments (openedBy header) gs ≡ opened (record { taken = length recs; total = receivedIn recs; version = start .version })
+  end : writerAfterPayments (openedBy lined header) gs ≡ opened full
   end =
-      ap (λ (x : Writer). writerAfterPayments x gs) starts ∙ write-all start gs (again .pays) .leaves
+      ap (λ (x : Writer). writerAfterPayments x gs) (head .2) ∙ write-all start gs (again .pays) .leaves
       ∙ ap (λ (l : List (List ℕ)). opened (fileWithAll start (receivedEach l))) (again .same)
-      ∙ ap opened (holds-all (start .version) recs)
+      ∙ ap opened (holds-all (start .version) lined recs)
 
-  tail : (trailerAnswer (writerAfterPayments (openedBy header) gs) recordLength ≡ Accepted)
-      × (trailerAfter header gs ≡ z)
+  tail : (trailerAnswer (writerAfterPayments (openedBy lined header) gs) (lengthOf lined) ≡ Accepted) × (trailerAfter lined header gs ≡ z)
   tail =
-      let last = opened (record { taken = length recs; total = receivedIn recs; version = start .version }) in
-      let write =
-      fields-write-the-trailer (headerTerms a) last z (w .trailer .0) (w .trailer .1) refl (accepted .2 .0) (accepted .2 .1) in
-      rw end write
+      rw end (fields-write-the-trailer (headerTerms a) (opened full) z (w .trailer .0) (w .trailer .1) refl (accepted .2 .0) (accepted .2 .1))
 
 pub fields-write-the-file : FieldsWriteTheFile
-fields-write-the-file s a recs z closed w e =
-    let again = again s a recs z closed w e in
-    let tail = tail s a recs z closed w e in
-    let head = head s a recs z closed w e in
-    (record { opens = head .0; pays = pays-all s a recs z closed w e; closes = tail .0 }, rw (tail .1, head .1, again .same))
+fields-write-the-file s lined a recs z closed w e =
+    let again = again s lined a recs z closed w e in
+    let tail = tail s lined a recs z closed w e in
+    let head = head s lined a recs z closed w e in (
+      record { opens = head .0; pays = pays-all s lined a recs z closed w e; closes = tail .0 },
+      sym (in-its-form lined (joinedOf Header a) (map givenBy recs)) ∙ rw (tail .1, head .1, again .same),
+    )

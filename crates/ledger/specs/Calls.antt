@@ -1,7 +1,7 @@
 -- Any calls on a session, runs over many records and finishing among them, against the ledger (SPEC.md, "Sessions").
 -- Assumes nothing.
 use Prim.Native.Nat.{ℕ, _-_}
-use mathlib.Core.Bool.{not}
+use mathlib.Core.Bool.{Bool, not}
 use mathlib.Core.List.{List, [], _∷_, _++_, map}
 use mathlib.Core.Path.{_≡_}
 use lib.ListN.{length}
@@ -11,34 +11,37 @@ use Rattle.answer.specs.declared.Answer.the-variants.{Accepted}
 use Rattle.answer.specs.Orders.{require, _then_, ifAccepted}
 use Rattle.session.specs.declared.Session.{Session}
 use Rattle.session.specs.Sessions.{freshSession, takeOf, finishOf}
-use Rattle.session.specs.Runs.{piecesOf, runOf}
-use Rattle.ledger.specs.Ledgers.{Ledger, freshLedger, ledgerAnswer, Step, taking, abandoning}
+use Rattle.session.specs.Runs.{runOf, bytesOf}
+use Rattle.ledger.specs.Ledgers.{Ledger, freshLedger, isOpen, ledgerAnswer, Step, taking, abandoning}
 use Rattle.ledger.specs.Ledgers.{ledgerStep, ledgerAfter}
-use Rattle.ledger.specs.Promises.{sessionStep, isOpen, reached, ledgerOf, Agrees}
+use Rattle.ledger.specs.Promises.{sessionStep, reached, ledgerOf, Agrees}
+use Rattle.ledger.specs.Runs.{ledgerPieces}
 
--- taking a record or abandoning, a run over bytes, finishing
+-- taking a record or abandoning, a run over bytes, which more are to follow or not, finishing
 pub data Call : Type 0 where
   stepping : Step → Call
-  running : List ℕ → Call
+  running : Bool → List ℕ → Call
   finishing : Call
 
--- what the caller gets: an answer, for a run its records and files too; abandoning returns nothing
+-- what the caller gets: an answer, for a run its records, files and bytes too; abandoning returns nothing
 pub data Reply : Type 0 where
   answered : Answer → Reply
-  ran : Answer → ℕ → ℕ → Reply
+  ran : Answer → ℕ → ℕ → ℕ → Reply
   silent : Reply
 
 -- Calls on a session.
 
 abbrev pub sessionCall : Session → Call → Session
 sessionCall s (stepping step) = sessionStep s step
-sessionCall s (running bytes) = runOf s bytes .session
+sessionCall s (running more bytes) = runOf s more bytes .session
 sessionCall s finishing = finishOf s .session
 
 abbrev pub sessionReply : Session → Call → Reply
 sessionReply s (stepping (taking rec)) = answered (takeOf s rec .answer)
 sessionReply s (stepping abandoning) = silent
-sessionReply s (running bytes) = ran (runOf s bytes .answer) (runOf s bytes .records) (runOf s bytes .files)
+sessionReply s (running more bytes) =
+    let r = runOf s more bytes in
+    ran (r .answer) (r .records) (r .files) (r .bytes)
 sessionReply s finishing = answered (finishOf s .answer)
 
 abbrev pub sessionAfterCalls : Session → List Call → Session
@@ -62,7 +65,7 @@ runAnswer k (rec ∷ recs) = ledgerAnswer k rec then runAnswer (ledgerStep k (ta
 
 abbrev pub stepsOfCall : Ledger → Call → List Step
 stepsOfCall k (stepping step) = step ∷ []
-stepsOfCall k (running bytes) = map taking (recordsTaken k (piecesOf bytes))
+stepsOfCall k (running more bytes) = map taking (recordsTaken k (ledgerPieces k more bytes))
 stepsOfCall k finishing = []
 
 abbrev pub ledgerCall : Ledger → Call → Ledger
@@ -72,9 +75,11 @@ ledgerCall k call = ledgerAfter k (stepsOfCall k call)
 abbrev pub ledgerReply : Ledger → Call → Reply
 ledgerReply k (stepping (taking rec)) = answered (ledgerAnswer k rec)
 ledgerReply k (stepping abandoning) = silent
-ledgerReply k (running bytes) =
-    ran (runAnswer k (piecesOf bytes)) (length (recordsTaken k (piecesOf bytes)))
-    (length (ledgerCall k (running bytes) .accepted) - length (k .accepted))
+ledgerReply k (running more bytes) =
+    let pieces = ledgerPieces k more bytes in
+    ran (runAnswer k pieces) (length (recordsTaken k pieces))
+    (length (ledgerCall k (running more bytes) .accepted) - length (k .accepted))
+    (length (bytesOf (recordsTaken k pieces)))
 ledgerReply k finishing = answered (require (not (isOpen (k .opened))) FileOpen 0)
 
 abbrev pub ledgerAfterCalls : Ledger → List Call → Ledger

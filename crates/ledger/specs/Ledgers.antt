@@ -16,24 +16,28 @@ use Rattle.barcode.specs.declared.Issuer.{Issuer}
 use Rattle.layout.specs.declared.MaybeRecord.{MaybeRecord}
 use Rattle.layout.specs.declared.MaybeRecord.the-variants.{Is, Other}
 use Rattle.layout.specs.declared.Record.the-variants.{Header, Payment, Trailer}
-use Rattle.layout.specs.Layouts.{recordLength, namedBy}
+use Rattle.layout.specs.Layouts.{namedBy}
 use Rattle.record.specs.Records.{recordAnswer}
 use Rattle.kinds.specs.Terms.{Terms, told}
 use Rattle.record.specs.Values.{versionIn, paymentShown, trailerShown}
 use Rattle.file.specs.Files.{mostPayments, mostCentavos, countPlace, totalPlace}
+use Rattle.file.specs.Forms.{bodyOf, hasLineEnd, fitsLength, endAnswer}
 use Rattle.board.specs.declared.Lane.{Lane}
 use Rattle.board.specs.Lanes.{mostLanes, limit}
 
--- an open file as received: the bytes of its header and of its payment records, the latest last
+-- an open file as received: the 150 bytes of its header and of its payment records, the latest last, and whether CR and
+-- LF followed each
 pub record Opened : Type 0 where
   pub header : List ℕ
   pub payments : List (List ℕ)
+  pub lined : Bool
 
 -- an accepted file: its trailer's bytes too
 pub record Filed : Type 0 where
   pub header : List ℕ
   pub payments : List (List ℕ)
   pub trailer : List ℕ
+  pub lined : Bool
 
 -- the accepted files, the latest last, and the open file if there is one
 pub record Ledger : Type 0 where
@@ -91,6 +95,15 @@ issuersNamed seen (rec ∷ recs) =
     cond (isSeen (issuerNamed rec) seen) (issuersNamed seen recs)
     (issuerNamed rec ∷ issuersNamed (seen ++ (issuerNamed rec ∷ [])) recs)
 
+-- whether a file is open, and whether it is lined; without one, not
+abbrev pub isOpen : Option Opened → Bool
+isOpen none = false
+isOpen (some f) = true
+
+abbrev pub isOpenLined : Option Opened → Bool
+isOpenLined none = false
+isOpenLined (some f) = f .lined
+
 -- The answer to a record.
 
 -- with no file open A is expected; in an open file G or Z
@@ -140,28 +153,38 @@ abbrev pub ledgerTerms : Option Opened → Terms
 ledgerTerms none = told 0
 ledgerTerms (some f) = headerTerms (f .header)
 
--- taking a record: 1, 9, its own refusals, then the ledger's
+-- taking a record: 1; then, of its first 150 bytes, 9, its own refusals and the ledger's; last 22
 abbrev pub ledgerAnswer : Ledger → List ℕ → Answer
 ledgerAnswer k rec =
-    require (eqb (length rec) recordLength) WrongLength 0
+    require (fitsLength (isOpen (k .opened)) (isOpenLined (k .opened)) rec) WrongLength 0
     then require (ledgerExpects (k .opened) (namedBy (getD rec 0 0))) NotExpected 1
-    then recordAnswer (ledgerTerms (k .opened)) rec
-    then stateAnswer (k .accepted) (k .opened) (namedBy (getD rec 0 0)) rec
+    then recordAnswer (ledgerTerms (k .opened)) (bodyOf rec)
+    then stateAnswer (k .accepted) (k .opened) (namedBy (getD rec 0 0)) (bodyOf rec)
+    then endAnswer (isOpen (k .opened)) (isOpenLined (k .opened)) rec
 
 -- The ledger that follows.
 
 -- an open file with its trailer
 abbrev pub filedWith : Opened → List ℕ → Filed
-filedWith f z = record { header = f .header; payments = f .payments; trailer = z }
+filedWith f z = record { header = f .header; payments = f .payments; trailer = z; lined = f .lined }
 
--- an accepted A opens a file, a G is added to it, a Z closes it: it is then an accepted file
-abbrev pub withRecord : List Filed → Option Opened → MaybeRecord → List ℕ → Ledger
-withRecord files none named rec = record { accepted = files; opened = some (record { header = rec; payments = [] }) }
-withRecord files (some f) (Is Header) rec = record { accepted = files; opened = some f }
-withRecord files (some f) (Is Payment) rec =
-    record { accepted = files; opened = some (record { header = f .header; payments = f .payments ++ (rec ∷ []) }) }
-withRecord files (some f) (Is Trailer) rec = record { accepted = files ++ (filedWith f rec ∷ []); opened = none }
-withRecord files (some f) Other rec = record { accepted = files; opened = some f }
+-- an accepted A opens a file, lined if CR and LF follow it, a G is added to it, a Z closes it: it is then an accepted
+-- file
+abbrev pub withRecord : List Filed → Option Opened → MaybeRecord → Bool → List ℕ → Ledger
+withRecord files none named lined rec =
+    record { accepted = files; opened = some (record { header = rec; payments = []; lined = lined }) }
+withRecord files (some f) (Is Header) lined rec = record { accepted = files; opened = some f }
+withRecord files (some f) (Is Payment) lined rec =
+    record {
+      accepted = files;
+      opened = some (record { header = f .header; payments = f .payments ++ (rec ∷ []); lined = f .lined });
+    }
+withRecord files (some f) (Is Trailer) lined rec = record { accepted = files ++ (filedWith f rec ∷ []); opened = none }
+withRecord files (some f) Other lined rec = record { accepted = files; opened = some f }
+
+-- the ledger with a record, if it is accepted
+abbrev pub nextLedger : Ledger → List ℕ → Ledger
+nextLedger k rec = withRecord (k .accepted) (k .opened) (namedBy (getD rec 0 0)) (hasLineEnd rec) (bodyOf rec)
 
 -- taking a record of any bytes, or abandoning the open file
 pub data Step : Type 0 where
@@ -170,8 +193,7 @@ pub data Step : Type 0 where
 
 -- a refused record changes nothing; abandoning drops the open file
 abbrev pub ledgerStep : Ledger → Step → Ledger
-ledgerStep k (taking rec) =
-    ifAccepted (ledgerAnswer k rec) (withRecord (k .accepted) (k .opened) (namedBy (getD rec 0 0)) rec) k
+ledgerStep k (taking rec) = ifAccepted (ledgerAnswer k rec) (nextLedger k rec) k
 ledgerStep k abandoning = record { accepted = k .accepted; opened = none }
 
 abbrev pub ledgerAfter : Ledger → List Step → Ledger

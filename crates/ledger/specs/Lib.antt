@@ -2,6 +2,7 @@ pub mod Ledgers
 pub mod Records
 pub mod Promises
 pub mod WholeFiles
+pub mod Forms
 pub mod Runs
 pub mod WrittenFiles
 pub mod Calls

@@ -1,9 +1,9 @@
 -- The session against the ledger (SPEC.md, "Sessions" and "Board"; demand 2). Assumes nothing.
 use Prim.Native.Nat.{ℕ, _+_, _≤_}
-use mathlib.Core.Bool.{Bool, true, false}
+use mathlib.Core.Bool.{true, false}
 use mathlib.Core.List.{List, [], _∷_, _++_}
 use mathlib.Core.Logic.{_↔_}
-use mathlib.Core.Option.{Option, none, some}
+use mathlib.Core.Option.{some}
 use mathlib.Core.Path.{_≡_}
 use lib.ListN.{length, getD}
 use Rattle.answer.specs.declared.Reason.the-variants.{FixedDiffers}
@@ -13,17 +13,19 @@ use Rattle.answer.specs.Refusals.{answerNumber, answerPlace}
 use Rattle.answer.specs.Orders.{Each}
 use Rattle.layout.specs.declared.MaybeRecord.the-variants.{Is}
 use Rattle.layout.specs.declared.Record.the-variants.{Payment, Trailer}
-use Rattle.layout.specs.Layouts.{recordLength, namedBy, rowAt, versionRow}
+use Rattle.layout.specs.Layouts.{namedBy, rowAt, versionRow}
 use Rattle.kinds.specs.Terms.{isVersion}
 use Rattle.record.specs.Records.{recordAnswer}
 use Rattle.record.specs.Values.{trailerShown}
 use Rattle.file.specs.Files.{noFile}
+use Rattle.file.specs.Forms.{inForm, bodyOf, fitsLength}
 use Rattle.board.specs.declared.Lane.{Lane}
 use Rattle.board.specs.Lanes.{mostLanes, limit, lanesFrom, sumBy, each, issuersOf, Distinct}
 use Rattle.board.specs.Boards.{lanesOf, SoundBoard}
 use Rattle.session.specs.declared.Session.{Session}
 use Rattle.session.specs.Sessions.{freshSession, sessionTerms, takeAnswer, takeOf, abandonOf, finishOf}
 use Rattle.ledger.specs.Ledgers.{Opened, Ledger, freshLedger, paymentRecords, openRecords, lanesOfRecords}
+use Rattle.ledger.specs.Ledgers.{isOpen, isOpenLined}
 use Rattle.ledger.specs.Ledgers.{receivedIn, ofIssuer, issuersNamed, ledgerAnswer, Step, taking, abandoning}
 use Rattle.ledger.specs.Ledgers.{headerTerms, ledgerTerms, ledgerAfter, ledgerAnswers}
 
@@ -57,11 +59,7 @@ abbrev pub acceptedRecords : List Step → List (List ℕ)
 acceptedRecords steps = paymentRecords (ledgerOf steps .accepted)
 
 -- The invariant: the board shown has the payments of the accepted files, the working board those of the open file too;
--- the session's version is the one that the open file's header names.
-
-abbrev pub isOpen : Option Opened → Bool
-isOpen none = false
-isOpen (some f) = true
+-- the session's version is the one that the open file's header names, and its form is the open file's.
 
 abbrev pub allRecords : Ledger → List (List ℕ)
 allRecords k = paymentRecords (k .accepted) ++ openRecords (k .opened)
@@ -73,6 +71,7 @@ pub record Agrees (s : Session) (k : Ledger) : Type 0 where
   pub taken : s .file .taken ≡ length (openRecords (k .opened))
   pub total : s .file .total ≡ receivedIn (openRecords (k .opened))
   pub terms : sessionTerms s ≡ ledgerTerms (k .opened)
+  pub lined : s .file .lined ≡ isOpenLined (k .opened)
   pub soundShown : SoundBoard (s .shown)
   pub soundWork : SoundBoard (s .work)
 
@@ -129,16 +128,19 @@ WithinLimits =
     → (length (shownLanes steps) ≤ mostLanes) × (reached steps .shown .total .payments ≤ limit)
     × (reached steps .shown .total .centavos ≤ limit)
 
--- in an open file, a Z with right fields is accepted exactly if its count and total are the true ones
+-- in an open file, a Z with right fields is accepted exactly if its count and total are the true ones and CR and LF are
+-- all that follows it in a lined file, nothing in a bare one
 abbrev pub TrueTrailersOnly : Type 0
 TrueTrailersOnly =
     (steps : List Step) (f : Opened) (rec : List ℕ)
-    → ledgerOf steps .opened ≡ some f → recordAnswer (headerTerms (f .header)) rec ≡ Accepted
+    → ledgerOf steps .opened ≡ some f → recordAnswer (headerTerms (f .header)) (bodyOf rec) ≡ Accepted
     → namedBy (getD rec 0 0) ≡ Is Trailer
     → (takeAnswer (reached steps) rec ≡ Accepted)
-    ↔ ((trailerShown rec .count ≡ length (f .payments) + 2) × (trailerShown rec .total ≡ receivedIn (f .payments)))
+    ↔ ((trailerShown (bodyOf rec) .count ≡ length (f .payments) + 2)
+    × (trailerShown (bodyOf rec) .total ≡ receivedIn (f .payments)) × (rec ≡ inForm (f .lined) (bodyOf rec)))
 
--- a session with a file open has a version, 4 or 6; one with none open has no version, payments and centavos
+-- a session with a file open has a version, 4 or 6; one with none open has no version, payments and centavos, and is
+-- not lined
 abbrev pub OpenFilesHaveAVersion : Type 0
 OpenFilesHaveAVersion =
     (steps : List Step)
@@ -147,11 +149,12 @@ OpenFilesHaveAVersion =
 
 -- Promises, of any session, one in an arbitrary state included.
 
--- in an open file whose version is another number than 4 and 6, every G is refused 10 at the version's place in a header
+-- in an open file whose version is another number than 4 and 6, every G is refused 10 at the version's place in a
+-- header
 abbrev pub PaymentsTakenUnderAVersion : Type 0
 PaymentsTakenUnderAVersion =
     (s : Session) (rec : List ℕ) → s .opened ≡ true → isVersion (s .file .version) ≡ false
-    → length rec ≡ recordLength → namedBy (getD rec 0 0) ≡ Is Payment
+    → fitsLength true (s .file .lined) rec ≡ true → namedBy (getD rec 0 0) ≡ Is Payment
     → takeAnswer s rec ≡ Refused FixedDiffers (rowAt versionRow .first)
 
 -- a refused record changes nothing

@@ -1,21 +1,41 @@
 -- A run over many records against the ledger: what the program `quadro` shows. Assumes nothing.
-use Prim.Native.Nat.{ℕ, _+_}
-use mathlib.Core.Bool.{false}
-use mathlib.Core.List.{List, [], _∷_, _++_, map}
+use Prim.Native.Nat.{ℕ, zero, suc, _+_}
+use mathlib.Core.Bool.{Bool, true, false, cond}
+use mathlib.Core.List.{List, [], _∷_, map}
 use mathlib.Core.Path.{_≡_}
-use lib.ListN.{length, take, drop}
+use lib.Dec.{ltb}
+use lib.ListN.{length, getD, take, drop}
 use Rattle.answer.specs.declared.Answer.{Answer}
 use Rattle.answer.specs.declared.Answer.the-variants.{Accepted}
 use Rattle.answer.specs.Orders.{Each}
 use Rattle.layout.specs.Layouts.{recordLength}
+use Rattle.file.specs.Forms.{linedLength, lengthOf, formOf}
 use Rattle.board.specs.Boards.{boardWithAll}
 use Rattle.session.specs.declared.RunResult.{RunResult}
 use Rattle.session.specs.declared.Session.{Session}
 use Rattle.session.specs.Sessions.{freshSession, closedAt}
-use Rattle.session.specs.Runs.{piecesOf, runOf}
-use Rattle.ledger.specs.Ledgers.{Ledger, freshLedger, lanesOfRecords, ledgerAnswer, Step, taking, ledgerAnswers}
+use Rattle.session.specs.Runs.{leastLeft, piecesOf, runOf, bytesOf}
+use Rattle.ledger.specs.Ledgers.{Ledger, freshLedger, lanesOfRecords, isOpen, isOpenLined, ledgerAnswer, Step}
+use Rattle.ledger.specs.Ledgers.{taking, ledgerStep, ledgerAnswers}
 use Rattle.ledger.specs.Promises.{answersOf, reached, ledgerOf}
-use Rattle.ledger.specs.WholeFiles.{Whole, fileOf, AllAccepted}
+use Rattle.ledger.specs.WholeFiles.{Whole, recordsOf, allInForm, fileOf, AllAccepted}
+
+-- the pieces that a run cuts, each by the ledger that those before it left
+abbrev pub ledgerPieceLength : Ledger → List ℕ → ℕ
+ledgerPieceLength k bytes = lengthOf (formOf (isOpen (k .opened)) (isOpenLined (k .opened)) (take linedLength bytes))
+
+abbrev pub ledgerPieceOf : Ledger → List ℕ → List ℕ
+ledgerPieceOf k bytes = take (ledgerPieceLength k bytes) bytes
+
+abbrev pub ledgerPiecesUpTo : ℕ → Ledger → Bool → List ℕ → List (List ℕ)
+ledgerPiecesUpTo zero k more bytes = []
+ledgerPiecesUpTo (suc n) k more bytes =
+    cond (ltb (length bytes) (leastLeft more)) []
+    (ledgerPieceOf k bytes
+    ∷ ledgerPiecesUpTo n (ledgerStep k (taking (ledgerPieceOf k bytes))) more (drop (ledgerPieceLength k bytes) bytes))
+
+abbrev pub ledgerPieces : Ledger → Bool → List ℕ → List (List ℕ)
+ledgerPieces k more bytes = ledgerPiecesUpTo (length bytes) k more bytes
 
 -- the records that a run took, as steps
 abbrev pub stepsOf : List (List ℕ) → RunResult → List Step
@@ -26,44 +46,43 @@ abbrev pub nextLedgerAnswer : Ledger → List (List ℕ) → Answer
 nextLedgerAnswer k [] = Accepted
 nextLedgerAnswer k (rec ∷ recs) = ledgerAnswer k rec
 
--- a file's records, and the bytes of records or of buffers with nothing between them
-abbrev pub recordsOf : List ℕ → List (List ℕ) → List ℕ → List (List ℕ)
-recordsOf a recs z = a ∷ (recs ++ (z ∷ []))
-
-abbrev pub bytesOf : List (List ℕ) → List ℕ
-bytesOf [] = []
-bytesOf (rec ∷ recs) = rec ++ bytesOf recs
-
 -- Promises.
 
--- the pieces of the bytes of whole records are those records
+-- The pieces of the bytes of records in one form are those records, if the session's open file, if it has one, is of
+-- that form. Where they are bare, none begins with byte 13: a header and bytes 13 and 10 would be read as lined.
 abbrev pub PiecesAreTheRecords : Type 0
 PiecesAreTheRecords =
-    (recs : List (List ℕ)) → Each (λ (rec : List ℕ). length rec ≡ recordLength) recs → piecesOf (bytesOf recs) ≡ recs
+    (s : Session) (lined : Bool) (recs : List (List ℕ)) → (s .opened ≡ true → s .file .lined ≡ lined)
+    → Each (λ (rec : List ℕ). (length rec ≡ recordLength) × (lined ≡ false → getD rec 0 0 ≡ 13 → ⊥)) recs
+    → piecesOf s false (bytesOf (allInForm lined recs)) ≡ allInForm lined recs
 
--- of any session with no file open: a run over the bytes of a file whose records are all accepted takes them all, and
--- that one file
+-- of any session with no file open: a run over the bytes of a file, lined or bare, whose records are all accepted takes
+-- them all, and that one file
 abbrev pub FileBytesRun : Type 0
 FileBytesRun =
-    (s : Session) (a : List ℕ) (recs : List (List ℕ)) (z : List ℕ) → s .opened ≡ false → Whole a recs z
-    → AllAccepted (answersOf s (fileOf a recs z))
-    → runOf s (bytesOf (recordsOf a recs z))
+    (s : Session) (lined : Bool) (a : List ℕ) (recs : List (List ℕ)) (z : List ℕ) → s .opened ≡ false → Whole a recs z
+    → AllAccepted (answersOf s (fileOf lined a recs z))
+    → let bytes = bytesOf (allInForm lined (recordsOf a recs z)) in
+    runOf s false bytes
     ≡ record {
       answer = Accepted;
       session = closedAt (boardWithAll (s .shown) (lanesOfRecords recs));
       records = length recs + 2;
       files = 1;
+      bytes = length bytes;
     }
 
--- whatever the bytes, a run from a fresh session takes records that the ledger accepts, and stops with the
--- ledger's answer to the next; its session is the one that they reach, and its files are the ledger's. If it is
--- accepted, no record is left.
+-- whatever the bytes, and whether more are to follow or not, a run from a fresh session takes records that the ledger
+-- accepts, and stops with the ledger's answer to the next; its session is the one that they reach, and its files are
+-- the ledger's. If it is accepted, no record is left.
 abbrev pub RunIsTheLedgers : Type 0
 RunIsTheLedgers =
-    (bytes : List ℕ)
-    → let r = runOf freshSession bytes in
-    let steps = stepsOf (piecesOf bytes) r in
+    (more : Bool) (bytes : List ℕ)
+    → let r = runOf freshSession more bytes in
+    let pieces = ledgerPieces freshLedger more bytes in
+    let steps = stepsOf pieces r in
     (r .session ≡ reached steps) × (r .files ≡ length (ledgerOf steps .accepted))
     × AllAccepted (ledgerAnswers freshLedger steps)
-    × (r .answer ≡ nextLedgerAnswer (ledgerOf steps) (drop (r .records) (piecesOf bytes)))
-    × (r .answer ≡ Accepted → r .records ≡ length (piecesOf bytes))
+    × (bytesOf (take (r .records) pieces) ≡ take (r .bytes) bytes)
+    × (r .answer ≡ nextLedgerAnswer (ledgerOf steps) (drop (r .records) pieces))
+    × (r .answer ≡ Accepted → r .records ≡ length pieces)

@@ -1,6 +1,7 @@
 -- The worked file (SPEC.md, "Samples"), a day past 32 bits, and other histories, each from a fresh session.
 -- Assumes nothing.
 use Prim.Native.Nat.{ℕ, zero, suc, _+_}
+use mathlib.Core.Bool.{true}
 use mathlib.Core.List.{List, [], _∷_, _++_, map}
 use mathlib.Core.Path.{_≡_}
 use lib.ListN.{replicate}
@@ -11,6 +12,7 @@ use Rattle.barcode.specs.declared.Issuer.{Issuer}
 use Rattle.barcode.specs.Building.{builtOf}
 use Rattle.kinds.specs.Terms.{version04, version06}
 use Rattle.kinds.specs.Kinds.{serviceOf}
+use Rattle.file.specs.Forms.{inForm}
 use Rattle.board.specs.declared.Tally.{Tally}
 use Rattle.board.specs.declared.Lane.{Lane}
 use Rattle.board.specs.Lanes.{emptyTally}
@@ -193,9 +195,9 @@ abbrev pub coded : ℕ → ℕ → Step
 coded capture form = taking (paymentWith code 1 capture form)
 
 -- each header decides for its own file. In a 06 file captures `7`, `9` and `i` and forms `4` and `6` are known, `j` and
--- form `7` are not, and an A of version 04, refused there, changes nothing. A 06 file that is abandoned leaves no version
--- behind, and a header that says 05 is refused 10 at 80. In the 04 file after that `7` and `9` are refused, 12 at 117,
--- and form `4`, 12 at 141, while `f` and form `3` are accepted.
+-- form `7` are not, and an A of version 04, refused there, changes nothing. A 06 file that is abandoned leaves no
+-- version behind, and a header that says 05 is refused 10 at 80. In the 04 file after that `7` and `9` are refused, 12
+-- at 117, and form `4`, 12 at 141, while `f` and form `3` are accepted.
 abbrev pub versions : Sample
 versions =
     record {
@@ -212,8 +214,49 @@ versions =
           (tally 4 4);
     }
 
+-- a record with CR and LF behind it
+abbrev pub withLineEnd : List ℕ → Step
+withLineEnd rec = taking (inForm true rec)
+
+-- a lined file, whose header decides: a payment with CR and LF is accepted; one without, with CR alone, with LF and CR
+-- or with one byte more is not, 22 at 151 or 1; then the last one, sent again with its line end, is. The trailer too
+-- must have its line end, and its figures come first: 13, 14, 22. An A of 150 bytes is 9 there.
+abbrev pub lined : Sample
+lined =
+    record {
+      steps =
+          withLineEnd header ∷ withLineEnd (payment 109) ∷ taking (payment 5) ∷ taking (payment 5 ++ (13 ∷ []))
+          ∷ taking (payment 5 ++ (10 ∷ 13 ∷ [])) ∷ taking (payment 5 ++ (13 ∷ 10 ∷ 13 ∷ []))
+          ∷ withLineEnd (payment 5) ∷ taking header ∷ withLineEnd header
+          ∷ taking (trailer 3 114) ∷ taking (trailer 4 109) ∷ taking (trailer 4 114) ∷ withLineEnd (trailer 4 114) ∷ [];
+      outcome =
+          oneLane
+          (accepted ∷ accepted ∷ refused 22 151 ∷ refused 22 151 ∷ refused 22 151 ∷ refused 1 0 ∷ accepted
+          ∷ refused 9 1 ∷ refused 9 1 ∷ refused 13 2 ∷ refused 14 8 ∷ refused 22 151 ∷ accepted ∷ [])
+          (tally 2 114);
+    }
+
+-- lengths where a header is expected, and in a bare file: an A of 151 bytes or of 152 that end otherwise is 1, 152
+-- bytes that end in CR and LF and start with G are 9; in the bare file behind it a payment with CR and LF is 1. After
+-- its trailer a lined file may come, and an abandoned one leaves no form behind.
+abbrev pub bare : Sample
+bare =
+    record {
+      steps =
+          taking (header ++ (13 ∷ [])) ∷ taking (header ++ (13 ∷ 13 ∷ [])) ∷ withLineEnd (payment 109) ∷ taking header
+          ∷ withLineEnd (payment 109) ∷ taking (payment 109 ++ (13 ∷ [])) ∷ taking (payment 109)
+          ∷ withLineEnd (trailer 3 109) ∷ taking (trailer 3 109)
+          ∷ withLineEnd header ∷ withLineEnd (payment 1) ∷ withLineEnd (trailer 3 1)
+          ∷ withLineEnd header ∷ abandoning ∷ taking header ∷ taking (trailer 2 0) ∷ [];
+      outcome =
+          oneLane
+          (refused 1 0 ∷ refused 1 0 ∷ refused 9 1 ∷ accepted ∷ refused 1 0 ∷ refused 1 0 ∷ accepted ∷ refused 1 0
+          ∷ accepted ∷ accepted ∷ accepted ∷ accepted ∷ accepted ∷ accepted ∷ accepted ∷ [])
+          (tally 2 110);
+    }
+
 abbrev pub samples : List Sample
-samples = worked ∷ past ∷ again ∷ left ∷ astray ∷ empty ∷ ordered ∷ crowded ∷ versions ∷ []
+samples = worked ∷ past ∷ again ∷ left ∷ astray ∷ empty ∷ ordered ∷ crowded ∷ versions ∷ lined ∷ bare ∷ []
 
 -- Promise: each sample has its stated outcome.
 abbrev pub Hold : List Sample → Type 0

@@ -1,6 +1,6 @@
 -- A whole file: when a session takes all its records, and what it then shows. Assumes nothing.
 use Prim.Native.Nat.{ℕ, _+_, _≤_}
-use mathlib.Core.Bool.{false}
+use mathlib.Core.Bool.{Bool, false}
 use mathlib.Core.List.{List, [], _∷_, _++_, map}
 use mathlib.Core.Logic.{_↔_}
 use mathlib.Core.Path.{_≡_}
@@ -15,6 +15,7 @@ use Rattle.layout.specs.Layouts.{namedBy}
 use Rattle.record.specs.Records.{recordAnswer}
 use Rattle.kinds.specs.Terms.{Terms}
 use Rattle.record.specs.Values.{versionIn, paymentShown, trailerShown}
+use Rattle.file.specs.Forms.{inForm, bodyOf, hasLineEnd}
 use Rattle.file.specs.Files.{mostPayments, mostCentavos, freshFile, fileAnswers}
 use Rattle.board.specs.Lanes.{mostLanes, lanesFrom}
 use Rattle.board.specs.Boards.{postAnswers, boardWithAll}
@@ -33,8 +34,15 @@ pub record Whole (a : List ℕ) (recs : List (List ℕ)) (z : List ℕ) : Type 0
   pub payments : Each (IsRight (headerTerms a) Payment) recs
   pub trailer : IsRight (headerTerms a) Trailer z
 
-abbrev pub fileOf : List ℕ → List (List ℕ) → List ℕ → List Step
-fileOf a recs z = taking a ∷ (map taking recs ++ (taking z ∷ []))
+-- a file's records, and the file in either form: each record taken with what follows it
+abbrev pub recordsOf : List ℕ → List (List ℕ) → List ℕ → List (List ℕ)
+recordsOf a recs z = a ∷ (recs ++ (z ∷ []))
+
+abbrev pub allInForm : Bool → List (List ℕ) → List (List ℕ)
+allInForm lined recs = map (inForm lined) recs
+
+abbrev pub fileOf : Bool → List ℕ → List (List ℕ) → List ℕ → List Step
+fileOf lined a recs z = map taking (allInForm lined (recordsOf a recs z))
 
 abbrev pub receivedEach : List (List ℕ) → List ℕ
 receivedEach recs = map (λ (rec : List ℕ). paymentShown rec .received) recs
@@ -48,44 +56,47 @@ AllAccepted answers = Each (λ (a : Answer). a ≡ Accepted) answers
 
 -- Promises.
 
--- of any session with no file open: a file is accepted exactly if none of its payments is refused 15 to 18 and its
--- trailer is true; the board then has them all
+-- of any session with no file open: a file, lined or bare, is accepted exactly if none of its payments is refused 15 to
+-- 18 and its trailer is true; the board then has them all
 abbrev pub FileAccepted : Type 0
 FileAccepted =
-    (s : Session) (a : List ℕ) (recs : List (List ℕ)) (z : List ℕ) → s .opened ≡ false → Whole a recs z
-    → AllAccepted (answersOf s (fileOf a recs z))
-    ↔ ((fileAnswers (freshFile (versionIn a)) (receivedEach recs) ≡ Accepted)
+    (s : Session) (lined : Bool) (a : List ℕ) (recs : List (List ℕ)) (z : List ℕ) → s .opened ≡ false → Whole a recs z
+    → AllAccepted (answersOf s (fileOf lined a recs z))
+    ↔ ((fileAnswers (freshFile (versionIn a) lined) (receivedEach recs) ≡ Accepted)
     × (postAnswers (s .shown) (lanesOfRecords recs) ≡ Accepted) × TrueFigures recs z)
 
 abbrev pub FilePosted : Type 0
 FilePosted =
-    (s : Session) (a : List ℕ) (recs : List (List ℕ)) (z : List ℕ) → s .opened ≡ false → Whole a recs z
-    → AllAccepted (answersOf s (fileOf a recs z))
-    → sessionAfter s (fileOf a recs z) ≡ closedAt (boardWithAll (s .shown) (lanesOfRecords recs))
+    (s : Session) (lined : Bool) (a : List ℕ) (recs : List (List ℕ)) (z : List ℕ) → s .opened ≡ false → Whole a recs z
+    → AllAccepted (answersOf s (fileOf lined a recs z))
+    → sessionAfter s (fileOf lined a recs z) ≡ closedAt (boardWithAll (s .shown) (lanesOfRecords recs))
 
--- of any session with no file open: an A, Gs and a Z that are all accepted are right under the version that the A names
+-- of any session with no file open: an A, Gs and a Z that are all accepted, with whatever follows each, are right under
+-- the version that the A names, and all of the A's form
 abbrev pub AcceptedFileIsWhole : Type 0
 AcceptedFileIsWhole =
     (s : Session) (a : List ℕ) (recs : List (List ℕ)) (z : List ℕ) → s .opened ≡ false
     → Each (λ (rec : List ℕ). namedBy (getD rec 0 0) ≡ Is Payment) recs → namedBy (getD z 0 0) ≡ Is Trailer
-    → AllAccepted (answersOf s (fileOf a recs z)) → Whole a recs z
+    → AllAccepted (answersOf s (map taking (recordsOf a recs z)))
+    → Whole (bodyOf a) (map bodyOf recs) (bodyOf z)
+    × (recordsOf a recs z ≡ allInForm (hasLineEnd a) (recordsOf (bodyOf a) (map bodyOf recs) (bodyOf z)))
 
 -- a fresh session accepts a file exactly if it is within its limits, names at most 64 issuers and its trailer is true
 abbrev pub FreshSessionAccepts : Type 0
 FreshSessionAccepts =
-    (a : List ℕ) (recs : List (List ℕ)) (z : List ℕ) → Whole a recs z
-    → AllAccepted (answersOf freshSession (fileOf a recs z))
+    (lined : Bool) (a : List ℕ) (recs : List (List ℕ)) (z : List ℕ) → Whole a recs z
+    → AllAccepted (answersOf freshSession (fileOf lined a recs z))
     ↔ ((length recs ≤ mostPayments) × (receivedIn recs ≤ mostCentavos)
     × (length (lanesFrom (lanesOfRecords recs)) ≤ mostLanes) × TrueFigures recs z)
 
 -- and then shows its payments
 abbrev pub FreshSessionShows : Type 0
 FreshSessionShows =
-    (a : List ℕ) (recs : List (List ℕ)) (z : List ℕ) → Whole a recs z
-    → AllAccepted (answersOf freshSession (fileOf a recs z))
-    → (shownLanes (fileOf a recs z) ≡ lanesFrom (lanesOfRecords recs))
-    × (reached (fileOf a recs z) .shown .total ≡ record { payments = length recs; centavos = receivedIn recs })
-    × (reached (fileOf a recs z) .opened ≡ false)
+    (lined : Bool) (a : List ℕ) (recs : List (List ℕ)) (z : List ℕ) → Whole a recs z
+    → AllAccepted (answersOf freshSession (fileOf lined a recs z))
+    → (shownLanes (fileOf lined a recs z) ≡ lanesFrom (lanesOfRecords recs))
+    × (reached (fileOf lined a recs z) .shown .total ≡ record { payments = length recs; centavos = receivedIn recs })
+    × (reached (fileOf lined a recs z) .opened ≡ false)
 
 -- an accepted file of a ledger: whole, within a file's limits, its trailer true
 pub record SoundFile (f : Filed) : Type 0 where

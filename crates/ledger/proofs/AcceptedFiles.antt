@@ -1,0 +1,113 @@
+-- What is accepted is right by itself, was expected, and has the form of its file. Assumes nothing.
+use Prim.Native.Nat.{ℕ}
+use mathlib.Core.Bool.{Bool, true, false, not}
+use mathlib.Core.List.{List, [], _∷_, _++_, map}
+use mathlib.Core.Path.{_≡_, refl, sym, ap, ap₂, _∙_}
+use lib.ListN.{length, getD}
+use Rattle.answer.specs.declared.Reason.the-variants.{WrongLength, NotExpected}
+use Rattle.answer.specs.declared.Answer.{Answer}
+use Rattle.answer.specs.declared.Answer.the-variants.{Accepted, Refused}
+use Rattle.answer.specs.Orders.{Each}
+use Rattle.answer.proofs.Orders.{then-accepts, accepted-takes}
+use Rattle.answer.proofs.Steps.{passed}
+use Rattle.answer.proofs.Tests.{never, unequal}
+use Rattle.layout.specs.declared.MaybeRecord.{MaybeRecord}
+use Rattle.layout.specs.declared.MaybeRecord.the-variants.{Is, Other}
+use Rattle.layout.specs.declared.Record.{Record}
+use Rattle.layout.specs.declared.Record.the-variants.{Header, Payment, Trailer}
+use Rattle.layout.specs.Layouts.{recordLength, namedBy}
+use Rattle.kinds.specs.Terms.{Terms}
+use Rattle.record.specs.Records.{recordAnswer}
+use Rattle.record.specs.Values.{versionIn, recordShown, shownUnlessRefused}
+use Rattle.file.specs.Forms.{inForm, bodyOf, hasLineEnd, fitsLength, endAnswer, formOf}
+use Rattle.file.proofs.Forms.{first-in, fitting-is-in-form}
+use Rattle.session.specs.declared.Session.{Session}
+use Rattle.session.specs.declared.TakeResult.{TakeResult}
+use Rattle.session.specs.Sessions.{openedAt, sessionTerms, sessionExpects, sessionWithPayment, sessionAnswer, sessionWith, takeAnswer, takeOf}
+use Rattle.ledger.specs.Ledgers.{laneOfRecord, headerTerms, taking}
+use Rattle.ledger.specs.Promises.{answersOf}
+use Rattle.ledger.specs.WholeFiles.{IsRight, allInForm, AllAccepted, AcceptedFileIsWhole}
+use Rattle.ledger.proofs.WholeFiles.{taken, right-under-any-terms}
+
+accepted-by-itself : (s : Session) (a : Answer) (n : MaybeRecord) (rec : List ℕ) → sessionAnswer s (shownUnlessRefused a (recordShown n rec)) ≡ Accepted → a ≡ Accepted
+accepted-by-itself s Accepted n rec e = refl
+accepted-by-itself s (Refused why p) n rec e = e
+
+-- a record that was accepted, with whatever follows it
+pub record TakenRight (s : Session) (rec : List ℕ) : Type 0 where
+  pub own : recordAnswer (sessionTerms s) (bodyOf rec) ≡ Accepted
+  pub state : sessionAnswer s (shownUnlessRefused (recordAnswer (sessionTerms s) (bodyOf rec)) (recordShown (namedBy (getD (bodyOf rec) 0 0)) (bodyOf rec))) ≡ Accepted
+  pub expected : sessionExpects (s .opened) (namedBy (getD rec 0 0)) ≡ true
+  pub long : length (bodyOf rec) ≡ recordLength
+  pub form : rec ≡ inForm (formOf (s .opened) (s .file .lined) rec) (bodyOf rec)
+
+pub taken-right : (s : Session) (rec : List ℕ) → takeAnswer s rec ≡ Accepted → TakenRight s rec
+taken-right s rec e =
+    let body = bodyOf rec in
+    let own = recordAnswer (sessionTerms s) body in
+    let shown = recordShown (namedBy (getD body 0 0)) body in
+    let fits = passed (fitsLength (s .opened) (s .file .lined) rec) WrongLength 0 e in
+    let met = passed (sessionExpects (s .opened) (namedBy (getD rec 0 0))) NotExpected 1 (fits .1) in
+    let both = then-accepts (sessionAnswer s (shownUnlessRefused own shown)) (endAnswer (s .opened) (s .file .lined) rec) .0 (met .1) in
+    let form = fitting-is-in-form (s .opened) (s .file .lined) rec .0 (fits .0, both .1) in
+    record {
+      own = accepted-by-itself s own (namedBy (getD body 0 0)) body (both .0);
+      state = both .0;
+      expected = met .0;
+      long = form .0;
+      form = form .1;
+    }
+
+header-expected : (m : MaybeRecord) → sessionExpects false m ≡ true → m ≡ Is Header
+header-expected (Is Header) e = refl
+header-expected (Is Payment) e = never e
+header-expected (Is Trailer) e = never e
+header-expected Other e = never e
+
+-- the record in what was taken, by its kind
+right-body : (s : Session) (r : Record) (rec : List ℕ) → TakenRight s rec → namedBy (getD rec 0 0) ≡ Is r → IsRight (sessionTerms s) r (bodyOf rec)
+right-body s r rec h n = (h .own, ap namedBy (first-in rec) ∙ n)
+
+-- in an open file of this form, under these terms: payments that are accepted keep it open, the terms and the form
+rest-right : (t : Terms) (lined : Bool) (z : List ℕ) → namedBy (getD z 0 0) ≡ Is Trailer → (recs : List (List ℕ)) (s : Session)
+    → Each (λ (rec : List ℕ). namedBy (getD rec 0 0) ≡ Is Payment) recs → s .opened ≡ true → s .file .lined ≡ lined → sessionTerms s ≡ t
+    → AllAccepted (answersOf s (map taking (recs ++ (z ∷ []))))
+    → Each (IsRight t Payment) (map bodyOf recs) × IsRight t Trailer (bodyOf z)
+    × (recs ++ (z ∷ []) ≡ allInForm lined (map bodyOf recs ++ (bodyOf z ∷ [])))
+rest-right t lined z last [] s h opened form terms e =
+    let own = taken-right s z (e .0) in
+    let in-form : z ≡ inForm lined (bodyOf z) = rw (opened, form) at (own .form) in
+    (tt, rw terms at (right-body s Trailer z own last), ap (λ (l : List ℕ). l ∷ []) in-form)
+rest-right t lined z last (rec ∷ recs) s h opened form terms e =
+    let own = taken-right s rec (e .0) in
+    let body = bodyOf rec in
+    let right = right-body s Payment rec own (h .0) in
+    let in-form : rec ≡ inForm lined body = rw (opened, form) at (own .form) in
+    let takes = ap (takeOf s) in-form ∙ taken s lined Payment body right opened (λ x. sym form) in
+    let accepts : sessionAnswer s (recordShown (Is Payment) body) ≡ Accepted = sym (ap (λ (x : TakeResult). x .answer) takes) ∙ e .0 in
+    let next : takeOf s rec .session ≡ sessionWithPayment s (laneOfRecord body) =
+    ap (λ (x : TakeResult). x .session) takes
+    ∙ accepted-takes (sessionAnswer s (recordShown (Is Payment) body)) (sessionWith s lined (recordShown (Is Payment) body)) s accepts in
+    let later = rest-right t lined z last recs (sessionWithPayment s (laneOfRecord body)) (h .1) opened form terms (rw next at (e .1)) in
+    ((rw terms at right, later .0), later .1, ap₂ (λ (x : List ℕ) (l : List (List ℕ)). x ∷ l) in-form (later .2))
+
+pub accepted-file-is-whole : AcceptedFileIsWhole
+accepted-file-is-whole s a recs z closed payments last e =
+    let own = taken-right s a (e .0) in
+    let body = bodyOf a in
+    let lined = hasLineEnd a in
+    let named : namedBy (getD a 0 0) ≡ Is Header = header-expected (namedBy (getD a 0 0)) (rw closed at (own .expected)) in
+    let right = right-body s Header a own named in
+    let in-form : a ≡ inForm lined body = rw closed at (own .form) in
+    let start = openedAt (s .shown) (versionIn body) lined in
+    let takes : takeOf s a ≡ record { answer = Accepted; session = start } =
+    ap (takeOf s) in-form ∙ taken s lined Header body right (ap not closed) (λ x. unequal x closed) in
+    let next : takeOf s a .session ≡ start = ap (λ (x : TakeResult). x .session) takes in
+    let later = rest-right (headerTerms body) lined z last recs start payments refl refl refl (rw next at (e .1)) in (
+      record {
+        header = right-under-any-terms (sessionTerms s) (headerTerms body) Header body refl right;
+        payments = later .0;
+        trailer = later .1;
+      },
+      ap₂ (λ (x : List ℕ) (l : List (List ℕ)). x ∷ l) in-form (later .2),
+    )
