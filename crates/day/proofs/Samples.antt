@@ -1,4 +1,4 @@
--- The worked input, without its trailer, and behind a refusal, by computation. Assumes nothing.
+-- The worked input, without its trailer, with line ends, and behind a refusal, by computation. Assumes nothing.
 use mathlib.Core.Path.{refl}
 use Rattle.decimal.specs.Bytes.{isOf}
 use Rattle.decimal.specs.Numbers.{valueOf, digitsOf}
@@ -10,18 +10,19 @@ use Rattle.kinds.specs.Terms.{termsAnswer}
 use Rattle.kinds.specs.Kinds.{isVersionText, isService, dateAnswer, isCapture, isForm, kindAnswer}
 use Rattle.record.specs.Records.{fieldAnswer, recordAnswer}
 use Rattle.file.specs.Files.{fileAnswer, figuresAnswer}
+use Rattle.file.specs.Forms.{hasLineEnd, fitsLength, endAnswer}
 use Rattle.board.specs.Lanes.{fits}
 use Rattle.board.specs.Boards.{ownOf, usedAfter, slotAnswer}
 use Rattle.page.specs.Plain.{neededIn}
 use Rattle.page.specs.Pages.{numberLine, issuerLine, tallyLines, laneLines, headLines}
-use Rattle.day.specs.Samples.{WorkedInput, OpenInput, RefusedInput}
+use Rattle.day.specs.Samples.{WorkedInput, OpenInput, LinedInput, RefusedInput}
 
-all : WorkedInput × OpenInput × RefusedInput
+all : WorkedInput × OpenInput × LinedInput × RefusedInput
 unfolding recordAnswer termsAnswer fieldAnswer kindAnswer isVersionText isService dateAnswer isCapture isForm namedBy layoutOf table rowAt
-    figuresAnswer fileAnswer fits ownOf usedAfter slotAnswer firstThreeAnswer generalRight
+    hasLineEnd fitsLength endAnswer figuresAnswer fileAnswer fits ownOf usedAfter slotAnswer firstThreeAnswer generalRight
     termOf addedBy digitOfRemainder dateOf isDate daysIn isLeap digitsOf valueOf isOf
     neededIn numberLine issuerLine tallyLines laneLines headLines
-all = (refl, refl, refl)
+all = (refl, refl, (refl, refl, refl, refl, refl), refl)
 
 pub worked-input : WorkedInput
 worked-input = all .0
@@ -29,5 +30,8 @@ worked-input = all .0
 pub open-input : OpenInput
 open-input = all .1
 
+pub lined-input : LinedInput
+lined-input = all .2
+
 pub refused-input : RefusedInput
-refused-input = all .2
+refused-input = all .3

@@ -1,10 +1,13 @@
--- A full buffer is whole records, and a run counts no more records and files than it has bytes. Assumes nothing.
-use Prim.Native.Nat.{ℕ, zero, suc, _≤_, _<_}
-use mathlib.Core.List.{List, [], _∷_}
-use mathlib.Core.Path.{_≡_, refl, ap}
+-- A run counts no more records, files and bytes than it has bytes, and what the program's steps over a buffer return.
+-- Assumes nothing.
+use Prim.Native.Nat.{ℕ, zero, suc, _+_, _-_, _≤_, _<_}
+use mathlib.Core.Bool.{Bool, true, false, cond}
+use mathlib.Core.List.{List, [], _∷_, _++_}
+use mathlib.Core.Path.{_≡_, sym, ap, ap₂, subst, _∙_}
 use native.Mathlib.Omega.{arith}
-use lib.ListN.{length, getD, take, drop}
-use lib.Seq.{length-take-le}
+use lib.Dec.{ltb}
+use lib.ListN.{length, getD, take, drop, set, length-drop}
+use lib.Seq.{length-take-le, take-suc, take-suc-set, drop-set-lt, drop-drop, getD-drop}
 use Rattle.answer.specs.declared.Reason.{Reason}
 use Rattle.answer.specs.declared.Answer.{Answer}
 use Rattle.answer.specs.declared.Answer.the-variants.{Accepted, Refused}
@@ -12,20 +15,21 @@ use Rattle.answer.specs.Orders.{_then_}
 use Rattle.layout.specs.declared.MaybeRecord.{MaybeRecord}
 use Rattle.layout.specs.declared.MaybeRecord.the-variants.{Is, Other}
 use Rattle.layout.specs.declared.Record.the-variants.{Header, Payment, Trailer}
-use Rattle.layout.specs.Layouts.{recordLength, namedBy}
-use Rattle.record.specs.Values.{decodedRecord}
+use Rattle.layout.specs.Layouts.{namedBy}
 use Rattle.session.specs.declared.Session.{Session}
 use Rattle.session.specs.declared.TakeResult.{TakeResult}
 use Rattle.session.specs.declared.RunResult.{RunResult}
-use Rattle.session.specs.Sessions.{sessionTerms, takeAnswer, sessionWith, finishOf}
-use Rattle.session.specs.Runs.{piecesUpTo, piecesOf, filesClosed, addCounts, stoppedIfRefused, runAll, runOf}
+use Rattle.session.specs.Sessions.{takeAnswer, nextSession, takeOf, finishOf}
+use Rattle.session.specs.Runs.{pieceLength, pieceOf, leastLeft, piecesUpTo, piecesOf, filesClosed, addCounts, stoppedIfRefused, runAll, runOf}
 use Rattle.day.specs.Days.{runBufferOf, endedOf}
+use Rattle.day.proofs.Inputs.{taken-within}
 use Rattle.quadro.specs.declared.BufferRead.{BufferRead}
 use Rattle.quadro.specs.declared.BufferRead.the-variants.{Ended}
-use Rattle.quadro.specs.Buffers.{FullBufferIsWhole, Counted, EndsBelow}
+use Rattle.quadro.specs.Buffers.{Counted, EndsBelow}
 
-pub full-buffer-is-whole : FullBufferIsWhole
-full-buffer-is-whole = refl
+-- at most n records and n files
+abbrev Few : ℕ → RunResult → Type 0
+Few n r = (r .records ≤ n) × (r .files ≤ n)
 
 closed-few : (n : MaybeRecord) → filesClosed n ≤ 1
 closed-few (Is Header) = omega arith
@@ -34,46 +38,58 @@ closed-few (Is Trailer) = omega arith
 closed-few Other = omega arith
 
 one-more :
-    (a : Answer) (s : Session) (closed n : ℕ) (next : RunResult) → closed ≤ 1 → Counted n next
-    → Counted (suc n) (stoppedIfRefused a s (addCounts 1 closed next))
-one-more Accepted s closed n next h c = (omega arith, omega arith)
-one-more (Refused why place) s closed n next h c = (omega arith, omega arith)
+    (a : Answer) (s : Session) (closed size n : ℕ) (next : RunResult) → closed ≤ 1 → Few n next
+    → Few (suc n) (stoppedIfRefused a s (addCounts 1 closed size next))
+one-more Accepted s closed size n next h c = (omega arith, omega arith)
+one-more (Refused why place) s closed size n next h c = (omega arith, omega arith)
 
-all-few : (s : Session) (rs : List (List ℕ)) → Counted (length rs) (runAll s rs)
+all-few : (s : Session) (rs : List (List ℕ)) → Few (length rs) (runAll s rs)
 all-few s [] = (omega arith, omega arith)
 all-few s (r ∷ rs) =
     let named = namedBy (getD r 0 0) in
-    let next = sessionWith s (decodedRecord (sessionTerms s) r) in
-    one-more (takeAnswer s r) s (filesClosed named) (length rs) (runAll next rs) (closed-few named) (all-few next rs)
+    let next = nextSession s r in
+    one-more (takeAnswer s r) s (filesClosed named) (length r) (length rs) (runAll next rs) (closed-few named) (all-few next rs)
 
-pieces-few : (n : ℕ) (bytes : List ℕ) → length (piecesUpTo n bytes) ≤ n
-pieces-few zero bytes = omega arith
-pieces-few (suc n) [] = omega arith
-pieces-few (suc n) (b ∷ bytes) = let h = pieces-few n (drop recordLength (b ∷ bytes)) in omega arith
+pieces-few : (n : ℕ) (s : Session) (more : Bool) (bytes : List ℕ) → length (piecesUpTo n s more bytes) ≤ n
+pieces-few zero s more bytes = omega arith
+pieces-few (suc n) s more bytes =
+    go (ltb (length bytes) (leastLeft more)) (piecesUpTo n next more left) (pieces-few n next more left)
+  where
+    next : Session
+    next = takeOf s (pieceOf s bytes) .session
 
-pub run-few : (s : Session) (bytes : List ℕ) → Counted (length bytes) (runOf s bytes)
-run-few s bytes =
-    let all = all-few s (piecesOf bytes) in
-    let few = pieces-few (length bytes) bytes in
-    (omega (arith, all .0), omega (arith, all .1))
+    left : List ℕ
+    left = drop (pieceLength s bytes) bytes
+
+    go : (t : Bool) (later : List (List ℕ)) → length later ≤ n → length (cond t [] (pieceOf s bytes ∷ later)) ≤ suc n
+    go true later h = omega arith
+    go false later h = omega arith
+
+run-few : (s : Session) (more : Bool) (bytes : List ℕ) → Counted (length bytes) (runOf s more bytes)
+run-few s more bytes =
+    let all = all-few s (piecesOf s more bytes) in
+    let few = pieces-few (length bytes) s more bytes in
+    (omega (arith, all .0), omega (arith, all .1), taken-within s more bytes)
 
 -- What the program's steps return.
 
-pub counted : (s : Session) (bytes : List ℕ) {r : RunResult} → r ≡ runOf s bytes → Counted (length bytes) r
-counted s bytes e = rw e (run-few s bytes)
-
 -- the first n bytes of a buffer
 pub few-run :
-    (s : Session) (buf : List ℕ) (n : ℕ) {r : RunResult} → n ≤ length buf → r ≡ runOf s (take n buf) → Counted n r
-few-run s buf n h e = rw (length-take-le n buf h) at (counted s (take n buf) e)
+    (s : Session) (more : Bool) (buf : List ℕ) (n : ℕ) {r : RunResult} → n ≤ length buf → r ≡ runOf s more (take n buf)
+    → Counted n r
+few-run s more buf n h e =
+    let few = run-few s more (take n buf) in
+    let l = length-take-le n buf h in
+    rw e (omega (arith, few .0), omega (arith, few .1), omega (arith, few .2))
 
 pub run-behind :
-    (day : RunResult) (bytes : List ℕ) {r : RunResult} → r ≡ runOf (day .session) bytes
-    → addCounts (day .records) (day .files) r ≡ runBufferOf day bytes
-run-behind day bytes e = ap (addCounts (day .records) (day .files)) e
+    (day : RunResult) (more : Bool) (bytes : List ℕ) {r : RunResult} → r ≡ runOf (day .session) more bytes
+    → addCounts (day .records) (day .files) (day .bytes) r ≡ runBufferOf day more bytes
+run-behind day more bytes e = ap (addCounts (day .records) (day .files) (day .bytes)) e
 
 abbrev answered : RunResult → Answer → RunResult
-answered day a = record { answer = a; session = day .session; records = day .records; files = day .files }
+answered day a =
+    record { answer = a; session = day .session; records = day .records; files = day .files; bytes = day .bytes }
 
 pub ended-refused :
     (day : RunResult) {why : Reason} {place : ℕ} → day .answer ≡ Refused why place → day ≡ endedOf day
@@ -89,3 +105,34 @@ ended-accepted day e f = rw (e, f)
 -- if the input ended, the buffer is not full
 pub ended : {r : BufferRead} {k n : ℕ} → r ≡ Ended k → EndsBelow n r → k < n
 ended e w = rw e at w
+
+-- the bytes behind the first `kept`, as the code passes them
+pub ends-behind :
+    (buf : List ℕ) (kept : ℕ) (r : BufferRead) → EndsBelow (length (take (length buf - kept) (drop kept buf))) r
+    → EndsBelow (length buf - kept) r
+ends-behind buf kept r w =
+    subst (λ (n : ℕ). EndsBelow n r)
+    (length-take-le (length buf - kept) (drop kept buf) (omega (arith, length-drop kept buf))) w
+
+-- Bytes that are moved to the front, one by one: n bytes are there, and those behind them are as before.
+module _ (entry buf : List ℕ) (from n : ℕ) (inside : from + n < length entry) (same : length buf ≡ length entry)
+    (moved : take n buf ≡ take n (drop from entry)) (behind : drop n buf ≡ drop n entry) where
+  next-byte : getD buf (from + n) 0 ≡ getD (drop from entry) n 0
+  next-byte =
+      let at : from + n ≡ n + from = omega arith in
+      ap (λ (k : ℕ). getD buf k 0) at ∙ sym (getD-drop n buf from 0) ∙ ap (λ (l : List ℕ). getD l from 0) behind
+      ∙ getD-drop n entry from 0 ∙ ap (λ (k : ℕ). getD entry k 0) (sym at) ∙ sym (getD-drop from entry n 0)
+
+  pub moved-on : take (n + 1) (set buf n (getD buf (from + n) 0)) ≡ take (n + 1) (drop from entry)
+  moved-on =
+      let one : n + 1 ≡ suc n = omega arith in
+      let l = length-drop from entry in
+      rw one
+      (take-suc-set buf n (getD buf (from + n) 0) (omega (arith, inside, same))
+      ∙ ap₂ (λ (l : List ℕ) (b : ℕ). l ++ (b ∷ [])) moved next-byte
+      ∙ sym (take-suc (drop from entry) n 0 (omega (arith, inside, l))))
+
+  pub behind-on : drop (n + 1) (set buf n (getD buf (from + n) 0)) ≡ drop (n + 1) entry
+  behind-on =
+      drop-set-lt (n + 1) buf n (getD buf (from + n) 0) (omega arith)
+      ∙ sym (drop-drop 1 n buf) ∙ ap (drop 1) behind ∙ drop-drop 1 n entry

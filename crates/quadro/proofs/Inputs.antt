@@ -1,36 +1,36 @@
--- The buffers that were run are one input, and its page is printed. Assumes nothing.
-use Prim.Native.Nat.{ℕ, _+_, _%_}
-use mathlib.Core.Bool.{true, false}
-use mathlib.Core.List.{List, [], _∷_, _++_}
+-- The turns run one input, and its page is printed. Assumes nothing.
+use Prim.Native.Nat.{ℕ, _+_, _-_, _*_, _^_, _≤_}
+use mathlib.Core.Bool.{Bool, true, false}
+use mathlib.Core.List.{List, [], _++_, append-nil}
 use mathlib.Core.Logic.{_⊎_, inl, inr}
-use mathlib.Core.Path.{_≡_, refl, sym, ap, _∙_}
+use mathlib.Core.Path.{_≡_, refl, sym, ap, ap₂, subst, _∙_}
+use native.Mathlib.Nat.{add-zero}
 use native.Mathlib.Omega.{arith}
-use lib.ListN.{length, take, length-append}
-use lib.Seq.{length-take-le}
+use lib.ListN.{length, take, drop, length-append, length-take, length-drop, take-append-drop}
+use lib.Seq.{take-all, take-add}
 use Rattle.answer.specs.declared.Answer.{Answer}
 use Rattle.answer.specs.declared.Answer.the-variants.{Accepted, Refused}
 use Rattle.answer.specs.Refusals.{answerNumber, answerPlace}
-use Rattle.answer.specs.Orders.{Each}
-use Rattle.answer.proofs.Orders.{accepted-takes}
-use Rattle.layout.specs.Layouts.{recordLength}
+use Rattle.answer.proofs.Orders.{not-both}
 use Rattle.session.specs.declared.RunResult.{RunResult}
+use Rattle.session.specs.Runs.{runOf}
+use Rattle.session.proofs.Feeding.{run-leaves-few}
 use Rattle.page.specs.declared.PrintResult.{PrintResult}
 use Rattle.page.specs.Pages.{pageOf, pageLength, printResultOf, bytesWith}
 use Rattle.page.proofs.Pages.{printed-holds}
-use Rattle.ledger.specs.Runs.{bytesOf}
-use Rattle.day.specs.Days.{freshDay, runBufferOf, endedOf}
-use Rattle.day.specs.Inputs.{pageOfDay, runUntilRefused}
-use Rattle.day.proofs.Inputs.{until-refused}
+use Rattle.day.specs.Days.{freshDay, runBufferOf, leftOf, endedOf}
+use Rattle.day.specs.Inputs.{pageOfDay}
+use Rattle.day.proofs.Inputs.{left-then, accepted-then, refused-then}
 use Rattle.quadro.specs.declared.BufferRead.{BufferRead}
 use Rattle.quadro.specs.declared.BufferRead.the-variants as buffer
 use Rattle.quadro.specs.declared.TurnEnd.{TurnEnd}
 use Rattle.quadro.specs.declared.TurnEnd.the-variants as turn
 use Rattle.quadro.specs.declared.TurnResult.{TurnResult}
-use Rattle.quadro.specs.Buffers.{bufferLength, EndsBelow}
-use Rattle.quadro.specs.Turns.{hasMore, moreUnlessRefused, turnOf, turnWith, TurnOf}
-use Rattle.quadro.specs.Inputs.{runBuffersOf, FullAndAccepted, mostBuffers}
-use Rattle.quadro.specs.Inputs.{InputRun, DayOfInput, OverIsTheInputs}
+use Rattle.quadro.specs.Buffers.{bufferLength, mostKept, EndsBelow}
+use Rattle.quadro.specs.Turns.{hasMore, turnWith, moreUnlessRefused, turnOf, TurnOf, TurnRun}
+use Rattle.quadro.specs.Inputs.{Fed, InputRun, DayOfInput, OverIsTheInputs}
 use Rattle.quadro.proofs.Buffers.{ended-refused}
+use Rattle.quadro.proofs.Turns.{more-ran}
 
 abbrev answerOf : RunResult → Answer
 answerOf r = r .answer
@@ -41,157 +41,188 @@ endOf t = t .end
 abbrev dayOf : TurnResult → RunResult
 dayOf t = t .day
 
--- Full buffers, each accepted, and any last one are one run.
+-- The bytes that follow an input, run behind what it left, are run as a part of it.
+module _ {start day : RunResult} {input left : List ℕ} (fed : Fed start input day left) (new bytes : List ℕ)
+    (e : bytes ≡ left ++ new) where
+  before-accepted : runBufferOf start true input .answer ≡ Accepted
+  before-accepted = ap answerOf (sym (fed .is)) ∙ fed .accepted
 
-all-whole :
-    (day : RunResult) (bs : List (List ℕ)) → FullAndAccepted day bs
-    → Each (λ (b : List ℕ). length b % recordLength ≡ 0) bs
-all-whole day [] f = tt
-all-whole day (b ∷ bs) f = (omega (arith, f .0), all-whole (runBufferOf day b) bs (f .2))
+  behind-left : bytes ≡ leftOf (start .session) input ++ new
+  behind-left = e ∙ ap (λ (l : List ℕ). l ++ new) (fed .unrun)
 
-none-refused :
-    (day : RunResult) (bs : List (List ℕ)) (last : List ℕ) → FullAndAccepted day bs
-    → runUntilRefused day bs last ≡ runBufferOf (runBuffersOf day bs) last
-none-refused day [] last f = refl
-none-refused day (b ∷ bs) last f =
-    let ran = runBufferOf day b in
-    accepted-takes (ran .answer) (runUntilRefused ran bs last) ran (f .1) ∙ none-refused ran bs last (f .2)
+  fed-runs : (more : Bool) → runBufferOf day more bytes ≡ runBufferOf start more (input ++ new)
+  fed-runs more =
+      ap₂ (λ (d : RunResult) (l : List ℕ). runBufferOf d more l) (fed .is) behind-left
+      ∙ accepted-then start more input new before-accepted
 
-last-joined :
-    (bs : List (List ℕ)) (last : List ℕ) → FullAndAccepted freshDay bs
-    → runBufferOf (runBuffersOf freshDay bs) last ≡ runBufferOf freshDay (bytesOf bs ++ last)
-last-joined bs last f =
-    sym (none-refused freshDay bs last f) ∙ until-refused freshDay bs last (all-whole freshDay bs f)
+  fed-on : {next : RunResult} → next ≡ runBufferOf day true bytes → next .answer ≡ Accepted
+      → Fed start (input ++ new) next (leftOf (day .session) bytes)
+  fed-on n a =
+      record {
+        is = n ∙ fed-runs true;
+        accepted = a;
+        unrun =
+            ap₂ (λ (d : RunResult) (l : List ℕ). leftOf (d .session) l) (fed .is) behind-left
+            ∙ left-then (start .session) input new before-accepted;
+      }
 
--- One more full buffer.
+-- The loop: the input so far was run and accepted, what it left is at the buffer's front, and with the turns that may
+-- still follow, each of which reads what a full buffer has besides the bytes kept, 2^60 bytes are read.
+pub record Reached (start : RunResult) (turns : ℕ) (t : TurnResult) (buf : List ℕ) : Type 0 where
+  pub input : List ℕ
+  pub fed : Fed start input (t .day) (take (t .kept) buf)
+  pub more : t .end ≡ turn.More
+  pub size : length (take (t .kept) buf) ≡ t .kept
+  pub few : t .kept ≤ mostKept
+  pub long : 2 ^ 60 ≤ length input + turns * (bufferLength - mostKept)
 
-buffers-on : (day : RunResult) (bs : List (List ℕ)) (b : List ℕ)
-    → runBuffersOf day (bs ++ (b ∷ [])) ≡ runBufferOf (runBuffersOf day bs) b
-buffers-on day [] b = refl
-buffers-on day (c ∷ bs) b = buffers-on (runBufferOf day c) bs b
-
-accepted-on :
-    (day : RunResult) (bs : List (List ℕ)) (b : List ℕ) → FullAndAccepted day bs → length b ≡ bufferLength
-    → runBufferOf (runBuffersOf day bs) b .answer ≡ Accepted → FullAndAccepted day (bs ++ (b ∷ []))
-accepted-on day [] b f l a = (l, a, tt)
-accepted-on day (c ∷ bs) b f l a = (f .0, f .1, accepted-on (runBufferOf day c) bs b (f .2) l a)
-
-more-accepted : (a : Answer) → hasMore (moreUnlessRefused a) ≡ true → a ≡ Accepted
-more-accepted Accepted h = refl
-more-accepted (Refused why place) h = let z : _≡_ {A = ℕ} 0 1 = cc in absurd (omega arith)
-
--- a turn that has more ran a full buffer, which was accepted
-module _ (day : RunResult) (bytes : List ℕ) (t : TurnResult) where
-  abbrev ran : RunResult
-  ran = runBufferOf day (take bufferLength bytes)
-
-  more-ran :
-      (read : BufferRead) → t ≡ turnOf day bytes read → hasMore (t .end) ≡ true
-      → (t .day ≡ ran) × (ran .answer ≡ Accepted)
-  more-ran buffer.Full e h =
-      let m : hasMore (moreUnlessRefused (ran .answer)) ≡ true = rw e at h in
-      (ap dayOf e, more-accepted (ran .answer) m)
-  more-ran (buffer.Ended n) e h =
-      let m : false ≡ true = rw e at h in
-      let z : _≡_ {A = ℕ} 0 1 = cc in
-      absurd (omega arith)
-  more-ran buffer.Failed e h =
-      let m : false ≡ true = rw e at h in
-      let z : _≡_ {A = ℕ} 0 1 = cc in
-      absurd (omega arith)
-
--- The loop: so many buffers may still be read, and those before were full and accepted.
-pub record Reached (turns : ℕ) (day : RunResult) : Type 0 where
-  pub buffers : List (List ℕ)
-  pub counted : length buffers + turns ≡ mostBuffers
-  pub accepted : FullAndAccepted freshDay buffers
-  pub is : day ≡ runBuffersOf freshDay buffers
-
-pub reached-none : {day : RunResult} {turns : ℕ} → day ≡ freshDay → turns ≡ mostBuffers → Reached turns day
-reached-none e f = record { buffers = []; counted = omega arith; accepted = tt; is = e }
-
-pub reached-more :
-    {turns left : ℕ} {day : RunResult} (bytes : List ℕ) (t : TurnResult) → left + 1 ≡ turns → Reached turns day
-    → TurnOf day bytes t → hasMore (t .end) ≡ true → Reached left (t .day)
-reached-more {turns} {left} {day} bytes t e r o h =
-    let b = take bufferLength bytes in
-    let m = more-ran day bytes t (o .read) (o .is) h in
-    let same : runBufferOf day b ≡ runBufferOf (runBuffersOf freshDay (r .buffers)) b =
-    ap (λ (d : RunResult). runBufferOf d b) (r .is) in
-    let k = length-append (r .buffers) (b ∷ []) in
-    let n = r .counted in
+pub reached-none :
+    (start : RunResult) (turns : ℕ) (buf : List ℕ) → start .answer ≡ Accepted
+    → 2 ^ 60 ≤ turns * (bufferLength - mostKept) → Reached start turns (turnWith turn.More start 0) buf
+reached-none start turns buf a l =
     record {
-      buffers = r .buffers ++ (b ∷ []);
-      counted = omega arith;
-      accepted =
-          accepted-on freshDay (r .buffers) b (r .accepted)
-          (length-take-le bufferLength bytes (omega (arith, o .whole))) (ap answerOf (sym same) ∙ m .1);
-      is = m .0 ∙ same ∙ sym (buffers-on freshDay (r .buffers) b);
+      input = [];
+      fed =
+          record {
+            is = rw (add-zero (start .records), add-zero (start .files), add-zero (start .bytes), ← a);
+            accepted = a;
+            unrun = refl;
+          };
+      more = refl;
+      size = refl;
+      few = omega arith;
+      long = omega (arith, l);
     }
 
-pub reached-last :
-    {turns : ℕ} {day : RunResult} (bytes : List ℕ) (t : TurnResult) → Reached turns day
-    → TurnOf day bytes t → hasMore (t .end) ≡ false → InputRun bytes t
-reached-last {turns} {day} bytes t r o h =
-    let same = ap (λ (d : RunResult). turnOf d bytes (o .read)) (r .is) in
-    let turned : TurnOf (runBuffersOf freshDay (r .buffers)) bytes t =
-    record { whole = o .whole; read = o .read; below = o .below; is = o .is ∙ same } in
-    record { buffers = r .buffers; accepted = r .accepted; last = inr (h, turned) }
+module _ {start : RunResult} {turns : ℕ} {last next : TurnResult} {buf after : List ℕ} (r : Reached start turns last buf)
+    (ran : TurnRun (last .day) (take (last .kept) buf) next after) where
+  abbrev left : List ℕ
+  left = take (last .kept) buf
+
+  abbrev new : List ℕ
+  new = drop (length left) (ran .bytes)
+
+  left-first : ran .bytes ≡ left ++ new
+  left-first = sym (take-append-drop (length left) (ran .bytes)) ∙ ap (λ (l : List ℕ). l ++ new) (ran .first)
+
+  pub reached-more : {rest : ℕ} → rest + 1 ≡ turns → hasMore (next .end) ≡ true → Reached start rest next after
+  reached-more {rest} n h =
+      let turned = ran .turned in
+      let s = last .day .session in
+      let m = more-ran (last .day) (length left) (ran .bytes) next turned h in
+      let kept : take (next .kept) after ≡ leftOf s (ran .bytes) = ran .moved .0 h in
+      let few = run-leaves-few s true (ran .bytes) (m .1) in
+      let count : next .kept ≡ length (leftOf s (ran .bytes)) = ap (λ (t : TurnResult). t .kept) (m .0) in
+      let fed-next = fed-on (r .fed) new (ran .bytes) left-first (ap dayOf (m .0)) (ap answerOf (ap dayOf (m .0)) ∙ m .1) in
+      record {
+        input = r .input ++ new;
+        fed = subst (λ (l : List ℕ). Fed start (r .input ++ new) (next .day) l) (sym kept) fed-next;
+        more = ap endOf (m .0);
+        size = ap length kept ∙ sym count;
+        few = omega (arith, few, count, length-drop (runOf s true (ran .bytes) .bytes) (ran .bytes));
+        long =
+            omega
+            (arith, n, r .long, r .few, r .size, turned .whole, length-append (r .input) new, length-drop (length left) (ran .bytes));
+      }
+
+  pub reached-last : hasMore (next .end) ≡ false → InputRun start after next
+  reached-last h =
+      let same : ran .bytes ≡ after = sym (ran .moved .1 h) in
+      record {
+        before = r .input;
+        day = last .day;
+        left = left;
+        fed = r .fed;
+        last =
+            inr
+            (h, subst (λ (l : List ℕ). take (length left) l ≡ left) same (ran .first), subst (λ (l : List ℕ). TurnOf (last .day) (length left) l next) same (ran .turned));
+      }
 
 pub reached-all :
-    {turns : ℕ} {day : RunResult} (bytes : List ℕ) → turns ≡ 0 → Reached turns day
-    → InputRun bytes (turnWith turn.More day)
-reached-all bytes z r =
-    let n = r .counted in
-    record { buffers = r .buffers; accepted = r .accepted; last = inl (omega arith, ap (turnWith turn.More) (r .is)) }
+    {start : RunResult} {turns : ℕ} {t : TurnResult} {buf : List ℕ} → turns ≡ 0 → Reached start turns t buf
+    → InputRun start buf t
+reached-all {start} {turns} {t} {buf} z r =
+    record {
+      before = r .input;
+      day = t .day;
+      left = take (t .kept) buf;
+      fed = r .fed;
+      last = inl (omega (arith, r .long, z), ap₂ (λ (e : TurnEnd) (k : ℕ). turnWith e (t .day) k) (r .more) (sym (r .size)));
+    }
 
 -- A day that is over.
 
-over-refused : (a : Answer) → moreUnlessRefused a ≡ turn.Over → a ≡ Accepted → ⊥
-over-refused a o e =
-    let m : turn.More ≡ turn.Over = rw e at o in
-    let z : _≡_ {A = ℕ} 0 1 = cc in
-    omega arith
+over-refused :
+    (a : Answer) (day : RunResult) (kept : ℕ) → moreUnlessRefused a day kept .end ≡ turn.Over
+    → (moreUnlessRefused a day kept .day ≡ day) × (a ≡ Accepted → ⊥)
+over-refused Accepted day kept o = let z : _≡_ {A = ℕ} 0 1 = cc in absurd (omega arith)
+over-refused (Refused why place) day kept o = (refl, not-both (Refused why place) refl)
 
 ended-over : (a : Answer) (day : RunResult) → day .answer ≡ a → (a ≡ Accepted → ⊥) → day ≡ endedOf day
 ended-over Accepted day e n = absurd (n refl)
 ended-over (Refused why place) day e n = ended-refused day e
 
-module _ (bytes : List ℕ) (t : TurnResult) (bs : List (List ℕ)) (f : FullAndAccepted freshDay bs)
-    (o : t .end ≡ turn.Over) where
-  abbrev before : RunResult
-  before = runBuffersOf freshDay bs
+-- a refused buffer is the same whether or not more may follow it
+refused-last :
+    (day : RunResult) (bytes : List ℕ) → (runBufferOf day true bytes .answer ≡ Accepted → ⊥)
+    → runBufferOf day true bytes ≡ runBufferOf day false bytes
+refused-last day bytes a = refused-then day false bytes [] a ∙ ap (runBufferOf day false) (append-nil bytes)
+
+module _ (bytes : List ℕ) (t : TurnResult) {day : RunResult} {before left : List ℕ} (fed : Fed freshDay before day left)
+    (first : take (length left) bytes ≡ left) (whole : length bytes ≡ bufferLength) (o : t .end ≡ turn.Over) where
+  within : length left ≤ bufferLength
+  within = let l = ap length (sym first) in omega (arith, l, length-take (length left) bytes, whole)
+
+  -- n bytes behind those left
+  with-left : (n : ℕ) → take (length left + n) bytes ≡ left ++ take n (drop (length left) bytes)
+  with-left n =
+      take-add (length left) n bytes ∙ ap (λ (l : List ℕ). l ++ take n (drop (length left) bytes)) first
 
   over-read :
-      (read : BufferRead) → EndsBelow bufferLength read → t ≡ turnOf before bytes read → DayOfInput bs bytes (t .day)
+      (read : BufferRead) → EndsBelow (bufferLength - length left) read → t ≡ turnOf day (length left) bytes read
+      → DayOfInput before (length left) bytes (t .day)
   over-read buffer.Full w e =
-      let d = runBufferOf before (take bufferLength bytes) in
-      let over : moreUnlessRefused (d .answer) ≡ turn.Over = ap endOf (sym e) ∙ o in
-      let ended = ended-over (d .answer) d refl (over-refused (d .answer) over) in
+      let d = runBufferOf day true bytes in
+      let n = bufferLength - length left in
+      let over = over-refused (d .answer) d (length (leftOf (day .session) bytes)) (ap endOf (sym e) ∙ o) in
+      let refused = over .1 in
+      let all : bytes ≡ left ++ take n (drop (length left) bytes) =
+      sym (take-all (length left + n) bytes (omega (arith, whole))) ∙ with-left n in
       record {
-        n = bufferLength;
-        within = omega arith;
-        is = ap dayOf e ∙ ended ∙ ap endedOf (last-joined bs (take bufferLength bytes) f);
+        n = n;
+        within = omega (arith, within);
+        is =
+            ap dayOf e ∙ over .0 ∙ ended-over (d .answer) d refl refused
+            ∙ ap endedOf (refused-last day bytes refused ∙ fed-runs fed (take n (drop (length left) bytes)) bytes all false);
       }
   over-read (buffer.Ended n) w e =
-      record { n = n; within = omega arith; is = ap dayOf e ∙ ap endedOf (last-joined bs (take n bytes) f) }
+      let new = take n (drop (length left) bytes) in
+      record {
+        n = n;
+        within = omega (arith, w);
+        is = ap dayOf e ∙ ap endedOf (fed-runs fed new (take (length left + n) bytes) (with-left n) false);
+      }
   over-read buffer.Failed w e =
       let m : turn.Failed ≡ turn.Over = ap endOf (sym e) ∙ o in
       let z : _≡_ {A = ℕ} 0 1 = cc in
       absurd (omega arith)
 
-  over-last :
-      ((length bs ≡ mostBuffers) × (t ≡ turnWith turn.More before))
-      ⊎ ((hasMore (t .end) ≡ false) × TurnOf before bytes t)
-      → DayOfInput bs bytes (t .day)
-  over-last (inl m) =
-      let e : turn.More ≡ turn.Over = ap endOf (sym (m .1)) ∙ o in
-      let z : _≡_ {A = ℕ} 0 1 = cc in
-      absurd (omega arith)
-  over-last (inr m) = over-read (m .1 .read) (m .1 .below) (m .1 .is)
+over-last :
+    (bytes : List ℕ) (t : TurnResult) {day : RunResult} {before left : List ℕ} → Fed freshDay before day left
+    → t .end ≡ turn.Over
+    → ((2 ^ 60 ≤ length before) × (t ≡ turnWith turn.More day (length left)))
+    ⊎ ((hasMore (t .end) ≡ false) × (take (length left) bytes ≡ left) × TurnOf day (length left) bytes t)
+    → DayOfInput before (length left) bytes (t .day)
+over-last bytes t fed o (inl m) =
+    let e : turn.More ≡ turn.Over = ap endOf (sym (m .1)) ∙ o in
+    let z : _≡_ {A = ℕ} 0 1 = cc in
+    absurd (omega arith)
+over-last bytes t fed o (inr m) =
+    let turned = m .2 in
+    over-read bytes t fed (m .1) (turned .whole) o (turned .read) (turned .below) (turned .is)
 
 pub over-is-the-inputs : OverIsTheInputs
-over-is-the-inputs bytes t run o = over-last bytes t (run .buffers) (run .accepted) o (run .last)
+over-is-the-inputs bytes t run o = over-last bytes t (run .fed) o (run .last)
 
 -- The page of a day, as it is put into a buffer.
 pub page-put :

@@ -1,18 +1,17 @@
 -- The buffer that is read and run at once, and bounds, so that no count wraps: at most one record and one file is
 -- counted for each byte read. Assumes nothing.
-use Prim.Native.Nat.{ℕ, _+_, _*_, _≤_, _<_}
-use mathlib.Core.Path.{_≡_}
-use Rattle.layout.specs.Layouts.{recordLength}
+use Prim.Native.Nat.{ℕ, _+_, _-_, _^_, _≤_, _<_}
+use Rattle.file.specs.Forms.{linedLength}
 use Rattle.session.specs.declared.RunResult.{RunResult}
 use Rattle.quadro.specs.declared.BufferRead.{BufferRead}
 use Rattle.quadro.specs.declared.BufferRead.the-variants.{Full, Ended, Failed}
 
 abbrev pub bufferLength : ℕ
-bufferLength = 65400
+bufferLength = 65536
 
--- Promise: a full buffer is 436 whole records.
-abbrev pub FullBufferIsWhole : Type 0
-FullBufferIsWhole = bufferLength ≡ 436 * recordLength
+-- the most bytes that a full buffer leaves for the next: one less than a record with CR and LF
+abbrev pub mostKept : ℕ
+mostKept = linedLength - 1
 
 -- if the input ended, fewer than n bytes were read: a full buffer is not its end
 abbrev pub EndsBelow : ℕ → BufferRead → Type 0
@@ -20,14 +19,19 @@ EndsBelow n Full = Unit {0}
 EndsBelow n (Ended k) = k < n
 EndsBelow n Failed = Unit {0}
 
--- 2^61
-abbrev pub mostCounted : ℕ
-mostCounted = 2_305_843_009_213_693_952
+-- 2^60 before an input is read, and 2^62 while it is read
+abbrev pub mostBefore : ℕ
+mostBefore = 2 ^ 60
 
--- at most n records and n files
+abbrev pub mostCounted : ℕ
+mostCounted = 2 ^ 62
+
+-- at most n records, n files and n bytes
 abbrev pub Counted : ℕ → RunResult → Type 0
-Counted n day = (day .records ≤ n) × (day .files ≤ n)
+Counted n day = (day .records ≤ n) × (day .files ≤ n) × (day .bytes ≤ n)
 
 -- at most one buffer's bytes more
 abbrev pub Grown : RunResult → RunResult → Type 0
-Grown day next = (next .records ≤ day .records + bufferLength) × (next .files ≤ day .files + bufferLength)
+Grown day next =
+    (next .records ≤ day .records + bufferLength) × (next .files ≤ day .files + bufferLength)
+    × (next .bytes ≤ day .bytes + bufferLength)

@@ -1,12 +1,14 @@
 // quadro reads return files from standard input, and prints the page of the board shown at the input's end or at the
 // first refusal (SPEC.md, "The program quadro"). A day is the run over all input so far.
 ghost use mathlib.Core.Path.{_≡_};
-ghost use Prim.Native.Nat.{_≤_};
-ghost use lib.ListN.{length, take};
+ghost use Prim.Native.Nat.{_-_, _≤_};
+ghost use lib.ListN.{length, take, drop};
+ghost use Rattle.answer.specs.declared.Answer.the-variants.{Accepted};
 ghost use Rattle.day.specs.Days.{freshDay, runBufferOf, endedOf};
 ghost use Rattle.day.specs.Inputs.{pageOfDay};
-ghost use Rattle.quadro.specs.Buffers.{bufferLength, mostCounted, Counted, Grown, EndsBelow};
-ghost use Rattle.quadro.specs.Turns.{moreUnlessRefused, hasMore, TurnOf};
+ghost use Rattle.quadro.specs.Buffers.{bufferLength, mostKept, EndsBelow};
+ghost use Rattle.quadro.specs.Buffers.{mostBefore, mostCounted, Counted, Grown};
+ghost use Rattle.quadro.specs.Turns.{hasMore, fullTurnOf, BufferAfter, TurnRun};
 ghost use Rattle.quadro.specs.Inputs.{InputRun};
 ghost use Rattle.page.specs.Pages.{pageLength};
 use answer::Answer;
@@ -16,11 +18,11 @@ use libc::STDOUT_FILENO;
 use session::RunResult;
 use session::Session;
 
-// 436 records, so that a full buffer has no part of a record.
-const SIZE: usize = 65400;
+const SIZE: usize = 65536;
 
-// No contract says that an input ends, so the buffers are counted: 2^60 bytes are more than any input has.
-const TURNS: u64 = 17628769183591;
+// No contract says that an input ends, so the turns are counted: each but the last reads at least SIZE - 151 bytes, and
+// 2^60 bytes are more than any input has.
+const TURNS: u64 = 17632813406850;
 
 // How reading a buffer ended: it is full, the input ended behind so many bytes, or a read failed.
 pub enum BufferRead {
@@ -48,6 +50,15 @@ fn read_buffer(buf: &mut [u8]) -> BufferRead
     BufferRead::Full
 }
 
+// The same behind the first `kept` bytes of the buffer, which stay.
+fn read_behind(buf: &mut [u8], kept: usize) -> BufferRead
+    requires { ⌜ kept ≤ length (now buf) ⌝ }
+    ensures { λ r. ⌜ EndsBelow (length (now (buf .entry)) - kept) r ⌝ }
+    ensures left { λ r. ⌜ take kept (now (buf .exit)) ≡ take kept (now (buf .entry)) ⌝ }
+{
+    read_buffer(&mut buf[kept..])
+}
+
 // A day with no input yet.
 fn fresh_day() -> RunResult
     ensures { λ r. ⌜ r ≡ freshDay ⌝ }
@@ -57,17 +68,18 @@ fn fresh_day() -> RunResult
         session: Session::new(),
         records: 0,
         files: 0,
+        bytes: 0,
     }
 }
 
-// The day after the first n bytes of a buffer.
-fn run_buffer(day: RunResult, buf: &[u8], n: usize) -> RunResult
+// The day after the first n bytes of a buffer; more bytes may follow them, or they are the last.
+fn run_buffer(day: RunResult, buf: &[u8], n: usize, more: bool) -> RunResult
     requires { ⌜ Counted mostCounted day × (n ≤ bufferLength) × (n ≤ length (now buf)) ⌝ }
-    ensures { λ r. ⌜ r ≡ runBufferOf day (take n (now (buf .entry))) ⌝ }
+    ensures { λ r. ⌜ r ≡ runBufferOf day more (take n (now (buf .entry))) ⌝ }
     ensures bounded { λ r. ⌜ Grown day r ⌝ }
 {
     let before = day.session;
-    let ran = before.run(&buf[..n]);
+    let ran = before.run(&buf[..n], more);
     let answer = ran.answer;
     let session = ran.session;
     RunResult {
@@ -75,6 +87,7 @@ fn run_buffer(day: RunResult, buf: &[u8], n: usize) -> RunResult
         session,
         records: day.records + ran.records,
         files: day.files + ran.files,
+        bytes: day.bytes + ran.bytes,
     }
 }
 
@@ -94,6 +107,7 @@ fn finish_day(day: RunResult) -> RunResult
                 session,
                 records: day.records,
                 files: day.files,
+                bytes: day.bytes,
             }
         }
     }
@@ -106,43 +120,71 @@ pub enum TurnEnd {
     Failed,
 }
 
-// The day after a turn.
+// The day after a turn, and how many bytes at the buffer's front the turn left for the next: 0 if there is none.
 pub struct TurnResult {
     pub end: TurnEnd,
     pub day: RunResult,
+    pub kept: usize,
 }
 
-fn more_unless_refused(answer: Answer) -> TurnEnd
-    ensures { λ r. ⌜ r ≡ moreUnlessRefused answer ⌝ }
+// Moves the buffer's bytes from this index on to its front, in order, and returns how many they are. The places that
+// are written may overlap those that are read.
+fn move_to_front(buf: &mut [u8], from: usize) -> usize
+    requires { ⌜ from ≤ length (now buf) ⌝ }
+    ensures { λ r. ⌜ r ≡ length (now (buf .entry)) - from ⌝ }
+    ensures moved { λ r. ⌜ take r (now (buf .exit)) ≡ drop from (now (buf .entry)) ⌝ }
 {
+    let mut n: usize = 0;
+    while n < buf.len() - from {
+        buf[n] = buf[from + n];
+        n += 1;
+    }
+    n
+}
+
+// Runs a full buffer, and moves what the run leaves to its front, unless it is refused.
+fn run_full_buffer(day: RunResult, buf: &mut [u8]) -> TurnResult
+    requires { ⌜ Counted mostCounted day × (length (now buf) ≤ bufferLength) ⌝ }
+    ensures { λ r. ⌜ r ≡ fullTurnOf day (now (buf .entry)) ⌝ }
+    ensures moved { λ r. ⌜ BufferAfter day (now (buf .entry)) r (now (buf .exit)) ⌝ }
+    ensures bounded { λ r. ⌜ Grown day (r .day) ⌝ }
+{
+    let next = run_buffer(day, buf, buf.len(), true);
+    let answer = next.answer;
     match answer {
-        Answer::Accepted => TurnEnd::More,
-        Answer::Refused(_, _) => TurnEnd::Over,
+        Answer::Accepted => TurnResult {
+            end: TurnEnd::More,
+            day: next,
+            kept: move_to_front(buf, next.bytes - day.bytes),
+        },
+        Answer::Refused(_, _) => TurnResult {
+            end: TurnEnd::Over,
+            day: next,
+            kept: 0,
+        },
     }
 }
 
-// Reads and runs one buffer of input. It takes the array, so that its length is known in the caller's loop.
-fn run_next_buffer(day: RunResult, buf: &mut [u8; SIZE]) -> TurnResult
-    requires { ⌜ Counted mostCounted day ⌝ }
-    ensures { λ r. ⌜ Grown day (r .day) ⌝ }
-    ensures turn { λ r. ⌜ TurnOf day (now (buf .exit)) r ⌝ }
+// The next turn: fills the buffer behind the bytes that the turn before left, and runs its bytes. It takes the array,
+// so that its length is known in the caller's loop.
+fn run_next_buffer(turn: TurnResult, buf: &mut [u8; SIZE]) -> TurnResult
+    requires { ⌜ Counted mostCounted (turn .day) × (turn .kept ≤ mostKept) ⌝ }
+    ensures { λ r. ⌜ TurnRun (turn .day) (take (turn .kept) (now (buf .entry))) r (now (buf .exit)) ⌝ }
+    ensures bounded { λ r. ⌜ Grown (turn .day) (r .day) ⌝ }
 {
-    match read_buffer(buf) {
-        BufferRead::Full => {
-            let next = run_buffer(day, buf, SIZE);
-            let answer = next.answer;
-            TurnResult {
-                end: more_unless_refused(answer),
-                day: next,
-            }
-        }
+    let day = turn.day;
+    let kept = turn.kept;
+    match read_behind(buf, kept) {
+        BufferRead::Full => run_full_buffer(day, buf),
         BufferRead::Ended(n) => TurnResult {
             end: TurnEnd::Over,
-            day: finish_day(run_buffer(day, buf, n)),
+            day: finish_day(run_buffer(day, buf, kept + n, false)),
+            kept: 0,
         },
         BufferRead::Failed => TurnResult {
             end: TurnEnd::Failed,
             day,
+            kept: 0,
         },
     }
 }
@@ -157,26 +199,34 @@ fn has_more(end: TurnEnd) -> bool
     }
 }
 
-// The last turn over the input: at its end, at the first refusal or failed read, or after 2^60 bytes. The buffer is the
-// caller's, so that the contract can speak of the last bytes read.
-fn run_input(buf: &mut [u8; SIZE]) -> TurnResult
-    ensures { λ r. ⌜ InputRun (now (buf .exit)) r ⌝ }
+// The last turn over the input, which this day runs: at the input's end, at the first refusal or failed read, or after
+// 2^60 bytes. The buffer is the caller's, so that the contract can speak of the last bytes in it.
+fn run_turns(day: RunResult, buf: &mut [u8; SIZE]) -> TurnResult
+    requires { ⌜ Counted mostBefore day × (day .answer ≡ Accepted) ⌝ }
+    ensures { λ r. ⌜ InputRun day (now (buf .exit)) r ⌝ }
 {
-    let mut day = fresh_day();
+    let mut turn = TurnResult {
+        end: TurnEnd::More,
+        day,
+        kept: 0,
+    };
     let mut turns: u64 = TURNS;
     while 0 < turns {
         turns -= 1;
-        let next = run_next_buffer(day, buf);
-        let end = next.end;
+        turn = run_next_buffer(turn, buf);
+        let end = turn.end;
         if !has_more(end) {
-            return next;
+            return turn;
         }
-        day = next.day;
     }
-    TurnResult {
-        end: TurnEnd::More,
-        day,
-    }
+    turn
+}
+
+// The same for a day with no input before.
+fn run_input(buf: &mut [u8; SIZE]) -> TurnResult
+    ensures { λ r. ⌜ InputRun freshDay (now (buf .exit)) r ⌝ }
+{
+    run_turns(fresh_day(), buf)
 }
 
 // Writes the page of a day from the buffer's start and returns its length.

@@ -16,31 +16,46 @@ slice-aggregate-run c =
 run-requires : tie.Need-run-requires
 run-requires c κs = search needs
 
-add-t10 : tie.Need-add-t10
-add-t10 c =
+add-t11 : tie.Need-add-t11
+add-t11 c =
     let ran = c .before .before .before in
     let start = ran .before .before .before .before in
     let a = start .args in
-    let few = few-run (a .day .session) (a .buf .now) (a .n) (start .pre .2) (ran .run .ensures) in
+    let few = few-run (a .day .session) (a .more) (a .buf .now) (a .n) (start .pre .2) (ran .run .ensures) in
     omega (arith, few .0, start .pre .0 .0, start .pre .1)
 
-add-t11 : tie.Need-add-t11
-add-t11 c =
+add-t12 : tie.Need-add-t12
+add-t12 c =
     let ran = c .before .before .before .before .before in
     let start = ran .before .before .before .before in
     let a = start .args in
-    let few = few-run (a .day .session) (a .buf .now) (a .n) (start .pre .2) (ran .run .ensures) in
+    let few = few-run (a .day .session) (a .more) (a .buf .now) (a .n) (start .pre .2) (ran .run .ensures) in
     omega (arith, few .1, start .pre .0 .1, start .pre .1)
+
+add-t13 : tie.Need-add-t13
+add-t13 c =
+    let ran = c .before .before .before .before .before .before .before in
+    let start = ran .before .before .before .before in
+    let a = start .args in
+    let few = few-run (a .day .session) (a .more) (a .buf .now) (a .n) (start .pre .2) (ran .run .ensures) in
+    omega (arith, few .2, start .pre .0 .2, start .pre .1)
 
 returns : tie.Need-returns
 returns c =
-    let ran = c .before .before .before .before .before in
+    let ran = c .before .before .before .before .before .before .before in
     let start = ran .before .before .before .before in
     let a = start .args in
-    let made = run-behind (a .day) (take (a .n) (a .buf .now)) (ran .run .ensures) in
-    let few = few-run (a .day .session) (a .buf .now) (a .n) (start .pre .2) (ran .run .ensures) in
-    let before = start .pre in
-    (made, (omega (arith, few .0, before .0 .0, before .1), omega (arith, few .1, before .0 .1, before .1)))
+    let made = run-behind (a .day) (a .more) (take (a .n) (a .buf .now)) (ran .run .ensures) in
+    let few = few-run (a .day .session) (a .more) (a .buf .now) (a .n) (start .pre .2) (ran .run .ensures) in
+    let before = start .pre in (
+      made,
+      (
+        omega (arith, few .0, before .0 .0, before .1),
+        omega (arith, few .1, before .0 .1, before .1),
+        omega (arith, few .2, before .0 .2, before .1),
+      ),
+    )
 
 pub run-buffer-spec : {M : Type 1} → statement M
-run-buffer-spec = tie.close (tie.spec slice-aggregate-run run-requires add-t10 add-t11 returns)
+run-buffer-spec =
+    tie.close (tie.spec slice-aggregate-run run-requires add-t11 add-t12 add-t13 returns)
