@@ -161,7 +161,13 @@ cTakeResultOf t = record { answer = cAnswerOf (t .answer); session = t .session 
 
 abbrev pub cRunResultOf : RunResult → CRunResult
 cRunResultOf r =
-    record { answer = cAnswerOf (r .answer); session = r .session; records = r .records; files = r .files }
+    record {
+      answer = cAnswerOf (r .answer);
+      session = r .session;
+      records = r .records;
+      files = r .files;
+      bytes = r .bytes;
+    }
 
 abbrev pub cPageResultOf : PrintResult → CPageResult
 cPageResultOf p = record { answer = cAnswerOf (p .answer); length = p .length }

@@ -123,13 +123,14 @@ pub struct CTakeResult {
     pub session: Session,
 }
 
-// The session after the accepted records, how many they are, and how many files they closed.
+// The session after the accepted records, how many they are, how many files they closed, and how many bytes they had.
 #[repr(C)]
 pub struct CRunResult {
     pub answer: CAnswer,
     pub session: Session,
     pub records: u64,
     pub files: u64,
+    pub bytes: usize,
 }
 
 // How many bytes of the buffer are the page; 0 if the answer is a refusal.

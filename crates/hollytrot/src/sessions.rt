@@ -26,7 +26,8 @@ pub extern "C" fn hollytrot_session_new() -> Session
     Session::new()
 }
 
-// Takes one record, of any bytes and any length. A refusal returns the given session.
+// Takes one record, of any bytes and any length, with CR and LF behind it in a lined file. A refusal returns the given
+// session.
 #[no_mangle]
 pub extern "C" fn hollytrot_session_take(session: Session, rec: &[u8]) -> CTakeResult
     ensures { λ r. ⌜ r ≡ cTakeResultOf (takeOf session (now (rec .entry))) ⌝ }
@@ -34,13 +35,15 @@ pub extern "C" fn hollytrot_session_take(session: Session, rec: &[u8]) -> CTakeR
     c_take_result(session.take(rec))
 }
 
-// Takes records that follow each other, up to the first refused one; those before it are kept. A rest shorter than 150
-// bytes is a record of wrong length. No bytes are accepted and change nothing.
+// Takes records that follow each other, each with CR and LF behind it in a lined file, up to the first refused one;
+// those before it are kept. If `more` bytes are to follow, nothing is taken once fewer than 152 are left: the caller
+// puts them in front of what follows. Else a rest of fewer than 150 bytes is refused 1, and one of 150 or 151 in a
+// lined file is a record without its line end. No bytes are accepted and change nothing.
 #[no_mangle]
-pub extern "C" fn hollytrot_session_run(session: Session, bytes: &[u8]) -> CRunResult
-    ensures { λ r. ⌜ r ≡ cRunResultOf (runOf session (now (bytes .entry))) ⌝ }
+pub extern "C" fn hollytrot_session_run(session: Session, bytes: &[u8], more: bool) -> CRunResult
+    ensures { λ r. ⌜ r ≡ cRunResultOf (runOf session more (now (bytes .entry))) ⌝ }
 {
-    let ran = session.run(bytes);
+    let ran = session.run(bytes, more);
     let answer = ran.answer;
     let after = ran.session;
     CRunResult {
@@ -48,6 +51,7 @@ pub extern "C" fn hollytrot_session_run(session: Session, bytes: &[u8]) -> CRunR
         session: after,
         records: ran.records,
         files: ran.files,
+        bytes: ran.bytes,
     }
 }
 

@@ -2,6 +2,7 @@
 ghost use mathlib.Core.Path.{_≡_};
 ghost use lib.ListN.{length};
 ghost use Rattle.answer.specs.Orders.{ifAccepted};
+ghost use Rattle.file.specs.Forms.{inForm};
 ghost use Rattle.writer.specs.Writers as writers;
 ghost use Rattle.hollytrot.specs.Forms.{writerOf, cWriterOf, cWriteResultOf};
 use crate::CWriteResult;
@@ -18,8 +19,8 @@ pub extern "C" fn hollytrot_writer_new() -> CWriter
     forms::c_writer(Writer::new())
 }
 
-// Writes the A into `out`, 150 bytes, from its 80 field bytes. A refusal returns the given writer and leaves `out` as
-// it was.
+// Writes the A from its 80 field bytes into `out`: 150 bytes for a bare file, 152 for a lined one, whose records all
+// get CR and LF behind them. A refusal returns the given writer and leaves `out` as it was.
 #[no_mangle]
 pub extern "C" fn hollytrot_writer_header(
     writer: CWriter,
@@ -33,14 +34,15 @@ pub extern "C" fn hollytrot_writer_header(
     ensures bytes { λ _.
         ⌜ now (out .exit)
         ≡ ifAccepted (writers.headerAnswer (writerOf writer) (now (fields .entry)) (length (now (out .entry))))
-        (writers.headerBytes (now (fields .entry))) (now (out .entry)) ⌝ }
+        (inForm (writers.isLinedBuffer (length (now (out .entry)))) (writers.headerBytes (now (fields .entry))))
+        (now (out .entry)) ⌝ }
 {
     let w = forms::writer_from_c(writer);
     c_write_result(writer, w.header(fields, out))
 }
 
-// Writes a G into `out`, 150 bytes, from its 121 field bytes and two amounts in centavos. A refusal returns the given
-// writer and leaves `out` as it was.
+// Writes a G into `out`, as long as the header's, from its 121 field bytes and two amounts in centavos. A refusal
+// returns the given writer and leaves `out` as it was.
 #[no_mangle]
 pub extern "C" fn hollytrot_writer_payment(
     writer: CWriter,
@@ -57,14 +59,16 @@ pub extern "C" fn hollytrot_writer_payment(
         ⌜ now (out .exit)
         ≡ ifAccepted
         (writers.paymentAnswer (writerOf writer) (now (fields .entry)) received tariff (length (now (out .entry))))
-        (writers.paymentBytes (now (fields .entry)) received tariff) (now (out .entry)) ⌝ }
+        (inForm (writers.isLinedBuffer (length (now (out .entry))))
+        (writers.paymentBytes (now (fields .entry)) received tariff))
+        (now (out .entry)) ⌝ }
 {
     let w = forms::writer_from_c(writer);
     c_write_result(writer, w.payment(fields, received, tariff, out))
 }
 
-// Writes the Z into `out`, 150 bytes, with the file's own count and total, and closes the writer. A refusal returns the
-// given writer and leaves `out` as it was.
+// Writes the Z into `out`, as long as the header's, with the file's own count and total, and closes the writer. A
+// refusal returns the given writer and leaves `out` as it was.
 #[no_mangle]
 pub extern "C" fn hollytrot_writer_trailer(writer: CWriter, out: &mut [u8]) -> CWriteResult
     ensures answer { λ r.
@@ -72,7 +76,8 @@ pub extern "C" fn hollytrot_writer_trailer(writer: CWriter, out: &mut [u8]) -> C
     ensures bytes { λ _.
         ⌜ now (out .exit)
         ≡ ifAccepted (writers.trailerAnswer (writerOf writer) (length (now (out .entry))))
-        (writers.trailerBytes (writerOf writer)) (now (out .entry)) ⌝ }
+        (inForm (writers.isLinedBuffer (length (now (out .entry)))) (writers.trailerBytes (writerOf writer)))
+        (now (out .entry)) ⌝ }
 {
     let w = forms::writer_from_c(writer);
     c_write_result(writer, w.trailer(out))

@@ -1,11 +1,11 @@
 -- A closed writer has written one file, whatever was called. Assumes nothing.
 use Prim.Native.Nat.{ℕ}
-use mathlib.Core.Bool.{true, false, _&&_}
+use mathlib.Core.Bool.{Bool, true, false, _&&_}
 use mathlib.Core.List.{List, [], _∷_, _++_, map, append-assoc, append-nil, map-append}
-use mathlib.Core.Path.{_≡_, refl, sym, ap, subst, _∙_}
+use mathlib.Core.Path.{_≡_, refl, sym, ap, ap₂, subst, _∙_}
 use native.Mathlib.Omega.{arith}
 use lib.Dec.{eqb}
-use lib.ListN.{length, length-append}
+use lib.ListN.{length, length-append, length-map}
 use Rattle.answer.specs.declared.Reason.the-variants.{WrongLength, NotExpected}
 use Rattle.answer.specs.declared.Answer.{Answer}
 use Rattle.answer.specs.declared.Answer.the-variants.{Accepted, Refused}
@@ -24,26 +24,28 @@ use Rattle.kinds.specs.Kinds.{isVersionText, isService, dateAnswer, kindAnswer}
 use Rattle.record.specs.Values.{versionIn}
 use Rattle.record.proofs.Shown.{headers-name-a-version}
 use Rattle.fields.specs.Making.{writtenAnswer, makeAnswer}
+use Rattle.file.specs.Forms.{inForm, lengthOf}
 use Rattle.file.specs.Files.{freshFile, fileAnswer, fileWith, figuresOf, closingAnswer}
 use Rattle.session.specs.Sessions.{freshSession}
 use Rattle.writer.specs.declared.Stage.{Stage}
 use Rattle.writer.specs.declared.Stage.the-variants as stage
 use Rattle.writer.specs.declared.Writer.{Writer}
-use Rattle.writer.specs.Writers.{freshWriter, writerTerms, writerExpects, callAnswer, headerAnswer, headerBytes, paymentAnswer}
+use Rattle.writer.specs.Writers.{freshWriter, fitsBuffer, isLinedBuffer, writerTerms, writerExpects, callAnswer, headerAnswer, headerBytes, paymentAnswer}
 use Rattle.writer.specs.Writers.{paymentWritten, countBytes, trailerAnswer, trailerBytes}
-use Rattle.writer.proofs.Calls.{call-size}
+use Rattle.writer.proofs.Buffers.{form-of-length}
+use Rattle.writer.proofs.Calls.{call-size, open-call-size}
 use Rattle.writer.proofs.Written.{first-byte, written-is-accepted}
 use Rattle.ledger.specs.Ledgers.{Step, taking}
 use Rattle.ledger.specs.Promises.{answersOf}
 use Rattle.ledger.specs.Samples as ledger
-use Rattle.ledger.specs.WholeFiles.{AllAccepted}
+use Rattle.ledger.specs.WholeFiles.{recordsOf, allInForm, AllAccepted}
 use Rattle.ledger.specs.WrittenFiles as files
 use Rattle.ledger.specs.WrittenFiles.{GivenPayment, recordOf, writtenRecords, PaymentsWritten, openedBy, Closed, trailerAfter}
-use Rattle.ledger.proofs.WrittenFiles.{closed-file-is-whole, closed-file-is-accepted}
+use Rattle.ledger.proofs.WrittenFiles.{in-its-form, closed-file-is-whole, closed-file-is-accepted}
 use Rattle.promises.specs.Calls.{WriterCall, header, payment, trailer, answerTo, nextWriter, writes, writerAfterCalls}
 use Rattle.promises.specs.Calls.{recordsWritten, OneFile, CallsMakeOneFile, OpenWritersHaveAVersion, headerAlone, HeaderAloneIsNoFile}
 
--- An accepted call was expected, and its buffer has a record's length.
+-- An accepted call was expected, and its lengths are right.
 
 abbrev stageOf : Writer → Stage
 stageOf w = w .stage
@@ -53,67 +55,85 @@ kindOf (header given size) = Header
 kindOf (payment g size) = Payment
 kindOf (trailer size) = Trailer
 
+abbrev givenTo : WriterCall → ℕ
+givenTo (header given size) = length given
+givenTo (payment g size) = length (g .fields)
+givenTo (trailer size) = givenLength Trailer
+
 abbrev sizeOf : WriterCall → ℕ
 sizeOf (header given size) = size
 sizeOf (payment g size) = size
 sizeOf (trailer size) = size
 
-through :
-    (w : Writer) (r : Record) (given size : ℕ) (rest : Answer) → callAnswer w r given size then rest ≡ Accepted
-    → (size ≡ recordLength) × (writerExpects (w .stage) r ≡ true)
-through w r given size rest e =
-    let lengths = require (eqb size recordLength && eqb given (givenLength r)) WrongLength 0 in
-    let order = require (writerExpects (w .stage) r) NotExpected 1 in
-    let called = then-accepts (callAnswer w r given size) rest .0 e .0 in
-    let expected = then-accepts lengths order .0 called .1 in
-    (call-size w r given size called, require-accepts (writerExpects (w .stage) r) NotExpected 1 .0 expected)
-
-expected :
-    (w : Writer) (call : WriterCall) → answerTo w call ≡ Accepted
-    → (sizeOf call ≡ recordLength) × (writerExpects (w .stage) (kindOf call) ≡ true)
-expected w (header given size) e = through w Header (length given) size (makeAnswer (writerTerms w) Header given (0 ∷ 0 ∷ []) size) e
-expected w (payment g size) e =
+called : (w : Writer) (call : WriterCall) → answerTo w call ≡ Accepted → callAnswer w (kindOf call) (givenTo call) (sizeOf call) ≡ Accepted
+called w (header given size) e =
+    then-accepts (callAnswer w Header (length given) size) (makeAnswer (writerTerms w) Header given (0 ∷ 0 ∷ []) recordLength) .0 e .0
+called w (payment g size) e =
     let made = makeAnswer (writerTerms w) Payment (g .fields) (g .received ∷ g .tariff ∷ []) recordLength in
-    through w Payment (length (g .fields)) size (made then fileAnswer (w .file) (g .received)) e
-expected w (trailer size) e =
-    let made = makeAnswer (writerTerms w) Trailer (countBytes w) (figuresOf (w .file) .total ∷ 0 ∷ []) size in
-    through w Trailer (givenLength Trailer) size (closingAnswer (w .file) then made) e
+    then-accepts (callAnswer w Payment (length (g .fields)) size) (made then fileAnswer (w .file) (g .received)) .0 e .0
+called w (trailer size) e =
+    let made = makeAnswer (writerTerms w) Trailer (countBytes w) (figuresOf (w .file) .total ∷ 0 ∷ []) recordLength in
+    then-accepts (callAnswer w Trailer (givenLength Trailer) size) (closingAnswer (w .file) then made) .0 e .0
+
+expected : (w : Writer) (call : WriterCall) → answerTo w call ≡ Accepted → writerExpects (w .stage) (kindOf call) ≡ true
+expected w call e =
+    let r = kindOf call in
+    let lengths = require (fitsBuffer (w .stage) (w .file .lined) (sizeOf call) && eqb (givenTo call) (givenLength r)) WrongLength 0 in
+    let order = require (writerExpects (w .stage) r) NotExpected 1 in
+    require-accepts (writerExpects (w .stage) r) NotExpected 1 .0 (then-accepts lengths order .0 (called w call e) .1)
+
+-- in an open file of this form: its length, and what is written
+module _ (w : Writer) (call : WriterCall) (opened : w .stage ≡ stage.Open) (e : answerTo w call ≡ Accepted) where
+  right-size : sizeOf call ≡ lengthOf (w .file .lined)
+  right-size = open-call-size w (kindOf call) (givenTo call) (sizeOf call) opened (called w call e)
+
+  right-form : {lined : Bool} → w .file .lined ≡ lined → isLinedBuffer (sizeOf call) ≡ lined
+  right-form f = ap isLinedBuffer right-size ∙ form-of-length (w .file .lined) ∙ f
 
 -- A payment more at the end of those written.
 
 pays-more :
     (w : Writer) (gs : List GivenPayment) (g : GivenPayment) → PaymentsWritten w gs
-    → paymentAnswer (files.writerAfterPayments w gs) (g .fields) (g .received) (g .tariff) recordLength ≡ Accepted
+    → let last = files.writerAfterPayments w gs in
+    paymentAnswer last (g .fields) (g .received) (g .tariff) (lengthOf (last .file .lined)) ≡ Accepted
     → PaymentsWritten w (gs ++ (g ∷ []))
 pays-more w [] g p e = (e, tt)
 pays-more w (h ∷ gs) g p e =
-    let next = paymentWritten w (h .fields) (h .received) (h .tariff) recordLength .writer in
+    let next = paymentWritten w (h .fields) (h .received) (h .tariff) (lengthOf (w .file .lined)) .writer in
     (p .0, pays-more next gs g (p .1) e)
 
 after-more :
     (w : Writer) (gs : List GivenPayment) (g : GivenPayment)
     → let last = files.writerAfterPayments w gs in
     files.writerAfterPayments w (gs ++ (g ∷ []))
-    ≡ paymentWritten last (g .fields) (g .received) (g .tariff) recordLength .writer
+    ≡ paymentWritten last (g .fields) (g .received) (g .tariff) (lengthOf (last .file .lined)) .writer
 after-more w [] g = refl
-after-more w (h ∷ gs) g = after-more (paymentWritten w (h .fields) (h .received) (h .tariff) recordLength .writer) gs g
+after-more w (h ∷ gs) g =
+    after-more (paymentWritten w (h .fields) (h .received) (h .tariff) (lengthOf (w .file .lined)) .writer) gs g
 
 -- The writer and the records written after any calls.
 
 data State (w : Writer) (recs : List (List ℕ)) : Type 0 where
   fresh : w ≡ freshWriter → recs ≡ [] → State w recs
   writing :
-      (h : List ℕ) (gs : List GivenPayment) → w .stage ≡ stage.Open → headerAnswer freshWriter h recordLength ≡ Accepted
-      → PaymentsWritten (openedBy h) gs → w ≡ files.writerAfterPayments (openedBy h) gs
-      → recs ≡ headerBytes h ∷ writtenRecords gs → State w recs
+      (lined : Bool) (h : List ℕ) (gs : List GivenPayment) → w .stage ≡ stage.Open → w .file .lined ≡ lined
+      → headerAnswer freshWriter h (lengthOf lined) ≡ Accepted → PaymentsWritten (openedBy lined h) gs
+      → w ≡ files.writerAfterPayments (openedBy lined h) gs → recs ≡ allInForm lined (headerBytes h ∷ writtenRecords gs)
+      → State w recs
   ended :
-      (h : List ℕ) (gs : List GivenPayment) → w .stage ≡ stage.Closed → Closed h gs
-      → recs ≡ headerBytes h ∷ (writtenRecords gs ++ (trailerAfter h gs ∷ [])) → State w recs
+      (lined : Bool) (h : List ℕ) (gs : List GivenPayment) → w .stage ≡ stage.Closed → Closed lined h gs
+      → recs ≡ allInForm lined (recordsOf (headerBytes h) (writtenRecords gs) (trailerAfter lined h gs)) → State w recs
 
 abbrev next : Writer → WriterCall → Writer
-next w (header given size) = record { stage = stage.Open; file = freshFile (versionIn (headerBytes given)) }
+next w (header given size) = record { stage = stage.Open; file = freshFile (versionIn (headerBytes given)) (isLinedBuffer size) }
 next w (payment g size) = record { stage = w .stage; file = fileWith (w .file) (g .received) }
 next w (trailer size) = record { stage = stage.Closed; file = w .file }
+
+-- one record more, in the form of the others
+added : (lined form : Bool) {recs : List (List ℕ)} (old : List (List ℕ)) (rec : List ℕ) → form ≡ lined → recs ≡ allInForm lined old
+    → recs ++ (inForm form rec ∷ []) ≡ allInForm lined (old ++ (rec ∷ []))
+added lined form old rec f q =
+    ap₂ (λ (rs : List (List ℕ)) (t : Bool). rs ++ (inForm t rec ∷ [])) q f ∙ sym (map-append (inForm lined) old (rec ∷ []))
 
 -- a call that is not expected is not accepted
 astray :
@@ -121,45 +141,50 @@ astray :
     → writerExpects s (kindOf call) ≡ false → answerTo v call ≡ Accepted → State w recs
 astray s v call p f e =
     let same = ap (λ (t : Stage). writerExpects t (kindOf call)) (sym p) in
-    absurd (never (sym f ∙ same ∙ expected v call e .1))
+    absurd (never (sym f ∙ same ∙ expected v call e))
 
 moves :
     (w : Writer) (recs : List (List ℕ)) (call : WriterCall) → State w recs → answerTo w call ≡ Accepted
     → State (next w call) (recs ++ (writes w call ∷ []))
 moves w recs (header given size) (fresh p q) e =
-    let d = expected w (header given size) e .0 in
-    let o : Writer = record { stage = stage.Open; file = freshFile (versionIn (headerBytes given)) } in
-    let a : headerAnswer freshWriter given recordLength ≡ Accepted =
-    ap (λ (v : Writer). headerAnswer v given recordLength) (sym p) ∙ ap (headerAnswer w given) (sym d) ∙ e in
-    writing given [] refl a tt (sym (accepted-takes (headerAnswer freshWriter given recordLength) o freshWriter a))
-    (ap (λ (rs : List (List ℕ)). rs ++ (headerBytes given ∷ [])) q)
+    let lined = isLinedBuffer size in
+    let d : size ≡ lengthOf lined = call-size w Header (length given) size (called w (header given size) e) in
+    let version = versionIn (headerBytes given) in
+    let a : headerAnswer freshWriter given (lengthOf lined) ≡ Accepted =
+    ap (λ (v : Writer). headerAnswer v given (lengthOf lined)) (sym p) ∙ ap (headerAnswer w given) (sym d) ∙ e in
+    let opened : openedBy lined given ≡ record { stage = stage.Open; file = freshFile version lined } =
+    accepted-takes (headerAnswer freshWriter given (lengthOf lined)) (record { stage = stage.Open; file = freshFile version (isLinedBuffer (lengthOf lined)) }) freshWriter a
+    ∙ ap (λ (t : Bool). record { stage = stage.Open; file = freshFile version t }) (form-of-length lined) in
+    writing lined given [] refl refl a tt (sym opened) (added lined lined [] (headerBytes given) refl q)
 moves w recs (payment g size) (fresh p q) e = astray stage.Fresh w (payment g size) (ap stageOf p) refl e
 moves w recs (trailer size) (fresh p q) e = astray stage.Fresh w (trailer size) (ap stageOf p) refl e
-moves w recs (header given size) (writing h gs o a p l q) e = astray stage.Open w (header given size) o refl e
-moves w recs (payment g size) (writing h gs o a p l q) e =
-    let d = expected w (payment g size) e .0 in
-    let last = files.writerAfterPayments (openedBy h) gs in
-    let answer = paymentAnswer last (g .fields) (g .received) (g .tariff) recordLength in
+moves w recs (header given size) (writing lined h gs o f a p l q) e = astray stage.Open w (header given size) o refl e
+moves w recs (payment g size) (writing lined h gs o f a p l q) e =
+    let call = payment g size in
+    let last = files.writerAfterPayments (openedBy lined h) gs in
+    let answer = paymentAnswer last (g .fields) (g .received) (g .tariff) (lengthOf (last .file .lined)) in
     let paid : answer ≡ Accepted =
-    ap (λ (v : Writer). paymentAnswer v (g .fields) (g .received) (g .tariff) recordLength) (sym l)
-    ∙ ap (paymentAnswer w (g .fields) (g .received) (g .tariff)) (sym d) ∙ e in
-    let after : next w (payment g size) ≡ files.writerAfterPayments (openedBy h) (gs ++ (g ∷ [])) =
-    ap (λ (v : Writer). next v (payment g size)) l
-    ∙ sym (accepted-takes answer (next last (payment g size)) last paid)
-    ∙ sym (after-more (openedBy h) gs g) in
-    writing h (gs ++ (g ∷ [])) o a (pays-more (openedBy h) gs g p paid) after
-    (ap (λ (rs : List (List ℕ)). rs ++ (recordOf g ∷ [])) q
-    ∙ ap (λ (rs : List (List ℕ)). headerBytes h ∷ rs) (sym (map-append recordOf gs (g ∷ []))))
-moves w recs (trailer size) (writing h gs o a p l q) e =
-    let d = expected w (trailer size) e .0 in
-    let shut : trailerAnswer (files.writerAfterPayments (openedBy h) gs) recordLength ≡ Accepted =
-    ap (λ (v : Writer). trailerAnswer v recordLength) (sym l) ∙ ap (trailerAnswer w) (sym d) ∙ e in
-    ended h gs refl (record { opens = a; pays = p; closes = shut })
-    (ap (λ (rs : List (List ℕ)). rs ++ (trailerBytes w ∷ [])) q
-    ∙ ap (λ (v : Writer). headerBytes h ∷ (writtenRecords gs ++ (trailerBytes v ∷ []))) l)
-moves w recs (header given size) (ended h gs o c q) e = astray stage.Closed w (header given size) o refl e
-moves w recs (payment g size) (ended h gs o c q) e = astray stage.Closed w (payment g size) o refl e
-moves w recs (trailer size) (ended h gs o c q) e = astray stage.Closed w (trailer size) o refl e
+    ap (λ (v : Writer). paymentAnswer v (g .fields) (g .received) (g .tariff) (lengthOf (v .file .lined))) (sym l)
+    ∙ ap (paymentAnswer w (g .fields) (g .received) (g .tariff)) (sym (right-size w call o e)) ∙ e in
+    let after : next w call ≡ files.writerAfterPayments (openedBy lined h) (gs ++ (g ∷ [])) =
+    ap (λ (v : Writer). next v call) l
+    ∙ sym (accepted-takes answer (next last call) last paid)
+    ∙ sym (after-more (openedBy lined h) gs g) in
+    writing lined h (gs ++ (g ∷ [])) o f a (pays-more (openedBy lined h) gs g p paid) after
+    (added lined (isLinedBuffer size) (headerBytes h ∷ writtenRecords gs) (recordOf g) (right-form w call o e f) q
+    ∙ ap (λ (rs : List (List ℕ)). allInForm lined (headerBytes h ∷ rs)) (sym (map-append recordOf gs (g ∷ []))))
+moves w recs (trailer size) (writing lined h gs o f a p l q) e =
+    let call = trailer size in
+    let last = files.writerAfterPayments (openedBy lined h) gs in
+    let size-is : size ≡ lengthOf lined = right-size w call o e ∙ ap lengthOf f in
+    let shut : trailerAnswer last (lengthOf lined) ≡ Accepted =
+    ap (λ (v : Writer). trailerAnswer v (lengthOf lined)) (sym l) ∙ ap (trailerAnswer w) (sym size-is) ∙ e in
+    ended lined h gs refl (record { opens = a; pays = p; closes = shut })
+    (added lined (isLinedBuffer size) (headerBytes h ∷ writtenRecords gs) (trailerBytes w) (right-form w call o e f) q
+    ∙ ap (λ (v : Writer). allInForm lined (recordsOf (headerBytes h) (writtenRecords gs) (trailerBytes v))) l)
+moves w recs (header given size) (ended lined h gs o c q) e = astray stage.Closed w (header given size) o refl e
+moves w recs (payment g size) (ended lined h gs o c q) e = astray stage.Closed w (payment g size) o refl e
+moves w recs (trailer size) (ended lined h gs o c q) e = astray stage.Closed w (trailer size) o refl e
 
 -- a refused call changes nothing
 left : (w : Writer) (call : WriterCall) → nextWriter w call ≡ ifAccepted (answerTo w call) (next w call) w
@@ -194,19 +219,19 @@ one-file :
     (calls : List WriterCall) (w : Writer) → w .stage ≡ stage.Closed → State w (recordsWritten freshWriter calls)
     → OneFile calls
 one-file calls w p (fresh q r) = absurd (unlike Header stage.Fresh (w .stage) p (ap stageOf q) refl)
-one-file calls w p (writing h gs o a q l r) = absurd (unlike Trailer stage.Open (w .stage) p o refl)
-one-file calls w p (ended h gs o c r) =
-    let end = map-append taking (writtenRecords gs) (trailerAfter h gs ∷ []) in
-    let steps = ap (map taking) r ∙ ap (λ (rest : List Step). taking (headerBytes h) ∷ rest) end in
+one-file calls w p (writing lined h gs o f a q l r) = absurd (unlike Trailer stage.Open (w .stage) p o refl)
+one-file calls w p (ended lined h gs o c r) =
     record {
+      lined = lined;
       heading = h;
       payments = gs;
       closed = c;
       records = r;
-      whole = closed-file-is-whole h gs c .0;
+      whole = closed-file-is-whole lined h gs c .0;
       accepted = λ few.
-          let whole = closed-file-is-accepted h gs c few .0 in
-          subst (λ (taken : List Step). AllAccepted (answersOf freshSession taken)) (sym steps) whole;
+          subst (λ (recs : List (List ℕ)). AllAccepted (answersOf freshSession (map taking recs))) (sym r)
+          (subst (λ (steps : List Step). AllAccepted (answersOf freshSession steps)) (sym (in-its-form lined h gs))
+          (closed-file-is-accepted lined h gs c few .0));
     }
 
 pub calls-make-one-file : CallsMakeOneFile
@@ -223,23 +248,24 @@ kept-version (Refused why place) w received = refl
 payments-keep-version : (gs : List GivenPayment) (w : Writer) → files.writerAfterPayments w gs .file .version ≡ w .file .version
 payments-keep-version [] w = refl
 payments-keep-version (g ∷ gs) w =
-    payments-keep-version gs (paymentWritten w (g .fields) (g .received) (g .tariff) recordLength .writer)
-    ∙ kept-version (paymentAnswer w (g .fields) (g .received) (g .tariff) recordLength) w (g .received)
+    let size = lengthOf (w .file .lined) in
+    payments-keep-version gs (paymentWritten w (g .fields) (g .received) (g .tariff) size .writer)
+    ∙ kept-version (paymentAnswer w (g .fields) (g .received) (g .tariff) size) w (g .received)
 
-header-version : (h : List ℕ) → headerAnswer freshWriter h recordLength ≡ Accepted → isVersion (openedBy h .file .version) ≡ true
-header-version h a =
+header-version : (lined : Bool) (h : List ℕ) → headerAnswer freshWriter h (lengthOf lined) ≡ Accepted → isVersion (openedBy lined h .file .version) ≡ true
+header-version lined h a =
     let t = writerTerms freshWriter in
     let made =
-    then-accepts (callAnswer freshWriter Header (length h) recordLength) (makeAnswer t Header h (0 ∷ 0 ∷ []) recordLength) .0 a .1 in
+    then-accepts (callAnswer freshWriter Header (length h) (lengthOf lined)) (makeAnswer t Header h (0 ∷ 0 ∷ []) recordLength) .0 a .1 in
     let accepted = written-is-accepted t Header h (0 ∷ 0 ∷ []) recordLength made .0 in
     let named = ap namedBy (first-byte Header h (0 ∷ 0 ∷ [])) ∙ mark-names Header .0 in
     rw a (headers-name-a-version t (headerBytes h) accepted named)
 
 open-version : (w : Writer) (recs : List (List ℕ)) → State w recs → w .stage ≡ stage.Open → isVersion (w .file .version) ≡ true
 open-version w recs (fresh p q) o = absurd (never (ap (λ (s : Stage). writerExpects s Trailer) (sym (ap stageOf p) ∙ o)))
-open-version w recs (writing h gs s a p l q) o =
-    ap (λ (v : Writer). isVersion (v .file .version)) l ∙ ap isVersion (payments-keep-version gs (openedBy h)) ∙ header-version h a
-open-version w recs (ended h gs s c q) o = absurd (never (ap (λ (x : Stage). writerExpects x Trailer) (sym s ∙ o)))
+open-version w recs (writing lined h gs s f a p l q) o =
+    ap (λ (v : Writer). isVersion (v .file .version)) l ∙ ap isVersion (payments-keep-version gs (openedBy lined h)) ∙ header-version lined h a
+open-version w recs (ended lined h gs s c q) o = absurd (never (ap (λ (x : Stage). writerExpects x Trailer) (sym s ∙ o)))
 
 pub open-writers-have-a-version : OpenWritersHaveAVersion
 open-writers-have-a-version calls o =
@@ -259,7 +285,11 @@ header-alone-is-no-file = (
   header-alone .0,
   λ f.
       let written = writtenRecords (f .payments) in
-      let last = trailerAfter (f .heading) (f .payments) ∷ [] in
-      let same = ap length (sym (header-alone .1) ∙ f .records) in
+      let last = trailerAfter (f .lined) (f .heading) (f .payments) ∷ [] in
+      let all = headerBytes (f .heading) ∷ (written ++ last) in
+      let same : 1 ≡ length all = ap length (sym (header-alone .1) ∙ f .records) ∙ as-many (f .lined) all in
       omega (arith, same, length-append written last),
 )
+  where
+    as-many : (lined : Bool) (recs : List (List ℕ)) → length (allInForm lined recs) ≡ length recs
+    as-many lined recs = simp length-map

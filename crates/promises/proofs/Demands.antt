@@ -16,6 +16,7 @@ use Rattle.kinds.proofs.VersionLaws.{versions-are-two-texts, other-kinds-ignore
 use Rattle.fields.proofs.Trips.{fields-make-the-record, made-is-accepted}
 use Rattle.fields.proofs.Ignored.{other-joins-ignore-terms, other-makes-ignore-terms, payments-join-under-a-version}
 use Rattle.file.proofs.Files.{one-right-trailer}
+use Rattle.file.proofs.Forms.{line-end-is-cr-and-lf, fitting-is-in-form}
 use Rattle.board.proofs.Lanes.{past-thirty-two-bits}
 use Rattle.writer.proofs.Written.{fields-write-the-header, fields-write-the-payment, written-is-accepted}
 use Rattle.writer.proofs.Written.{payments-written-under-a-version}
@@ -38,17 +39,18 @@ use Rattle.ledger.proofs.Sessions.{abandon-keeps-board, abandon-drops-file, aba
 use Rattle.ledger.proofs.Sessions.{finish-answers, finish-keeps-session, payments-taken-under-a-version}
 use Rattle.ledger.proofs.Shown.{lanes-are-the-payments, lanes-in-order, each-lane-is-exact, no-issuer-has-two-lanes}
 use Rattle.ledger.proofs.Shown.{sums-are-the-records, totals-are-the-records, within-limits}
-use Rattle.session.proofs.Runs.{run-is-its-takes}
+use Rattle.session.proofs.Feeding.{run-is-its-takes, run-leaves-few, feeding-is-one-run}
 use Rattle.ledger.proofs.Runs.{run-is-the-ledgers}
 use Rattle.ledger.proofs.Calls.{calls-agree, replies-are-the-ledgers, calls-are-steps}
 use Rattle.ledger.proofs.LedgerFiles.{ledger-files-are-whole, open-files-have-a-version}
-use Rattle.ledger.proofs.FileBytes.{file-bytes-run}
+use Rattle.ledger.proofs.Forms.{forms-agree, only-ended-records}
+use Rattle.ledger.proofs.FileBytes.{pieces-are-the-records, file-bytes-run}
 use Rattle.ledger.proofs.WrittenFiles.{closed-file-bytes-run}
-use Rattle.ledger.proofs.WholeFiles.{file-accepted, file-posted, accepted-file-is-whole, fresh-session-accepts, fresh-session-shows}
+use Rattle.ledger.proofs.WholeFiles.{file-accepted, file-posted, fresh-session-accepts, fresh-session-shows}
+use Rattle.ledger.proofs.AcceptedFiles.{accepted-file-is-whole}
 use Rattle.ledger.proofs.WrittenFiles.{closed-file-is-whole, closed-file-is-accepted, fields-write-the-file}
-use Rattle.day.proofs.Buffers.{buffers-are-one-run}
 use Rattle.day.proofs.Inputs.{buffers-print-one-page}
-use Rattle.day.proofs.Samples.{worked-input, open-input, refused-input}
+use Rattle.day.proofs.Samples.{worked-input, open-input, lined-input, refused-input}
 use Rattle.promises.specs.Demands.{Demand1, Demand2, Demand3, Promised}
 use Rattle.promises.proofs.Calls.{calls-make-one-file, open-writers-have-a-version}
 use Rattle.promises.proofs.OneOutcome.{one-outcome}
@@ -97,6 +99,7 @@ demand-2 =
         payments-taken-under-a-version,
         payments-written-under-a-version,
       );
+      forms = (line-end-is-cr-and-lf, fitting-is-in-form, forms-agree, only-ended-records);
       codes = (decoded-answers, fields-are-its-places, built-is-read);
       lines = (decoded-line-answers, line-is-boxes-and-code, fields-give-a-line);
       records = (
@@ -125,7 +128,8 @@ demand-2 =
         written-is-accepted,
         trailer-shows-the-figures,
       );
-      bytesRun = (file-bytes-run, closed-file-bytes-run);
+      bytesRun = (pieces-are-the-records, file-bytes-run, closed-file-bytes-run);
+      fed = (run-leaves-few, feeding-is-one-run);
       answers = (session-agrees, answers-are-the-ledgers, next-answer-is-the-ledgers, run-is-the-ledgers);
       calls = (calls-agree, replies-are-the-ledgers, calls-are-steps);
       ledger = (lane-is-the-sessions, equal-is-the-boards, issuers-are-the-lanes, limits-are-the-boards);
@@ -156,5 +160,5 @@ promised =
       second = demand-2;
       third = demand-3;
       p1ToP12 = samples-hold;
-      program = (buffers-are-one-run, buffers-print-one-page, worked-input, open-input, refused-input);
+      program = (buffers-print-one-page, worked-input, open-input, lined-input, refused-input);
     }

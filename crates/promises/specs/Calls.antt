@@ -1,7 +1,7 @@
 -- A file that the writer closed (SPEC.md, "Writer"): over every list of calls to a new writer, refused ones in between.
 -- Assumes nothing.
 use Prim.Native.Nat.{ℕ, _≤_}
-use mathlib.Core.Bool.{true}
+use mathlib.Core.Bool.{Bool, true}
 use mathlib.Core.List.{List, [], _∷_, _++_, map}
 use mathlib.Core.Path.{_≡_}
 use lib.ListN.{length}
@@ -10,16 +10,17 @@ use Rattle.answer.specs.Orders.{ifAccepted}
 use Rattle.layout.specs.declared.Record.the-variants.{Header}
 use Rattle.layout.specs.Layouts.{recordLength, joinedOf}
 use Rattle.kinds.specs.Terms.{isVersion}
+use Rattle.file.specs.Forms.{inForm}
 use Rattle.board.specs.Lanes.{mostLanes, lanesFrom}
 use Rattle.session.specs.Sessions.{freshSession}
 use Rattle.writer.specs.declared.Stage.the-variants as stage
 use Rattle.writer.specs.declared.Writer.{Writer}
 use Rattle.writer.specs.Writers.{freshWriter, headerAnswer, headerWritten, headerBytes, paymentAnswer, paymentWritten}
-use Rattle.writer.specs.Writers.{trailerAnswer, trailerWritten, trailerBytes}
+use Rattle.writer.specs.Writers.{isLinedBuffer, trailerAnswer, trailerWritten, trailerBytes}
 use Rattle.ledger.specs.Ledgers.{taking, lanesOfRecords}
 use Rattle.ledger.specs.Promises.{answersOf}
 use Rattle.ledger.specs.Samples as ledger
-use Rattle.ledger.specs.WholeFiles.{Whole, AllAccepted}
+use Rattle.ledger.specs.WholeFiles.{Whole, recordsOf, allInForm, AllAccepted}
 use Rattle.ledger.specs.WrittenFiles.{GivenPayment, recordOf, writtenRecords, Closed, trailerAfter}
 
 -- a call, with its arguments and the length of the caller's buffer for its record
@@ -28,7 +29,7 @@ pub data WriterCall : Type 0 where
   payment : GivenPayment → ℕ → WriterCall
   trailer : ℕ → WriterCall
 
--- its answer, the writer after it, and the record that it writes if it is accepted
+-- its answer, the writer after it, and the record that it writes if it is accepted, with what follows it
 abbrev pub answerTo : Writer → WriterCall → Answer
 answerTo w (header given size) = headerAnswer w given size
 answerTo w (payment g size) = paymentAnswer w (g .fields) (g .received) (g .tariff) size
@@ -40,9 +41,9 @@ nextWriter w (payment g size) = paymentWritten w (g .fields) (g .received) (g .t
 nextWriter w (trailer size) = trailerWritten w size .writer
 
 abbrev pub writes : Writer → WriterCall → List ℕ
-writes w (header given size) = headerBytes given
-writes w (payment g size) = recordOf g
-writes w (trailer size) = trailerBytes w
+writes w (header given size) = inForm (isLinedBuffer size) (headerBytes given)
+writes w (payment g size) = inForm (isLinedBuffer size) (recordOf g)
+writes w (trailer size) = inForm (isLinedBuffer size) (trailerBytes w)
 
 -- calls one after the other: the writer after them, and the records that they wrote
 abbrev pub writerAfterCalls : Writer → List WriterCall → Writer
@@ -54,16 +55,18 @@ recordsWritten w [] = []
 recordsWritten w (call ∷ calls) =
     ifAccepted (answerTo w call) (writes w call ∷ []) [] ++ recordsWritten (nextWriter w call) calls
 
--- the calls wrote one file, with a header, payments that are right under the version it names, and the right trailer; a
--- fresh session accepts it, unless it has more than 64 issuers
+-- the calls wrote one file, all of one form, with a header, payments that are right under the version it names, and the
+-- right trailer; a fresh session accepts it, unless it has more than 64 issuers
 pub record OneFile (calls : List WriterCall) : Type 0 where
+  pub lined : Bool
   pub heading : List ℕ
   pub payments : List GivenPayment
-  pub closed : Closed heading payments
+  pub closed : Closed lined heading payments
   pub records :
       recordsWritten freshWriter calls
-      ≡ headerBytes heading ∷ (writtenRecords payments ++ (trailerAfter heading payments ∷ []))
-  pub whole : Whole (headerBytes heading) (writtenRecords payments) (trailerAfter heading payments)
+      ≡ allInForm lined
+      (recordsOf (headerBytes heading) (writtenRecords payments) (trailerAfter lined heading payments))
+  pub whole : Whole (headerBytes heading) (writtenRecords payments) (trailerAfter lined heading payments)
   pub accepted :
       length (lanesFrom (lanesOfRecords (writtenRecords payments))) ≤ mostLanes
       → AllAccepted (answersOf freshSession (map taking (recordsWritten freshWriter calls)))

@@ -17,6 +17,7 @@ use Rattle.record.specs.Promises.{HeadersNameAVersion, OtherRecordsIgnoreTerms,
 use Rattle.fields.specs.Promises.{FieldsMakeTheRecord, MadeIsAccepted}
 use Rattle.fields.specs.Promises.{OtherJoinsIgnoreTerms, OtherMakesIgnoreTerms, PaymentsJoinUnderAVersion}
 use Rattle.file.specs.Files.{OneRightTrailer}
+use Rattle.file.specs.Forms.{LineEndIsCrAndLf, FittingIsInForm}
 use Rattle.board.specs.Lanes.{PastThirtyTwoBits}
 use Rattle.writer.specs.Promises.{FieldsWriteTheHeader, FieldsWriteThePayment, FieldsWriteTheTrailer}
 use Rattle.writer.specs.Promises.{WrittenAmountsAreRead, WrittenIsAccepted, TrailerShowsTheFigures}
@@ -35,15 +36,16 @@ use Rattle.ledger.specs.Promises.{OnlyTrailersShow, NothingShowsBefore, Trailer
 use Rattle.ledger.specs.Promises.{AbandonKeepsBoard, AbandonDropsFile, AbandonNothing}
 use Rattle.ledger.specs.Promises.{FinishAnswers, FinishKeepsSession}
 use Rattle.ledger.specs.Promises.{OpenFilesHaveAVersion, PaymentsTakenUnderAVersion}
-use Rattle.session.specs.Runs.{RunIsItsTakes}
-use Rattle.ledger.specs.Runs.{RunIsTheLedgers, FileBytesRun}
+use Rattle.session.specs.Runs.{RunIsItsTakes, RunLeavesFew, FeedingIsOneRun}
+use Rattle.ledger.specs.Forms.{FormsAgree, OnlyEndedRecords}
+use Rattle.ledger.specs.Runs.{RunIsTheLedgers, FileBytesRun, PiecesAreTheRecords}
 use Rattle.ledger.specs.Calls.{CallsAgree, RepliesAreTheLedgers, CallsAreSteps}
 use Rattle.ledger.specs.WholeFiles.{LedgerFilesAreWhole}
-use Rattle.ledger.specs.WholeFiles.{FileAccepted, FilePosted, AcceptedFileIsWhole, FreshSessionAccepts, FreshSessionShows}
+use Rattle.ledger.specs.WholeFiles.{FileAccepted, FilePosted, AcceptedFileIsWhole}
+use Rattle.ledger.specs.WholeFiles.{FreshSessionAccepts, FreshSessionShows}
 use Rattle.ledger.specs.WrittenFiles.{ClosedFileIsWhole, ClosedFileIsAccepted, ClosedFileBytesRun, FieldsWriteTheFile}
-use Rattle.day.specs.Days.{BuffersAreOneRun}
 use Rattle.day.specs.Inputs.{BuffersPrintOnePage}
-use Rattle.day.specs.Samples.{WorkedInput, OpenInput, RefusedInput}
+use Rattle.day.specs.Samples.{WorkedInput, OpenInput, LinedInput, RefusedInput}
 use Rattle.promises.specs.Calls.{CallsMakeOneFile, OpenWritersHaveAVersion}
 use Rattle.promises.specs.OneOutcome.{OneOutcome}
 use Rattle.promises.specs.Refusals.{RefusalsChangeNothing}
@@ -71,8 +73,9 @@ pub record Demand1 : Type 2 where
   -- after a run of many records they are what the accepted records before the refusal left
   pub running : RunIsItsTakes
 
--- "It agrees with the FEBRABAN layout," the version the header names. A statement about a record is under any terms, one
--- about a file under the version of its own header's bytes: each covers 04 and 06.
+-- "It agrees with the FEBRABAN layout," the version the header names. A statement about a record is under any terms,
+-- one about a file under the version of its own header's bytes: each covers 04 and 06. A statement about a file is over
+-- its form too: each covers files whose records CR and LF follow and files without.
 pub record Demand2 : Type 0 where
   pub table : FieldsCover × RecordIsItsFields × MarkNames × GivenLengths
   pub versions :
@@ -82,6 +85,8 @@ pub record Demand2 : Type 0 where
   -- and they need one,
   pub needed :
       PaymentsNeedAVersion × PaymentsJoinUnderAVersion × PaymentsTakenUnderAVersion × PaymentsWrittenUnderAVersion
+  -- in either form, the one that the header has: records, sums and lanes are those of the bare file,
+  pub forms : LineEndIsCrAndLf × FittingIsInForm × FormsAgree × OnlyEndedRecords
   -- "Lines, barcodes and records decode to their fields,"
   pub codes : DecodedAnswers × FieldsAreItsPlaces × BuiltIsRead
   pub lines : DecodedLineAnswers × LineIsBoxesAndCode × FieldsGiveALine
@@ -98,8 +103,9 @@ pub record Demand2 : Type 0 where
   pub files : FileAccepted × FilePosted × AcceptedFileIsWhole × FreshSessionAccepts × FreshSessionShows
   pub written :
       ClosedFileIsWhole × ClosedFileIsAccepted × CallsMakeOneFile × WrittenIsAccepted × TrailerShowsTheFigures
-  -- also as bytes, run at once,
-  pub bytesRun : FileBytesRun × ClosedFileBytesRun
+  -- also as bytes, run at once or in parts,
+  pub bytesRun : PiecesAreTheRecords × FileBytesRun × ClosedFileBytesRun
+  pub fed : RunLeavesFew × FeedingIsOneRun
   -- "and each lane shows exactly the payments of accepted files,"
   pub answers : SessionAgrees × AnswersAreTheLedgers × NextAnswerIsTheLedgers × RunIsTheLedgers
   pub calls : CallsAgree × RepliesAreTheLedgers × CallsAreSteps
@@ -134,6 +140,6 @@ pub record Promised : Type 2 where
   pub second : Demand2
   pub third : Demand3
   pub p1ToP12 : Hold samples
-  -- `quadro` prints `pageOfInput` of the input's bytes, in whatever buffers they come; three inputs and their pages.
-  -- That a day of the program that is over is the day of the buffers it read is `OverIsTheInputs`, in its own crate.
-  pub program : BuffersAreOneRun × BuffersPrintOnePage × WorkedInput × OpenInput × RefusedInput
+  -- `quadro` prints `pageOfInput` of the input's bytes, in whatever buffers they come; inputs and their pages.
+  -- That a day of the program that is over is the day of the bytes it read is `OverIsTheInputs`, in its own crate.
+  pub program : BuffersPrintOnePage × WorkedInput × OpenInput × LinedInput × RefusedInput

@@ -46,6 +46,7 @@ pub record AnswerOutcomes : Type 2 where
   pub answer·Answer·number : One answer.Answer.number.ended (λ M. answer.Answer.number.clauses)
   pub answer·Answer·place : One answer.Answer.place.ended (λ M. answer.Answer.place.clauses)
   pub answer·Answer·behind : One answer.Answer.behind.ended (λ M. answer.Answer.behind.clauses)
+  pub answer·first_refusal : One answer.first_refusal.ended (λ M. answer.first_refusal.clauses)
 
 pub record DecimalOutcomes : Type 2 where
   pub «decimal·in_range» : One decimal.«in_range».ended (λ M. decimal.«in_range».clauses)
@@ -116,6 +117,8 @@ pub record FieldsOutcomes : Type 2 where
   pub fields·make : One fields.make.ended (λ M. fields.make.clauses)
 
 pub record FileOutcomes : Type 2 where
+  pub «file·record_length» : One file.«record_length».ended (λ M. file.«record_length».clauses)
+  pub file·has_line_end : One file.has_line_end.ended (λ M. file.has_line_end.clauses)
   pub file·File·new : One file.File.new.ended (λ M. file.File.new.clauses)
   pub file·File·take : One file.File.take.ended (λ M. file.File.take.clauses)
   pub file·File·check_trailer : One file.File.check_trailer.ended (λ M. file.File.check_trailer.clauses)

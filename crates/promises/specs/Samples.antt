@@ -88,7 +88,7 @@ outcomeOf (check m digits) = digit (checkOf m digits)
 outcomeOf (barcode code) = decodedTo (barcodes.decodedBarcode code)
 outcomeOf (line bytes) = decodedTo (lines.decodedLine bytes)
 outcomeOf (date bytes) = dated (dateOf bytes)
-outcomeOf (files bytes) = ranTo (runOf freshSession bytes)
+outcomeOf (files bytes) = ranTo (runOf freshSession false bytes)
 
 -- The inputs.
 
@@ -222,8 +222,8 @@ abbrev pub P9IsAChange : Type 0
 P9IsAChange =
     (p9 ≡ set p8 46 54) × ChangeUnderEleven p8 46 54 × NoCheck 46 × BothMove 46 p8 p9 × Passes p9
 
--- P8 with place 35 changed from 0 to 6, which is no check digit: the remainder of its box moves from 0 to 1, that of the
--- whole code from 0 to 8, and it is refused 7 at 4
+-- P8 with place 35 changed from 0 to 6, which is no check digit: the remainder of its box moves from 0 to 1, that of
+-- the whole code from 0 to 8, and it is refused 7 at 4
 abbrev pub BoxAloneIsRefused : Type 0
 BoxAloneIsRefused =
     ChangeUnderEleven p8 34 54

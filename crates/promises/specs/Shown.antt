@@ -12,6 +12,7 @@ use Rattle.calendar.specs.declared.Date.{Date}
 use Rattle.calendar.specs.Dates.{dateOf}
 use Rattle.barcode.specs.Codes.{fieldsOf}
 use Rattle.file.specs.Files.{countPlace, totalPlace}
+use Rattle.file.specs.Forms.{endPlace}
 use Rattle.layout.specs.declared.Record.the-variants.{Payment}
 use Rattle.layout.specs.Layouts.{rowAt, receivedRow, barcodeRow, countRow, totalRow}
 use Rattle.kinds.specs.Terms.{told, isVersion, termsAnswer}
@@ -26,7 +27,7 @@ dateAt first last rec = dayOf (dateOf (places first last rec))
 
 -- Promise: refusals 13 and 14 point at the count and the total of a Z, 16 and 18 at the received centavos of a G, and
 -- 17 at the issuer, place 16 of its barcode; 10 of a G that is told a number other than 4 and 6 points at place 80, an
--- A's version.
+-- A's version; 22 at place 151, right behind the record.
 abbrev pub RefusalsPointAtPlaces : Type 0
 RefusalsPointAtPlaces =
     (countPlace ≡ rowAt countRow .first)
@@ -34,6 +35,7 @@ RefusalsPointAtPlaces =
     × (receivedPlace ≡ rowAt receivedRow .first)
     × (issuerPlace ≡ rowAt barcodeRow .first - 1 + 16)
     × ((version : ℕ) → isVersion version ≡ false → termsAnswer (told version) Payment ≡ Refused FixedDiffers 80)
+    × (endPlace ≡ 151)
 
 -- Promise: bank, date, sequence number and version of an A; dates, barcode, amounts and number of a G; count and total
 -- of a Z.

@@ -1,7 +1,8 @@
 -- `hollytrot::writers::hollytrot_writer_header` meets its contract. Assumes nothing.
 use borrow.Author.Needs.{needs}
 use lib.ListN.{length}
-use Rattle.writer.specs.Writers.{headerWritten, headerBytes}
+use Rattle.file.specs.Forms.{inForm}
+use Rattle.writer.specs.Writers.{isLinedBuffer, headerWritten, headerBytes}
 use Rattle.hollytrot.proofs.Steps.{written}
 use Rattle.hollytrot.proofs.writers.hollytrot_writer_header.Statement.{statement}
 use Rattle.hollytrot.proofs.writers.hollytrot_writer_header.Tie as tie
@@ -25,7 +26,7 @@ returns c =
     let a = given .before .before .before .args in
     let fields = a .fields .now in
     let out = a .out .now in
-    let of = written (λ w. headerWritten w fields (length out)) (λ w. headerBytes fields) (a .writer) out in
+    let of = written (λ w. headerWritten w fields (length out)) (λ w. inForm (isLinedBuffer (length out)) (headerBytes fields)) (a .writer) out in
     let e = call .header .ensures in
     of (given .writer-from-c .ensures) (e .0) (e .1) (c .c-write-result .ensures)
 

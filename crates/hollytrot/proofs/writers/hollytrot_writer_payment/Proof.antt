@@ -3,7 +3,8 @@ use borrow.Author.Needs.{needs}
 use lib.ListN.{length}
 use Rattle.writer.specs.declared.Writer.{Writer}
 use Rattle.writer.specs.declared.WriteResult.{WriteResult}
-use Rattle.writer.specs.Writers.{paymentWritten, paymentBytes}
+use Rattle.file.specs.Forms.{inForm}
+use Rattle.writer.specs.Writers.{isLinedBuffer, paymentWritten, paymentBytes}
 use Rattle.hollytrot.proofs.Steps.{written}
 use Rattle.hollytrot.proofs.writers.hollytrot_writer_payment.Statement.{statement}
 use Rattle.hollytrot.proofs.writers.hollytrot_writer_payment.Tie as tie
@@ -28,7 +29,7 @@ returns c =
     let fields = a .fields .now in
     let out = a .out .now in
     let result : Writer → WriteResult = λ w. paymentWritten w fields (a .received) (a .tariff) (length out) in
-    let of = written result (λ w. paymentBytes fields (a .received) (a .tariff)) (a .writer) out in
+    let of = written result (λ w. inForm (isLinedBuffer (length out)) (paymentBytes fields (a .received) (a .tariff))) (a .writer) out in
     let e = call .payment .ensures in
     of (given .writer-from-c .ensures) (e .0) (e .1) (c .c-write-result .ensures)
 

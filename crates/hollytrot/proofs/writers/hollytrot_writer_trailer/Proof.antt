@@ -1,7 +1,8 @@
 -- `hollytrot::writers::hollytrot_writer_trailer` meets its contract. Assumes nothing.
 use borrow.Author.Needs.{needs}
 use lib.ListN.{length}
-use Rattle.writer.specs.Writers.{trailerWritten, trailerBytes}
+use Rattle.file.specs.Forms.{inForm}
+use Rattle.writer.specs.Writers.{isLinedBuffer, trailerWritten, trailerBytes}
 use Rattle.hollytrot.proofs.Steps.{written}
 use Rattle.hollytrot.proofs.writers.hollytrot_writer_trailer.Statement.{statement}
 use Rattle.hollytrot.proofs.writers.hollytrot_writer_trailer.Tie as tie
@@ -24,7 +25,7 @@ returns c =
     let given = call .before .before in
     let a = given .before .before .args in
     let out = a .out .now in
-    let of = written (λ w. trailerWritten w (length out)) trailerBytes (a .writer) out in
+    let of = written (λ w. trailerWritten w (length out)) (λ w. inForm (isLinedBuffer (length out)) (trailerBytes w)) (a .writer) out in
     let e = call .trailer .ensures in
     of (given .writer-from-c .ensures) (e .0) (e .1) (c .c-write-result .ensures)
 
