@@ -4,27 +4,32 @@
 use std::hint::black_box;
 use std::time::Instant;
 
+use reference::days::{self, Form};
 use reference::random::Random;
-use reference::{barcode, days, line, Refusal, Session};
+use reference::{barcode, line, Refusal, Session};
 
 fn main() -> Result<(), Refusal> {
-    for issuers in [1, 8, 64] {
-        session(issuers, 20, 10_000)?;
+    for form in Form::ALL {
+        println!("{form:?} files");
+        for issuers in [1, 8, 64] {
+            session(issuers, 20, 10_000, form)?;
+        }
+        session(64, 20_000, 10, form)?;
     }
-    session(64, 20_000, 10)?;
     codes()
 }
 
-fn session(issuers: usize, files: usize, most: usize) -> Result<(), Refusal> {
-    let day = days::day(&mut Random::new(1), issuers, files, most)?;
-    let records = day.bytes.len() / 150;
+fn session(issuers: usize, files: usize, most: usize, form: Form) -> Result<(), Refusal> {
+    let day = days::day_of(&mut Random::new(1), issuers, files, most, form)?;
+    let mut records = 0;
     let mut best = f64::MAX;
     for _ in 0..20 {
         let mut session = Session::new();
         let start = Instant::now();
-        let result = session.run(black_box(&day.bytes));
+        let result = session.run(black_box(&day.bytes), false);
         best = best.min(start.elapsed().as_secs_f64());
         result.answer?;
+        records = result.records;
         black_box(&session);
     }
     println!(

@@ -3,8 +3,8 @@
 mod damage;
 mod files;
 
-pub use damage::{damage, disorder, swap};
-pub use files::{day, Day, Posted};
+pub use damage::{damage, damage_line_end, disorder, swap};
+pub use files::{day, day_of, Day, Form, Posted};
 
 use crate::barcode::{self, Issuer};
 use crate::dates::{days_in, Date};

@@ -1,13 +1,13 @@
 //! The page: docs/SPEC.md, "Page" and "The program quadro".
 
 use std::io::{self, Read, Write};
+use std::mem;
 
-use crate::records;
 use crate::refusal::{answer, Refusal};
 use crate::session::{Board, Lane, Session};
 
-/// How many bytes are read at a time: whole records.
-const PIECE: usize = 4096 * records::LENGTH;
+/// How many bytes are read at a time, at most. Any number would do.
+const PIECE: usize = 1 << 19;
 
 /// The page: key=value lines, each ended by a newline. The number and the place of the answer may be any numbers.
 pub fn page(number: u64, place: u64, records: u64, files: u64, board: &Board) -> Vec<u8> {
@@ -44,13 +44,15 @@ fn issuer_line(text: &mut Vec<u8>, lane: &Lane) {
     );
 }
 
-/// A session that takes an input piece by piece, with the counts that the page has.
+/// A session that takes an input piece by piece, with the counts that the page has. Pieces may be of any length: the
+/// rest that was read but not taken yet, at most 151 bytes, is kept for the next one. After a refusal it is empty.
 #[derive(Clone, Debug, PartialEq, Eq)]
 pub struct Reading {
     pub session: Session,
     pub records: u64,
     pub files: u64,
     pub outcome: Result<(), Refusal>,
+    pub rest: Vec<u8>,
 }
 
 impl Default for Reading {
@@ -67,59 +69,70 @@ impl Reading {
             records: 0,
             files: 0,
             outcome: Ok(()),
+            rest: Vec::new(),
         }
     }
 
-    /// Takes the records of a piece up to the first refusal; nothing after a refusal.
+    /// Takes the records of the rest and a piece behind it, up to the first refusal; nothing after a refusal. More may
+    /// follow, so the last bytes become the rest.
     pub fn take(&mut self, piece: &[u8]) {
         if self.outcome.is_ok() {
-            let result = self.session.run(piece);
-            self.records = self.records.saturating_add(result.records);
-            self.files = self.files.saturating_add(result.files);
-            self.outcome = result.answer;
+            let mut bytes = mem::take(&mut self.rest);
+            bytes.extend_from_slice(piece);
+            let taken = self.run(&bytes, true);
+            if self.outcome.is_ok() {
+                bytes.drain(..taken);
+                self.rest = bytes;
+            }
         }
     }
 
-    /// The page at the end of the input, with the first refusal or else the answer of `finish`.
+    /// Takes the rest: the input has ended.
+    pub fn end(&mut self) {
+        if self.outcome.is_ok() {
+            let rest = mem::take(&mut self.rest);
+            self.run(&rest, false);
+        }
+    }
+
+    /// The page of an input that ends here, with the first refusal or else the answer of `finish`. It changes nothing.
     pub fn page(&self) -> Vec<u8> {
-        let (number, place) = answer(&self.outcome.and_then(|()| self.session.finish()));
-        let board = self.session.board();
-        page(number, place as u64, self.records, self.files, board)
+        let mut ended = self.clone();
+        ended.end();
+        let (number, place) = answer(&ended.outcome.and_then(|()| ended.session.finish()));
+        let board = ended.session.board();
+        page(number, place as u64, ended.records, ended.files, board)
+    }
+
+    /// Takes records and counts them; returns how many bytes they had.
+    fn run(&mut self, bytes: &[u8], more: bool) -> usize {
+        let result = self.session.run(bytes, more);
+        self.records = self.records.saturating_add(result.records);
+        self.files = self.files.saturating_add(result.files);
+        self.outcome = result.answer;
+        result.bytes
     }
 }
 
 /// The page of a whole input.
 pub fn page_of(input: &[u8]) -> Vec<u8> {
     let mut reading = Reading::new();
-    reading.take(input);
+    reading.run(input, false);
     reading.page()
 }
 
-/// The page of an input, which is read in large pieces to its end or to the first refusal. There is no page if a read
-/// fails.
+/// The page of an input, which is read in pieces, as they come, to its end or to the first refusal. There is no page if
+/// a read fails.
 pub fn read_page(mut input: impl Read) -> io::Result<Vec<u8>> {
     let mut reading = Reading::new();
     let mut piece = vec![0; PIECE];
-    loop {
-        let filled = fill(&mut input, &mut piece)?;
-        reading.take(&piece[..filled]);
-        let ended = filled < piece.len();
-        if ended || reading.outcome.is_err() {
-            return Ok(reading.page());
-        }
-    }
-}
-
-/// Fills the piece and returns how many bytes it has: less than its length only at the end of the input.
-fn fill(input: &mut impl Read, piece: &mut [u8]) -> io::Result<usize> {
-    let mut filled = 0;
-    while filled < piece.len() {
-        match input.read(&mut piece[filled..]) {
+    while reading.outcome.is_ok() {
+        match input.read(&mut piece) {
             Ok(0) => break,
-            Ok(count) => filled += count,
+            Ok(count) => reading.take(&piece[..count]),
             Err(error) if error.kind() == io::ErrorKind::Interrupted => {}
             Err(error) => return Err(error),
         }
     }
-    Ok(filled)
+    Ok(reading.page())
 }

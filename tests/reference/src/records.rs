@@ -15,6 +15,12 @@ use fields::{barcode, capture, date, fixed, form, number, service, text, version
 
 pub const LENGTH: usize = 150;
 
+/// The bytes that follow every record of a lined file: CR and LF.
+pub const LINE_END: &[u8; 2] = &[13, 10];
+
+/// The length of a record with its line end.
+pub const LINED: usize = LENGTH + LINE_END.len();
+
 /// The lengths of the field bytes of an A and of a G.
 pub const HEADER_FIELDS: usize = 80;
 pub const PAYMENT_FIELDS: usize = 121;

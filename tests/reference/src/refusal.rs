@@ -26,10 +26,11 @@ pub enum Reason {
     FileOpen = 19,
     WideCheck = 20,
     WideNumber = 21,
+    NoLineEnd = 22,
 }
 
 impl Reason {
-    /// Every reason: the numbers 1 to 21, each once. Nothing depends on the order.
+    /// Every reason: the numbers 1 to 22, each once. Nothing depends on the order.
     pub const ALL: &'static [Reason] = &[
         Reason::Length,
         Reason::NoDigit,
@@ -52,6 +53,7 @@ impl Reason {
         Reason::FileOpen,
         Reason::WideCheck,
         Reason::WideNumber,
+        Reason::NoLineEnd,
     ];
 
     /// The number in docs/SPEC.md, "Refusals".
@@ -91,6 +93,7 @@ impl Reason {
             Reason::FileOpen => "end of the input while a file is open",
             Reason::WideCheck => "a computed check digit needs two places",
             Reason::WideNumber => "number too wide for its field",
+            Reason::NoLineEnd => "bytes 13 and 10 do not follow the record",
         }
     }
 }

@@ -1,112 +1,17 @@
-//! Sessions and the board: docs/SPEC.md, "Sessions", "Board" and "Limits".
+//! Sessions: docs/SPEC.md, "Sessions" and "Limits".
 
-use crate::barcode::Issuer;
-use crate::records::{self, Payment, Trailer};
+mod board;
+
+pub use board::{Board, Lane, LANES, MOST_BOARD_TOTAL};
+
+use crate::records::{self, Payment, Trailer, LENGTH, LINED, LINE_END};
 use crate::refusal::{Reason, Refusal};
-
-/// How many lanes a board has.
-pub const LANES: usize = 64;
 
 /// The most payments of a file.
 pub const MOST_PAYMENTS: u64 = 999_997;
 
 /// The most centavos of a file, 17 digits.
 pub const MOST_FILE_TOTAL: u64 = 99_999_999_999_999_999;
-
-/// The most payments, and the most centavos, of a board: 10^18.
-pub const MOST_BOARD_TOTAL: u64 = 1_000_000_000_000_000_000;
-
-/// A lane: an issuer, its payments and the centavos received.
-#[derive(Clone, Copy, Debug, Default, PartialEq, Eq, Hash)]
-pub struct Lane {
-    pub issuer: Issuer,
-    pub payments: u64,
-    pub centavos: u64,
-}
-
-/// A board: its lanes in the order in which issuers first appeared, how many of them are in use, and the totals over
-/// them.
-#[derive(Clone, Copy, Debug, PartialEq, Eq, Hash)]
-pub struct Board {
-    pub lanes: [Lane; LANES],
-    pub used: usize,
-    pub payments: u64,
-    pub centavos: u64,
-}
-
-impl Default for Board {
-    fn default() -> Self {
-        Board::new()
-    }
-}
-
-impl Board {
-    /// The empty board.
-    pub const fn new() -> Board {
-        const UNUSED: Lane = Lane {
-            issuer: Issuer {
-                segment: 0,
-                number: 0,
-            },
-            payments: 0,
-            centavos: 0,
-        };
-        Board {
-            lanes: [UNUSED; LANES],
-            used: 0,
-            payments: 0,
-            centavos: 0,
-        }
-    }
-
-    /// The lanes in use: the first `used` of the 64.
-    #[inline]
-    pub fn in_use(&self) -> &[Lane] {
-        &self.lanes[..self.used.min(LANES)]
-    }
-
-    /// Posts one payment: 17 at 53, 18 at 82. A board in an arbitrary state may have any numbers, so sums saturate at
-    /// 2^64 - 1, which is past every limit.
-    fn post(&mut self, issuer: Issuer, received: u64) -> Result<(), Refusal> {
-        let found = self.in_use().iter().position(|lane| lane.issuer == issuer);
-        let index = match found {
-            Some(index) => index,
-            None if self.used < LANES => self.used,
-            None => return Err(Reason::TooManyLanes.at(53)),
-        };
-        let before = match found {
-            Some(index) => self.lanes[index],
-            None => Lane {
-                issuer,
-                ..Lane::default()
-            },
-        };
-        let lane = Lane {
-            issuer,
-            payments: board_sum(before.payments, 1)?,
-            centavos: board_sum(before.centavos, received)?,
-        };
-        let payments = board_sum(self.payments, 1)?;
-        let centavos = board_sum(self.centavos, received)?;
-        self.lanes[index] = lane;
-        self.payments = payments;
-        self.centavos = centavos;
-        if found.is_none() {
-            self.used = index + 1;
-        }
-        Ok(())
-    }
-}
-
-/// The sum, or 18 at 82 if it is past the board's limit.
-#[inline(always)]
-fn board_sum(before: u64, more: u64) -> Result<u64, Refusal> {
-    let sum = before.saturating_add(more);
-    if sum > MOST_BOARD_TOTAL {
-        return Err(Reason::BoardTotal.at(82));
-    }
-    Ok(sum)
-}
 
 /// The sum, or 16 at 82 if it is past the file's limit. The writer uses it too.
 #[inline(always)]
@@ -127,16 +32,18 @@ pub(crate) fn check_payment_count(taken: u64) -> Result<(), Refusal> {
     Ok(())
 }
 
-/// The result of taking many records: how many records and files were accepted, and the first refusal.
+/// The result of taking many records: how many records and files were accepted, the first refusal, and how many bytes
+/// the accepted records had, line ends included.
 #[derive(Clone, Copy, Debug, PartialEq, Eq)]
 pub struct RunResult {
     pub records: u64,
     pub files: u64,
     pub answer: Result<(), Refusal>,
+    pub bytes: usize,
 }
 
-/// A session. While no file is open, `taken`, `total` and `version` are 0 and `working` equals `shown`, except in an
-/// arbitrary state.
+/// A session. While no file is open, `taken`, `total` and `version` are 0, `lined` is false and `working` equals
+/// `shown`, except in an arbitrary state.
 #[derive(Clone, Debug, PartialEq, Eq, Hash)]
 pub struct Session {
     /// Whether a file is open.
@@ -147,6 +54,8 @@ pub struct Session {
     pub total: u64,
     /// The version that the open file's header names, 4 or 6.
     pub version: u64,
+    /// Whether the open file is lined: CR and LF follow its header, and must follow each of its records.
+    pub lined: bool,
     /// The board shown, which has accepted files only.
     pub shown: Board,
     /// The working board, which has the open file's payments too.
@@ -167,52 +76,91 @@ impl Session {
             taken: 0,
             total: 0,
             version: 0,
+            lined: false,
             shown: Board::new(),
             working: Board::new(),
         }
     }
 
-    /// Takes one record. Order: 1, 9; for G 10 at 80 if the version, in an arbitrary state, is neither 4 nor 6; the
-    /// fields; then for Z 13, 14, and for G 15, 16, 17, 18. A refusal changes nothing.
+    /// Takes one record, in a lined file with its line end. Order: 1, 9; for G 10 at 80 if the version, in an arbitrary
+    /// state, is neither 4 nor 6; the fields; then for Z 13, 14, and for G 15, 16, 17, 18; last 22. A refusal changes
+    /// nothing.
     pub fn take(&mut self, record: &[u8]) -> Result<(), Refusal> {
-        let record = records::require_length(record)?;
+        let (record, end) = self.split(record)?;
         match (record[0], self.open) {
             (b'A', false) => {
                 let header = records::header(record)?;
-                self.begin(header.version);
+                self.begin(header.version, end == LINE_END);
                 Ok(())
             }
             (b'G', true) => {
                 let codes = records::codes(self.version)?;
                 let payment = records::payment(record, codes)?;
-                self.post(&payment)
+                self.post(&payment, end)
             }
             (b'Z', true) => {
                 let trailer = records::trailer(record)?;
-                self.accept(&trailer)
+                self.accept(&trailer, end)
             }
             _ => Err(Reason::Unexpected.at(1)),
         }
     }
 
-    /// Takes consecutive records up to the first refusal. A rest shorter than 150 bytes is a record of the wrong
-    /// length.
-    pub fn run(&mut self, bytes: &[u8]) -> RunResult {
+    /// Takes consecutive records up to the first refusal. Where more bytes are to come, nothing is taken once fewer
+    /// than 152 are left: a line end may be among those to come. Else the last piece may be shorter than a record, and
+    /// is one of the wrong length.
+    pub fn run(&mut self, bytes: &[u8], more: bool) -> RunResult {
+        let least = if more { LINED } else { 1 };
         let mut result = RunResult {
             records: 0,
             files: 0,
             answer: Ok(()),
+            bytes: 0,
         };
-        for record in bytes.chunks(records::LENGTH) {
-            result.answer = self.take(record);
+        let mut rest = bytes;
+        while rest.len() >= least {
+            let (piece, after) = rest.split_at(self.piece_length(rest));
+            result.answer = self.take(piece);
             if result.answer.is_err() {
                 break;
             }
             result.records += 1;
             // An accepted Z is an accepted file.
-            result.files += u64::from(record[0] == b'Z');
+            result.files += u64::from(piece[0] == b'Z');
+            result.bytes += piece.len();
+            rest = after;
         }
         result
+    }
+
+    /// The length of the next piece of these bytes. The form of the open file decides; while none is open, whether CR
+    /// and LF follow the first 150 bytes. The last piece may be shorter.
+    #[inline(always)]
+    fn piece_length(&self, bytes: &[u8]) -> usize {
+        let lined = if self.open {
+            self.lined
+        } else {
+            bytes.get(LENGTH..LINED) == Some(LINE_END.as_slice())
+        };
+        bytes.len().min(if lined { LINED } else { LENGTH })
+    }
+
+    /// The 150 bytes of a record and what follows them; 1 for a length that is not right in this state. Where A is
+    /// expected, the line end is part of the length, and `lined` is not asked.
+    #[inline(always)]
+    fn split<'a>(&self, record: &'a [u8]) -> Result<(&'a [u8; LENGTH], &'a [u8]), Refusal> {
+        let wrong = Reason::Length.at(0);
+        let (record, end) = record.split_first_chunk().ok_or(wrong)?;
+        let right = match (self.open, self.lined) {
+            (false, _) => end.is_empty() || end == LINE_END,
+            (true, false) => end.is_empty(),
+            (true, true) => end.len() <= LINE_END.len(),
+        };
+        if right {
+            Ok((record, end))
+        } else {
+            Err(wrong)
+        }
     }
 
     /// Drops the open file; does nothing if none is open.
@@ -235,30 +183,42 @@ impl Session {
         &self.shown
     }
 
-    /// Opens a file of this version: the working board starts as the board shown.
-    fn begin(&mut self, version: u64) {
+    /// Opens a file of this version and form: the working board starts as the board shown.
+    fn begin(&mut self, version: u64, lined: bool) {
         self.open = true;
         self.taken = 0;
         self.total = 0;
         self.version = version;
+        self.lined = lined;
         self.working = self.shown;
     }
 
-    /// Adds a payment to the open file: 15, 16, 17, 18.
+    /// 22 at 151 if the open file is lined and this, which follows one of its records, is not its line end.
     #[inline(always)]
-    fn post(&mut self, payment: &Payment) -> Result<(), Refusal> {
+    fn check_end(&self, end: &[u8]) -> Result<(), Refusal> {
+        if self.lined && end != LINE_END {
+            return Err(Reason::NoLineEnd.at(LENGTH + 1));
+        }
+        Ok(())
+    }
+
+    /// Adds a payment, and what follows it, to the open file: 15, 16, 17, 18, 22.
+    #[inline(always)]
+    fn post(&mut self, payment: &Payment, end: &[u8]) -> Result<(), Refusal> {
         check_payment_count(self.taken)?;
         let total = file_sum(self.total, payment.received)?;
-        self.working
-            .post(payment.barcode.issuer(), payment.received)?;
+        let issuer = payment.barcode.issuer();
+        let posting = self.working.posting(issuer, payment.received)?;
+        self.check_end(end)?;
+        self.working.post(posting);
         self.total = total;
         // No overflow: `taken` is below 999,997 here.
         self.taken += 1;
         Ok(())
     }
 
-    /// Accepts the open file if the trailer has its count and total: 13, 14.
-    fn accept(&mut self, trailer: &Trailer) -> Result<(), Refusal> {
+    /// Accepts the open file if the trailer has its count and total and, in a lined file, its line end: 13, 14, 22.
+    fn accept(&mut self, trailer: &Trailer, end: &[u8]) -> Result<(), Refusal> {
         // In an arbitrary state the sum may pass 2^64; then no trailer has this count.
         if self.taken.checked_add(2) != Some(trailer.count) {
             return Err(Reason::TrailerCount.at(2));
@@ -266,6 +226,7 @@ impl Session {
         if self.total != trailer.total {
             return Err(Reason::TrailerTotal.at(8));
         }
+        self.check_end(end)?;
         self.shown = self.working;
         self.close();
         Ok(())
@@ -277,6 +238,7 @@ impl Session {
         self.taken = 0;
         self.total = 0;
         self.version = 0;
+        self.lined = false;
         self.working = self.shown;
     }
 }

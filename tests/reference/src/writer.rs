@@ -1,6 +1,6 @@
 //! The writer of one file: docs/SPEC.md, "Writer".
 
-use crate::records::{self, G_RECEIVED, G_TARIFF, LENGTH, TABLE, Z_COUNT, Z_TOTAL};
+use crate::records::{self, G_RECEIVED, G_TARIFF, LENGTH, LINE_END, TABLE, Z_COUNT, Z_TOTAL};
 use crate::refusal::{Reason, Refusal};
 use crate::session::{check_payment_count, file_sum, MOST_PAYMENTS};
 
@@ -25,6 +25,29 @@ pub struct Writer {
     pub total: u64,
     /// The version that the header written names, 4 or 6; 0 before that.
     pub version: u64,
+    /// Whether the file is lined, with CR and LF behind each record: the header's buffer decides. False before that.
+    pub lined: bool,
+}
+
+/// The caller's buffer for a record: 150 bytes for the record, and none or two for its line end.
+struct Buffer<'a> {
+    record: &'a mut [u8; LENGTH],
+    end: &'a mut [u8],
+}
+
+impl Buffer<'_> {
+    /// Whether it has two bytes for a line end.
+    fn lined(&self) -> bool {
+        self.end.len() == LINE_END.len()
+    }
+
+    /// Writes the record, and a line end into a buffer of 152 bytes.
+    fn write(self, record: &[u8; LENGTH]) {
+        if self.lined() {
+            self.end.copy_from_slice(LINE_END);
+        }
+        *self.record = *record;
+    }
 }
 
 impl Default for Writer {
@@ -41,23 +64,26 @@ impl Writer {
             taken: 0,
             total: 0,
             version: 0,
+            lined: false,
         }
     }
 
-    /// Writes the A of 80 field bytes. Order: 1, 9, the fields. A refusal changes nothing.
+    /// Writes the A of 80 field bytes. A buffer of 152 bytes makes the file lined, one of 150 bare. Order: 1, 9, the
+    /// fields. A refusal changes nothing.
     pub fn header(&mut self, fields: &[u8], out: &mut [u8]) -> Result<(), Refusal> {
         let fields = fields.try_into().map_err(|_| Reason::Length.at(0))?;
-        let out = require_length(out)?;
+        let buffer = self.buffer(out)?;
         self.expects(Stage::Fresh)?;
         let record = records::header_from_fields(fields);
         let header = records::header(&record)?;
-        *out = record;
         *self = Writer {
             stage: Stage::Open,
             taken: 0,
             total: 0,
             version: header.version,
+            lined: buffer.lined(),
         };
+        buffer.write(&record);
         Ok(())
     }
 
@@ -71,7 +97,7 @@ impl Writer {
         out: &mut [u8],
     ) -> Result<(), Refusal> {
         let fields = fields.try_into().map_err(|_| Reason::Length.at(0))?;
-        let out = require_length(out)?;
+        let buffer = self.buffer(out)?;
         self.expects(Stage::Open)?;
         let codes = records::codes(self.version)?;
         let mut record = records::payment_from_fields(fields);
@@ -81,14 +107,14 @@ impl Writer {
         self.total = file_sum(self.total, received)?;
         // No overflow: `taken` is below 999,997 here.
         self.taken += 1;
-        *out = record;
+        buffer.write(&record);
         Ok(())
     }
 
     /// Writes the Z and closes the file. Order: 1, 9; then 15, 16 for a writer in an arbitrary state whose count or
     /// total is too wide. A refusal changes nothing.
     pub fn trailer(&mut self, out: &mut [u8]) -> Result<(), Refusal> {
-        let out = require_length(out)?;
+        let buffer = self.buffer(out)?;
         self.expects(Stage::Open)?;
         if self.taken > MOST_PAYMENTS {
             return Err(Reason::TooManyPayments.at(1));
@@ -99,9 +125,28 @@ impl Writer {
         // Both fit, by the two checks above.
         records::write_number::<Z_COUNT>(&mut record, self.taken + 2);
         records::write_number::<Z_TOTAL>(&mut record, self.total);
-        *out = record;
+        buffer.write(&record);
         self.stage = Stage::Closed;
         Ok(())
+    }
+
+    /// The buffer of a record; 1 for a wrong length. A fresh writer takes 150 or 152 bytes, whatever `lined` is;
+    /// after that the file's form decides, also when it is closed.
+    fn buffer<'a>(&self, out: &'a mut [u8]) -> Result<Buffer<'a>, Refusal> {
+        let wrong = Reason::Length.at(0);
+        let (record, end) = out.split_first_chunk_mut().ok_or(wrong)?;
+        let buffer = Buffer { record, end };
+        let lined = buffer.lined();
+        let right = match self.stage {
+            Stage::Fresh => lined || buffer.end.is_empty(),
+            Stage::Open | Stage::Closed if self.lined => lined,
+            Stage::Open | Stage::Closed => buffer.end.is_empty(),
+        };
+        if right {
+            Ok(buffer)
+        } else {
+            Err(wrong)
+        }
     }
 
     /// 9 at 1 if the writer is at another stage.
@@ -111,11 +156,6 @@ impl Writer {
         }
         Ok(())
     }
-}
-
-/// 1 for a buffer of a length other than 150.
-fn require_length(out: &mut [u8]) -> Result<&mut [u8; LENGTH], Refusal> {
-    out.try_into().map_err(|_| Reason::Length.at(0))
 }
 
 /// Writes both amounts; 21 for the first that is too wide, whose field keeps its zeros.

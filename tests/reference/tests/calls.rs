@@ -18,8 +18,14 @@ fn any_calls_of_a_writer() {
         let mut writer = Writer::new();
         let mut bytes = Vec::new();
         for _ in 0..random.below(60) {
-            let mut out = [7; 150];
-            let length = if random.once_in(20) { 149 } else { 150 };
+            let mut out = [7; 154];
+            // Mostly the length that is right.
+            let length = match random.below(20) {
+                0 => 148 + random.index(7),
+                1..=9 if writer.stage == Stage::Fresh => 152,
+                _ if writer.lined => 152,
+                _ => 150,
+            };
             let buffer = &mut out[..length];
             let before = writer.clone();
             let outcome = match random.below(30) {
@@ -43,24 +49,35 @@ fn any_calls_of_a_writer() {
                 }
             };
             match outcome {
-                Ok(()) => bytes.extend_from_slice(&out),
-                Err(_) => assert_eq!((&writer, out), (&before, [7; 150])),
+                Ok(()) => {
+                    assert_eq!(length, if writer.lined { 152 } else { 150 });
+                    bytes.extend_from_slice(&out[..length]);
+                }
+                Err(refusal) => {
+                    assert_eq!((&writer, out), (&before, [7; 154]));
+                    assert_ne!(refusal.number(), 22);
+                }
             }
         }
         let mut session = Session::new();
-        let run = session.run(&bytes);
+        let run = session.run(&bytes, false);
         assert_eq!(run.answer, Ok(()));
         assert_eq!(run.files, u64::from(writer.stage == Stage::Closed));
         assert_eq!(session.open, writer.stage == Stage::Open);
-        *closed.entry(writer.version).or_insert(0) += run.files;
+        assert_eq!(run.bytes, bytes.len());
+        let kind = (writer.version, writer.lined);
+        *closed.entry(kind).or_insert(0) += run.files;
         if session.open {
             assert_eq!(
                 (session.taken, session.total, session.version),
                 (writer.taken, writer.total, writer.version)
             );
+            assert_eq!(session.lined, writer.lined);
         }
     }
-    assert!(closed[&4] > 100 && closed[&6] > 100, "{closed:?}");
+    for kind in [(4, false), (4, true), (6, false), (6, true)] {
+        assert!(closed[&kind] > 50, "{closed:?}");
+    }
 }
 
 /// The writer refuses a G that the naive check of the record refuses, with 21 in the turn of its field.

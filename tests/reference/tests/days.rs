@@ -38,7 +38,7 @@ fn days_with_0_to_70_issuers() {
         for files in [1, 2, 9, 40] {
             let day = days::day(&mut random, issuers, files, 30).unwrap();
             let mut session = Session::new();
-            let run = session.run(&day.bytes);
+            let run = session.run(&day.bytes, false);
             let accepted = match refused_at(&day) {
                 Some((accepted, record)) => {
                     assert!(issuers > 64);

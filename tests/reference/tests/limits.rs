@@ -5,7 +5,7 @@ mod common;
 use std::collections::BTreeMap;
 
 use common::naive::NaiveSession;
-use common::{a, assert_answer, code_for, g, p4_code, with_bytes, z};
+use common::{a, assert_answer, code_for, followed, g, p4_code, with_bytes, z};
 use reference::random::Random;
 use reference::records;
 use reference::{answer, days, Board, Lane, Session, Writer};
@@ -220,6 +220,12 @@ fn left_out(board: &Board) -> (usize, &[Lane]) {
     (board.used, &board.lanes[board.used.min(64)..])
 }
 
+/// What may follow a record: mostly nothing or its line end.
+fn any_end(random: &mut Random) -> &'static [u8] {
+    const ENDS: [&[u8]; 8] = [b"", b"", b"", b"\r\n", b"\r\n", b"\r", b"\n\r", b"\r\n\r"];
+    ENDS[random.index(ENDS.len())]
+}
+
 /// Sessions in arbitrary states against the naive one, which counts in 128 bits.
 #[test]
 fn arbitrary_sessions_against_the_naive_one() {
@@ -236,6 +242,7 @@ fn arbitrary_sessions_against_the_naive_one() {
             },
             total: small_or_edge(&mut random),
             version: arbitrary_version(&mut random),
+            lined: random.once_in(2),
             shown: arbitrary_board(&mut random, &few),
             working: arbitrary_board(&mut random, &few),
         };
@@ -258,6 +265,7 @@ fn arbitrary_sessions_against_the_naive_one() {
             }
         };
         let before = session.clone();
+        let record = followed(&record, any_end(&mut random));
         let expected = NaiveSession::of(&session).take(&record);
         let outcome = session.take(&record);
         assert_eq!(answer(&outcome), expected.clone().err().unwrap_or((0, 0)));
@@ -278,7 +286,7 @@ fn arbitrary_sessions_against_the_naive_one() {
         }
         *seen.entry(answer(&outcome).0).or_insert(0) += 1;
     }
-    for number in [0, 9, 10, 12, 13, 14, 15, 16, 17, 18] {
+    for number in [0, 1, 9, 10, 12, 13, 14, 15, 16, 17, 18, 22] {
         assert!(seen.get(&number) > Some(&100), "{number} of {seen:?}");
     }
 }

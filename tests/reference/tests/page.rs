@@ -2,7 +2,7 @@
 
 mod common;
 
-use common::{a, code_for, g, p4_code, with_byte, z};
+use common::{a, code_for, g, lined_all, p4_code, with_byte, z};
 use reference::{page, Board, Issuer, Lane};
 
 #[track_caller]
@@ -64,7 +64,7 @@ fn an_empty_input() {
 }
 
 #[test]
-fn line_ends_are_refused() {
+fn line_ends() {
     let good = [a(), g(&p4_code(), 109), z(3, 109)];
     let lane = [
         "lanes=1",
@@ -78,12 +78,20 @@ fn line_ends_are_refused() {
     let input = [&good.concat()[..], b"\n"].concat();
     let head = ["answer=1", "place=0", "record=3", "files=1"];
     assert_page(&input, &[&head[..], &lane[..]].concat());
-    let input: Vec<u8> = good
-        .iter()
-        .flat_map(|record| [&record[..], b"\r\n"].concat())
-        .collect();
-    let head = ["answer=9", "place=1", "record=1", "files=0"];
+    // CR and LF after each record, as after the header.
+    let input = lined_all(&good);
+    let head = ["answer=0", "place=0", "record=3", "files=1"];
+    assert_page(&input, &[&head[..], &lane[..]].concat());
     let none = ["lanes=0", "payments=0", "centavos=0"];
+    let head = ["answer=22", "place=151", "record=2", "files=0"];
+    assert_page(&input[..455], &[&head[..], &none[..]].concat());
+    // After each record but the header.
+    let input = [&good[0][..], &input[152..]].concat();
+    let head = ["answer=9", "place=1", "record=2", "files=0"];
+    assert_page(&input, &[&head[..], &none[..]].concat());
+    // LF alone.
+    let input = [&good[0][..], b"\n", &good[1], b"\n"].concat();
+    let head = ["answer=9", "place=1", "record=1", "files=0"];
     assert_page(&input, &[&head[..], &none[..]].concat());
 }
 

@@ -7,9 +7,10 @@ use std::io::{self, Read, Write};
 use std::process::{Command, Output, Stdio};
 
 use common::{a, code_for, g, naive, p4_code, z};
+use reference::days::{self, Form};
 use reference::page::{page_of, read_page};
 use reference::random::Random;
-use reference::{days, Reading};
+use reference::Reading;
 
 const SAMPLE: &str = "\
 answer=0
@@ -58,7 +59,11 @@ fn the_program_prints_the_page_of_any_input() {
     let mut random = Random::new(31);
     for round in 0..40 {
         let issuers = random.index(71);
-        let mut day = days::day(&mut random, issuers, 6, 40).unwrap();
+        let form = Form::ALL[round % 3];
+        let mut day = days::day_of(&mut random, issuers, 6, 40, form).unwrap();
+        if round % 4 == 1 {
+            days::damage_line_end(&mut random, &mut day.bytes);
+        }
         if round % 2 == 0 {
             days::damage(&mut random, &mut day.bytes);
         }
@@ -137,7 +142,8 @@ impl Read for Trickle<'_> {
 fn pieces_do_not_matter() {
     let mut random = Random::new(32);
     for seed in 0..30 {
-        let day = days::day(&mut random, 30, 20, 40).unwrap();
+        let form = Form::ALL[seed as usize % 3];
+        let day = days::day_of(&mut random, 30, 20, 40, form).unwrap();
         let cut = day.bytes.len() - random.index(200);
         let bytes = &day.bytes[..cut];
         let expected = naive::page(bytes).into_bytes();
@@ -147,11 +153,17 @@ fn pieces_do_not_matter() {
             random: Random::new(seed),
         };
         assert_eq!(read_page(input).unwrap(), expected);
-        let mut reading = Reading::new();
-        for piece in bytes.chunks(150 * 7) {
-            reading.take(piece);
+        for length in [150 * 7, 1, 7, 149, 150, 151, 152, 153, 1000] {
+            let mut reading = Reading::new();
+            for piece in bytes.chunks(length) {
+                reading.take(piece);
+                assert!(reading.rest.len() < 152);
+            }
+            assert_eq!(reading.page(), expected);
+            reading.end();
+            assert!(reading.rest.is_empty());
+            assert_eq!(reading.page(), expected);
         }
-        assert_eq!(reading.page(), expected);
     }
 }
 
@@ -165,9 +177,11 @@ fn it_stops_at_the_first_refusal() {
         format!("answer=9\nplace=1\n{zeros}")
     );
     let mut reading = Reading::new();
-    reading.take(b"x");
+    reading.take(&[b'x'; 152]);
+    assert!(reading.outcome.is_err() && reading.rest.is_empty());
     let refused = reading.clone();
     reading.take(&sample());
+    reading.end();
     assert_eq!(reading, refused);
 }
 

@@ -4,7 +4,9 @@ mod common;
 
 use std::collections::BTreeSet;
 
-use common::{a, assert_answer, code_for, decode, g, p4_code, with_byte, with_bytes, z, P4};
+use common::{
+    a, assert_answer, code_for, decode, followed, g, p4_code, with_byte, with_bytes, z, P4,
+};
 use reference::{answer, barcode, line, records, Board, Date, Modulus, Reason, Refusal, Session};
 
 /// A session with an open file that has these figures.
@@ -18,7 +20,7 @@ fn session(taken: u64, total: u64, change: impl Fn(&mut Board)) -> Session {
 }
 
 /// The table of docs/SPEC.md, "Refusals".
-const NUMBERS: [(Reason, u64); 21] = [
+const NUMBERS: [(Reason, u64); 22] = [
     (Reason::Length, 1),
     (Reason::NoDigit, 2),
     (Reason::Product, 3),
@@ -40,6 +42,7 @@ const NUMBERS: [(Reason, u64); 21] = [
     (Reason::FileOpen, 19),
     (Reason::WideCheck, 20),
     (Reason::WideNumber, 21),
+    (Reason::NoLineEnd, 22),
 ];
 
 #[test]
@@ -50,13 +53,13 @@ fn each_reason_has_its_number() {
     }
     let mut all: Vec<u64> = Reason::ALL.iter().map(|reason| reason.number()).collect();
     all.sort_unstable();
-    assert_eq!(all, (1..=21).collect::<Vec<u64>>());
+    assert_eq!(all, (1..=22).collect::<Vec<u64>>());
 }
 
 #[test]
 fn no_two_reasons_share_words() {
     let words: BTreeSet<&str> = Reason::ALL.iter().map(|reason| reason.words()).collect();
-    assert_eq!(words.len(), 21);
+    assert_eq!(words.len(), 22);
 }
 
 #[test]
@@ -93,7 +96,7 @@ fn each_number_with_its_place() {
     for length in [0, 1, 44, 47, 49, 150] {
         assert_seen(check_line(&vec![b'8'; length]), 1, 0);
     }
-    for length in [0, 1, 149, 151, 300] {
+    for length in [0, 1, 149, 151, 152, 300] {
         assert_seen(check_record(&vec![b'A'; length]), 1, 0);
         assert_seen(take(Session::new(), &vec![b'A'; length]), 1, 0);
     }
@@ -165,6 +168,20 @@ fn each_number_with_its_place() {
     let heavy = |board: &mut Board| board.centavos = 1_000_000_000_000_000_000;
     assert_seen(take(session(0, 0, heavy), &good), 18, 82);
     assert_seen(session(0, 0, none).finish(), 19, 0);
+    let in_lines = Session {
+        lined: true,
+        ..session(0, 0, none)
+    };
+    for end in [&b""[..], b"\r", b"\n", b"\r\r", b"\n\n", b"\n\r", b"\0\0"] {
+        assert_seen(take(in_lines.clone(), &followed(&good, end)), 22, 151);
+        assert_seen(take(in_lines.clone(), &followed(&z(2, 0), end)), 22, 151);
+    }
+    for length in [0, 1, 149, 153, 300] {
+        assert_seen(take(in_lines.clone(), &vec![b'G'; length]), 1, 0);
+    }
+    for length in [0, 1, 149, 151, 152, 300] {
+        assert_seen(take(session(0, 0, none), &vec![b'G'; length]), 1, 0);
+    }
     let mut out = [0; 44];
     assert_seen(
         barcode::build(1, 6, 100_000_000_000, 0, &[b'0'; 25], &mut out),
@@ -178,7 +195,7 @@ fn each_number_with_its_place() {
     );
     assert_eq!(out, [0; 44]);
     // All but 20: no computed check needs two places.
-    assert_eq!(seen, (1..=21).filter(|&number| number != 20).collect());
+    assert_eq!(seen, (1..=22).filter(|&number| number != 20).collect());
 }
 
 #[test]

@@ -80,6 +80,7 @@ fn abandon_without_a_file_changes_nothing() {
         taken: u64::MAX,
         total: 5,
         version: 77,
+        lined: true,
         shown: Board::new(),
         working: Board {
             used: 99,
@@ -101,6 +102,7 @@ fn an_accepted_a_starts_from_the_board_shown() {
         taken: 9,
         total: 9,
         version: 9,
+        lined: true,
         shown: Board::new(),
         working: Board {
             payments: 9,
@@ -117,6 +119,7 @@ fn closed_sessions_are_equal() {
     assert_answer(session.take(&g(&p4_code(), 5)), 0, 0);
     assert_answer(session.take(&z(3, 5)), 0, 0);
     assert_eq!((session.taken, session.total, session.version), (0, 0, 0));
+    assert!(!session.lined);
     assert_eq!(session.working, session.shown);
     let closed = session.clone();
     assert_answer(session.take(&a()), 0, 0);
@@ -188,19 +191,21 @@ fn arbitrary_sessions() {
 fn run_takes_records_up_to_a_refusal() {
     let mut bytes = [a(), g(&p4_code(), 109), z(3, 109), a()].concat();
     let mut session = Session::new();
-    let run = session.run(&bytes);
+    let run = session.run(&bytes, false);
     assert_eq!((run.records, run.files, run.answer), (4, 1, Ok(())));
+    assert_eq!(run.bytes, 600);
     let mut session = Session::new();
     bytes.extend_from_slice(&g(&p4_code(), 1)[..149]);
-    let run = session.run(&bytes);
-    assert_eq!((run.records, run.files), (4, 1));
+    let run = session.run(&bytes, false);
+    assert_eq!((run.records, run.files, run.bytes), (4, 1, 600));
     assert_answer(run.answer, 1, 0);
     assert!(session.open);
     assert_eq!(session.board().centavos, 109);
-    let run = Session::new().run(&[]);
+    let run = Session::new().run(&[], false);
     assert_eq!((run.records, run.files, run.answer), (0, 0, Ok(())));
+    assert_eq!(run.bytes, 0);
     let bytes = [a(), z(3, 0), z(2, 0)].concat();
-    let run = Session::new().run(&bytes);
-    assert_eq!(run.records, 1);
+    let run = Session::new().run(&bytes, false);
+    assert_eq!((run.records, run.bytes), (1, 150));
     assert_answer(run.answer, 13, 2);
 }

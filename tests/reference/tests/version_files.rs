@@ -236,6 +236,7 @@ fn arbitrary_writers() {
             taken: 999_997,
             total: FILE_LIMIT,
             version,
+            lined: false,
         };
         let before = writer.clone();
         assert_answer(writer.payment(&good[..120], 1, 1, &mut out), 1, 0);
@@ -266,19 +267,19 @@ fn days_under_06() {
     for _ in 0..50 {
         let mut day = days::day(&mut random, 20, 12, 20).unwrap();
         let mut session = Session::new();
-        assert_eq!(session.run(&day.bytes).answer, Ok(()));
+        assert_eq!(session.run(&day.bytes, false).answer, Ok(()));
         let headers = |record: &&mut [u8]| record[0] == b'A';
         for header in day.bytes.chunks_mut(150).filter(headers) {
             header[79..81].copy_from_slice(b"06");
         }
         let mut newer = Session::new();
-        assert_eq!(newer.run(&day.bytes).answer, Ok(()));
+        assert_eq!(newer.run(&day.bytes, false).answer, Ok(()));
         assert_eq!(newer, session);
         // Under 04 the further codes are refused, and nothing else is.
         for header in day.bytes.chunks_mut(150).filter(headers) {
             header[79..81].copy_from_slice(b"04");
         }
-        let run = Session::new().run(&day.bytes);
+        let run = Session::new().run(&day.bytes, false);
         assert!([(12, 117), (12, 141)].contains(&answer(&run.answer)));
     }
 }

@@ -48,12 +48,13 @@ fn order_of_calls() {
     assert_eq!(out, g(&p4_code(), 109));
     assert_answer(writer.trailer(&mut out), 0, 0);
     assert_eq!(out, z(3, 109));
-    // A closed writer keeps its count, total and version.
+    // A closed writer keeps its count, total, version and form.
     let closed = Writer {
         stage: Stage::Closed,
         taken: 1,
         total: 109,
         version: 4,
+        lined: false,
     };
     assert_eq!(writer, closed);
     assert_answer(writer.header(&header, &mut out), 9, 1);
@@ -143,6 +144,7 @@ fn arbitrary_writers() {
             taken,
             total,
             version: 4,
+            lined: false,
         };
         let before = writer.clone();
         assert_answer(writer.trailer(&mut out), number, place);
@@ -153,6 +155,7 @@ fn arbitrary_writers() {
         taken: u64::MAX,
         total: u64::MAX,
         version: 4,
+        lined: false,
     };
     assert_answer(writer.payment(&payment_fields(), 0, 0, &mut out), 15, 1);
     writer.taken = 0;
@@ -172,19 +175,20 @@ fn arbitrary_writers() {
         taken: 999_997,
         total: FILE_LIMIT,
         version: 4,
+        lined: false,
     };
     assert_eq!(writer, closed);
 }
 
-/// A fresh writer in an arbitrary state: refusals keep its count, total and version; an accepted A starts the first two
-/// at 0 and gives its own version.
+/// A fresh writer in an arbitrary state: refusals keep its count, total, version and form; an accepted A starts the
+/// first two at 0 and gives its own version and form.
 #[test]
 fn arbitrary_fresh_writers() {
-    for (taken, total, version) in [
-        (5, 0, 0),
-        (0, 5, 6),
-        (999_997, FILE_LIMIT, 77),
-        (u64::MAX, u64::MAX, u64::MAX),
+    for (taken, total, version, lined) in [
+        (5, 0, 0, false),
+        (0, 5, 6, true),
+        (999_997, FILE_LIMIT, 77, false),
+        (u64::MAX, u64::MAX, u64::MAX, true),
     ] {
         let mut out = [7; 150];
         let mut writer = Writer {
@@ -192,6 +196,7 @@ fn arbitrary_fresh_writers() {
             taken,
             total,
             version,
+            lined,
         };
         let before = writer.clone();
         let bad = with_byte(header_fields(), 80, b'o');
@@ -206,6 +211,7 @@ fn arbitrary_fresh_writers() {
             taken: 0,
             total: 0,
             version: 4,
+            lined: false,
         };
         assert_eq!(writer, open);
     }

@@ -4,7 +4,7 @@ use super::{barcode_of, header_fields, issuers, payment_fields, text};
 use crate::barcode::Issuer;
 use crate::digits;
 use crate::random::Random;
-use crate::records::{self, HEADER_FIELDS};
+use crate::records::{HEADER_FIELDS, LENGTH, LINED};
 use crate::refusal::Refusal;
 use crate::session::Lane;
 use crate::writer::Writer;
@@ -15,6 +15,32 @@ const MOST_PAIRS: u64 = 16;
 /// The most digits of an amount in a day. A file of 999,997 such payments is below the limit of a file, and a day of a
 /// hundred million below the limit of a board.
 const AMOUNT_DIGITS: u32 = 10;
+
+/// The form of a day's files.
+#[derive(Clone, Copy, Debug, PartialEq, Eq, Hash)]
+pub enum Form {
+    /// Nothing follows a record.
+    Bare,
+    /// CR and LF follow each record.
+    Lined,
+    /// Each file is bare or lined, at random.
+    Both,
+}
+
+impl Form {
+    /// Every form.
+    pub const ALL: [Form; 3] = [Form::Bare, Form::Lined, Form::Both];
+
+    /// The room that the writer of the next file is lent for each record: 150 or 152 bytes.
+    fn room(self, random: &mut Random) -> usize {
+        match self {
+            Form::Bare => LENGTH,
+            Form::Lined => LINED,
+            Form::Both if random.once_in(2) => LENGTH,
+            Form::Both => LINED,
+        }
+    }
+}
 
 /// A payment as it was made, before it was written into a record.
 #[derive(Clone, Copy, Debug, PartialEq, Eq)]
@@ -89,13 +115,24 @@ fn next_header(random: &mut Random, pair: &mut Pair) -> [u8; HEADER_FIELDS] {
     fields
 }
 
-/// A day of `files` files with at most `most` payments in each, of `issuer_count` issuers. If there is a file, every
-/// issuer has a payment; the last file has more than `most` payments if that takes them.
+/// A bare day of `files` files with at most `most` payments in each, of `issuer_count` issuers. If there is a file,
+/// every issuer has a payment; the last file has more than `most` payments if that takes them.
 pub fn day(
     random: &mut Random,
     issuer_count: usize,
     files: usize,
     most: usize,
+) -> Result<Day, Refusal> {
+    day_of(random, issuer_count, files, most, Form::Bare)
+}
+
+/// Such a day in a form. From equal seeds, a bare day and a lined one have the same records.
+pub fn day_of(
+    random: &mut Random,
+    issuer_count: usize,
+    files: usize,
+    most: usize,
+    form: Form,
 ) -> Result<Day, Refusal> {
     let issuers = issuers(random, issuer_count);
     let mut pairs = pairs(random);
@@ -113,7 +150,8 @@ pub fn day(
         }
         let pair = random.index(pairs.len());
         let fields = next_header(random, &mut pairs[pair]);
-        file(random, &fields, &chosen, &mut day)?;
+        let room = form.room(random);
+        file(random, &fields, &chosen, room, &mut day)?;
     }
     Ok(day)
 }
@@ -127,16 +165,18 @@ fn next_issuer(random: &mut Random, issuers: &[Issuer], seen: &mut usize) -> Iss
     issuers[random.index(*seen)]
 }
 
-/// Adds a file with one payment for each of these issuers, in this order, with the codes of the header's version.
+/// Adds a file with one payment for each of these issuers, in this order, with the codes of the header's version. Each
+/// record has a room of this length.
 fn file(
     random: &mut Random,
     header: &[u8; HEADER_FIELDS],
     issuers: &[Issuer],
+    room: usize,
     day: &mut Day,
 ) -> Result<(), Refusal> {
     let mut writer = Writer::new();
     let mut payments = Vec::new();
-    writer.header(header, new_record(&mut day.bytes))?;
+    writer.header(header, new_record(&mut day.bytes, room))?;
     for &issuer in issuers {
         let code = barcode_of(random, issuer)?;
         let fields = payment_fields(random, &code, writer.version);
@@ -145,18 +185,18 @@ fn file(
             &fields,
             received,
             random.number(7),
-            new_record(&mut day.bytes),
+            new_record(&mut day.bytes, room),
         )?;
         payments.push(Posted { issuer, received });
     }
-    writer.trailer(new_record(&mut day.bytes))?;
+    writer.trailer(new_record(&mut day.bytes, room))?;
     day.files.push(payments);
     Ok(())
 }
 
-/// Adds one record at the end and returns its bytes.
-fn new_record(bytes: &mut Vec<u8>) -> &mut [u8] {
+/// Adds a room for one record at the end and returns its bytes.
+fn new_record(bytes: &mut Vec<u8>, room: usize) -> &mut [u8] {
     let start = bytes.len();
-    bytes.resize(start + records::LENGTH, b' ');
+    bytes.resize(start + room, b' ');
     &mut bytes[start..]
 }

@@ -1,7 +1,7 @@
 //! What the tests share: records that are spelled out, not made by the writer.
 
 // No test file uses all of this module.
-#![allow(dead_code)]
+#![allow(dead_code, unused_imports)]
 
 pub mod naive;
 
@@ -51,6 +51,24 @@ pub fn g(code: &[u8; 44], received: u64) -> [u8; 150] {
 pub fn z(count: u64, total: u64) -> [u8; 150] {
     let text = format!("Z{count:06}{total:017}{:126}", "");
     text.as_bytes().try_into().expect("150 bytes")
+}
+
+/// The record with its line end.
+pub fn lined(record: &[u8; 150]) -> [u8; 152] {
+    let mut bytes = [13; 152];
+    bytes[..150].copy_from_slice(record);
+    bytes[151] = 10;
+    bytes
+}
+
+/// The record with any bytes behind it.
+pub fn followed(record: &[u8; 150], end: &[u8]) -> Vec<u8> {
+    [&record[..], end].concat()
+}
+
+/// The records with a line end behind each.
+pub fn lined_all(records: &[[u8; 150]]) -> Vec<u8> {
+    records.iter().flat_map(lined).collect()
 }
 
 /// The record with other bytes from a place on.
