@@ -7,27 +7,33 @@
 #include <hollytrot.h>
 #include <stdio.h>
 
-/* A multiple of the record length, so that only the last piece can end inside a record. */
-#define PIECE (400 * HOLLYTROT_RECORD)
+/* How many bytes are run at a time: any number from HOLLYTROT_LINED on. */
+#define PART 65536
 
-static uint8_t piece[PIECE];
+static uint8_t part[PART];
 static uint8_t page[HOLLYTROT_PAGE];
 
 int main(void)
 {
-    hollytrot_answer answer = {0, 0};
+    hollytrot_answer answer;
     hollytrot_session session = hollytrot_session_new();
     uint64_t records = 0, files = 0;
-    size_t length;
+    size_t length = 0;
+    bool more;
 
     do {
-        length = fread(piece, 1, PIECE, stdin);
-        hollytrot_run_result run = hollytrot_session_run(session, piece, length);
+        /* what the run before left is at the start of the part */
+        length += fread(part + length, 1, PART - length, stdin);
+        more = length == PART;
+        hollytrot_run_result run = hollytrot_session_run(session, part, length, more);
         answer = run.answer;
         session = run.session;
         records += run.records;
         files += run.files;
-    } while (length == PIECE && answer.number == HOLLYTROT_ACCEPTED);
+        length -= run.bytes;
+        for (size_t i = 0; i < length; i++)
+            part[i] = part[run.bytes + i];
+    } while (more && answer.number == HOLLYTROT_ACCEPTED);
     if (ferror(stdin)) {
         perror("day: standard input");
         return 2;

@@ -10,6 +10,9 @@ use std::process::ExitCode;
 
 use hollytrot::{page, Session};
 
+/// How many bytes are read at a time. Any number would do.
+const PART: u64 = 65536;
+
 fn main() -> ExitCode {
     match run() {
         Ok(()) => ExitCode::SUCCESS,
@@ -21,15 +24,29 @@ fn main() -> ExitCode {
 }
 
 fn run() -> Result<(), Box<dyn Error>> {
-    let mut input = Vec::new();
-    io::stdin().lock().read_to_end(&mut input)?;
-
+    let mut input = io::stdin().lock();
     let mut session = Session::new();
-    let result = session.run(&input);
-    let answer = result.answer.and_then(|()| session.finish());
+    let (mut records, mut files) = (0, 0);
+    // what was read and not taken yet
+    let mut bytes = Vec::new();
+
+    let answer = loop {
+        let ended = input.by_ref().take(PART).read_to_end(&mut bytes)? == 0;
+        let result = if ended {
+            session.run(&bytes)
+        } else {
+            session.run_part(&bytes)
+        };
+        records += result.records;
+        files += result.files;
+        if ended || result.answer.is_err() {
+            break result.answer.and_then(|()| session.finish());
+        }
+        bytes.drain(..result.bytes);
+    };
 
     let mut out = io::stdout().lock();
-    out.write_all(&page(answer, result.records, result.files, session.board()))?;
+    out.write_all(&page(answer, records, files, session.board()))?;
     out.flush()?;
     Ok(answer?)
 }

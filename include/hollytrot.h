@@ -14,7 +14,8 @@
  *     pass an empty string.
  *   - `out` points to `out_length` bytes that only this call writes and reads. It overlaps no other argument of the
  *     same call.
- *   - A `bool` is 0 or 1, as in every C program: do not copy a session from bytes of unknown origin.
+ *   - A `bool` is 0 or 1, as in every C program. Sessions and writers have some: do not copy one from bytes of unknown
+ *     origin.
  * Nothing else: the outcome is defined for every number, every session and every writer.
  *
  * Link with libhollytrot.a, for x86-64 Linux. It needs no other library.
@@ -31,12 +32,13 @@ extern "C" {
 #endif
 
 /* The version of this header and of its library. */
-#define HOLLYTROT_VERSION "0.2.0"
+#define HOLLYTROT_VERSION "0.3.0"
 
 /* The lengths that buffers must have, exactly ("Limits"). */
 #define HOLLYTROT_BARCODE 44
 #define HOLLYTROT_LINE 48
 #define HOLLYTROT_RECORD 150
+#define HOLLYTROT_LINED 152 /* a record with CR and LF behind it */
 #define HOLLYTROT_HEADER_FIELDS 80
 #define HOLLYTROT_PAYMENT_FIELDS 121
 #define HOLLYTROT_PAGE 8837
@@ -73,7 +75,8 @@ enum {
     HOLLYTROT_BOARD_TOTAL_PASSED = 18, /* a total of the board would pass 10^18 */
     HOLLYTROT_FILE_OPEN = 19,          /* the end of the input while a file is open */
     HOLLYTROT_CHECK_TWO_PLACES = 20,   /* a computed check digit needs two places */
-    HOLLYTROT_TOO_WIDE = 21            /* a number is too wide for its field */
+    HOLLYTROT_TOO_WIDE = 21,           /* a number is too wide for its field */
+    HOLLYTROT_NO_LINE_END = 22         /* a record of a lined file without CR and LF behind it */
 };
 
 /* A part of the caller's bytes: `length` bytes from `bytes + from` on. The empty part is 0 and 0. */
@@ -155,6 +158,9 @@ uint64_t hollytrot_check_ten(const uint8_t *bytes, size_t length);
 uint64_t hollytrot_check_eleven(const uint8_t *bytes, size_t length);
 
 /* Single records ("Records", "Field bytes").
+ *
+ * A file is bare, with nothing between its records, or lined, with CR and LF (bytes 13 and 10) behind each of them, the
+ * last included ("Line ends"). The functions for a single record take its 150 bytes, without CR and LF.
  *
  * A file has a version of the layout, 4 or 6, which its A names and which decides the captures and payment forms that
  * its Gs may have. A session and a writer know the version of their file. The functions for a single record are told
@@ -238,15 +244,19 @@ hollytrot_answer hollytrot_record_join(const uint8_t *bytes, size_t length, uint
                                        size_t out_length);
 
 /* The writer of one return file ("Writer"): a value that you keep. Each call returns the next writer, which is equal to
- * the given one if the call is refused. */
+ * the given one if the call is refused.
+ *
+ * The length of `out` in the header's call decides the form: 150 bytes for a bare file, 152 for a lined one, whose
+ * records all get their CR and LF from the writer. In the later calls `out` has the same length. */
 
-/* The figures of an open file, its payments and the centavos they received, and the version that its header names, 4 or
- * 6. All three are 0 in a new writer and in a session with no file open. If you set another version yourself, each G is
- * refused 10 at 80. */
+/* The figures of an open file, its payments and the centavos they received, the version that its header names, 4 or 6,
+ * and whether it is lined. They are 0 and false in a new writer and in a session with no file open. If you set another
+ * version yourself, each G is refused 10 at 80. */
 typedef struct hollytrot_file {
     uint64_t taken;
     uint64_t total;
     uint64_t version;
+    bool lined;
 } hollytrot_file;
 
 /* `stage` is 0 before the header and 1 while the file is open; every other number means that it is closed. A closed
@@ -265,17 +275,17 @@ typedef struct hollytrot_write_result {
 /* A new writer, which expects a header. */
 hollytrot_writer hollytrot_writer_new(void);
 
-/* Writes the A into `out`, 150 bytes, from its 80 field bytes: those of places 3 to 81, of which the last two are the
- * version, `04` or `06`, and the second byte of the service field, 79 or 211. */
+/* Writes the A into `out`, 150 or 152 bytes, from its 80 field bytes: those of places 3 to 81, of which the last two
+ * are the version, `04` or `06`, and the second byte of the service field, 79 or 211. */
 hollytrot_write_result hollytrot_writer_header(hollytrot_writer writer, const uint8_t *fields, size_t fields_length,
                                                uint8_t *out, size_t out_length);
 
-/* Writes a G into `out`, 150 bytes, from its 121 field bytes, those of places 2 to 81 and 101 to 141, and the two
- * amounts in centavos. Its capture and payment form must be codes of the version that the writer's header names. */
+/* Writes a G into `out`, as long as the A's, from its 121 field bytes, those of places 2 to 81 and 101 to 141, and the
+ * two amounts in centavos. Its capture and payment form must be codes of the version that the writer's header names. */
 hollytrot_write_result hollytrot_writer_payment(hollytrot_writer writer, const uint8_t *fields, size_t fields_length,
                                                 uint64_t received, uint64_t tariff, uint8_t *out, size_t out_length);
 
-/* Writes the Z into `out`, 150 bytes, with the file's own count and total, and closes the writer. */
+/* Writes the Z into `out`, as long as the A's, with the file's own count and total, and closes the writer. */
 hollytrot_write_result hollytrot_writer_trailer(hollytrot_writer writer, uint8_t *out, size_t out_length);
 
 /* The board ("Board"): at most 64 lanes, in the order in which issuers first appeared. */
@@ -303,7 +313,7 @@ typedef struct hollytrot_board {
  * given one if the call is refused; after a run it is the one after the accepted records. */
 
 /* The board shown, which has accepted files only; the working board, which has the open file's payments too; whether a
- * file is open, and its figures and version. */
+ * file is open, and its figures, version and form. */
 typedef struct hollytrot_session {
     hollytrot_board shown;
     hollytrot_board work;
@@ -317,12 +327,14 @@ typedef struct hollytrot_take_result {
     hollytrot_session session;
 } hollytrot_take_result;
 
-/* The answer of a run, the session after it, and how many records and files were accepted before the first refusal. */
+/* The answer of a run, the session after it, how many records and files were accepted before the first refusal, and how
+ * many bytes these records had, CR and LF included. */
 typedef struct hollytrot_run_result {
     hollytrot_answer answer;
     hollytrot_session session;
     uint64_t records;
     uint64_t files;
+    size_t bytes;
 } hollytrot_run_result;
 
 /* The limits of every session ("Limits"): the lanes of its board, the bytes of a record, the most payments and the most
@@ -341,18 +353,25 @@ hollytrot_limits hollytrot_session_limits(void);
 /* A session with no file open and an empty board. */
 hollytrot_session hollytrot_session_new(void);
 
-/* Takes one record: any bytes of any length. */
+/* Takes one record: any bytes of any length. An A of 150 bytes opens a bare file; with CR and LF, 152 bytes, it opens a
+ * lined one, whose records are passed with CR and LF too. One that is right but for them is refused 22 at 151; you may
+ * pass it again with them. In a bare file a record with CR and LF is refused 1. */
 hollytrot_take_result hollytrot_session_take(hollytrot_session session, const uint8_t *bytes, size_t length);
 
-/* Takes consecutive records up to the first that is refused; those before it remain accepted. A rest shorter than 150
- * bytes is a record of the wrong length, so pass whole records until the input ends. This is the fast way to take many
- * records: it does not copy the session for each of them. */
-hollytrot_run_result hollytrot_session_run(hollytrot_session session, const uint8_t *bytes, size_t length);
+/* Takes consecutive records, of bare and lined files in any order, up to the first that is refused; those before it
+ * remain accepted. This is the fast way to take many records: it does not copy the session for each of them.
+ *
+ * An input may come in parts, split anywhere. While more of it may follow, pass `more` true: nothing is taken then once
+ * fewer than 152 bytes are left. This rest, which starts behind the result's `bytes`, goes in front of the next part,
+ * so your buffer has at least HOLLYTROT_LINED bytes. At the end of the input run the rest with `more` false: one that
+ * is no record is refused then. examples/day.c does this. */
+hollytrot_run_result hollytrot_session_run(hollytrot_session session, const uint8_t *bytes, size_t length, bool more);
 
 /* Drops the open file; the same session if none is open. */
 hollytrot_session hollytrot_session_abandon(hollytrot_session session);
 
-/* The end of the input: 19 if a file is open. The session does not change. */
+/* The end of the input: 19 if a file is open. The session does not change, and knows nothing of bytes that a run left:
+ * run those first, with `more` false. */
 hollytrot_take_result hollytrot_session_finish(hollytrot_session session);
 
 /* The board shown, which is the session's member `shown`. */

@@ -2,8 +2,9 @@
 //!
 //! A safe crate over the proved engine (include/hollytrot.h), by the rules of docs/SPEC.md. Every function accepts
 //! every input and returns its value or one [`Refusal`], which has a number and a place; a refused call changes
-//! nothing. Only [`Session::run`], which takes many records, keeps those before the refused one. What the C interface
-//! requires of its caller, no null pointers and no overlapping buffers, this crate guarantees.
+//! nothing. Only [`Session::run`] and [`Session::run_part`], which take many records, keep those before the refused
+//! one. What the C interface requires of its caller, no null pointers, no overlapping buffers and no `bool` but 0 and
+//! 1, this crate guarantees.
 //!
 //! ```
 //! use hollytrot::line;
@@ -37,3 +38,6 @@ pub const VERSION: &str = env!("CARGO_PKG_VERSION");
 
 /// The length of a record.
 pub const RECORD: usize = 150;
+
+/// The length of a record of a lined file, with CR and LF behind it.
+pub const LINED: usize = RECORD + 2;

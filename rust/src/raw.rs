@@ -84,6 +84,7 @@ pub struct File {
     pub taken: u64,
     pub total: u64,
     pub version: u64,
+    pub lined: bool,
 }
 
 #[repr(C)]
@@ -123,6 +124,7 @@ pub struct RunResult {
     pub session: Session,
     pub records: u64,
     pub files: u64,
+    pub bytes: usize,
 }
 
 #[repr(C)]
@@ -155,23 +157,19 @@ const _: () = {
             && offset_of!(Record, header) == 24
     );
     assert!(offset_of!(Record, payment) == 72 && offset_of!(Record, trailer) == 200);
-    assert!(
-        size_of::<File>() == 24 && offset_of!(File, total) == 8 && offset_of!(File, version) == 16
-    );
-    assert!(size_of::<Writer>() == 32 && offset_of!(Writer, file) == 8);
-    assert!(size_of::<WriteResult>() == 48 && offset_of!(WriteResult, writer) == 16);
+    assert!(size_of::<File>() == 32 && offset_of!(File, total) == 8);
+    assert!(offset_of!(File, version) == 16 && offset_of!(File, lined) == 24);
+    assert!(size_of::<Writer>() == 40 && offset_of!(Writer, file) == 8);
+    assert!(size_of::<WriteResult>() == 56 && offset_of!(WriteResult, writer) == 16);
     assert!(size_of::<Tally>() == 16 && size_of::<Lane>() == 32);
     assert!(size_of::<Board>() == 2072);
-    assert!(size_of::<Session>() == 4176 && offset_of!(Session, work) == 2072);
+    assert!(size_of::<Session>() == 4184 && offset_of!(Session, work) == 2072);
     assert!(offset_of!(Session, opened) == 4144 && offset_of!(Session, file) == 4152);
     assert!(size_of::<Limits>() == 40 && offset_of!(Limits, record_length) == 8);
     assert!(offset_of!(Limits, payments) == 16 && offset_of!(Limits, file_total) == 24);
-    assert!(size_of::<TakeResult>() == 4192 && offset_of!(TakeResult, session) == 16);
-    assert!(
-        size_of::<RunResult>() == 4208
-            && offset_of!(RunResult, records) == 4192
-            && offset_of!(RunResult, files) == 4200
-    );
+    assert!(size_of::<TakeResult>() == 4200 && offset_of!(TakeResult, session) == 16);
+    assert!(size_of::<RunResult>() == 4224 && offset_of!(RunResult, records) == 4200);
+    assert!(offset_of!(RunResult, files) == 4208 && offset_of!(RunResult, bytes) == 4216);
     assert!(size_of::<PageResult>() == 24 && offset_of!(PageResult, length) == 16);
 };
 
@@ -243,7 +241,12 @@ extern "C" {
     pub fn hollytrot_session_limits() -> crate::Limits;
     pub fn hollytrot_session_new() -> Session;
     pub fn hollytrot_session_take(session: Session, bytes: *const u8, length: usize) -> TakeResult;
-    pub fn hollytrot_session_run(session: Session, bytes: *const u8, length: usize) -> RunResult;
+    pub fn hollytrot_session_run(
+        session: Session,
+        bytes: *const u8,
+        length: usize,
+        more: bool,
+    ) -> RunResult;
     pub fn hollytrot_session_abandon(session: Session) -> Session;
     pub fn hollytrot_session_finish(session: Session) -> TakeResult;
     pub fn hollytrot_page(

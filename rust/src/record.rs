@@ -1,4 +1,5 @@
-//! Single records of a return file: docs/SPEC.md, "Records" and "Field bytes".
+//! Single records of a return file: docs/SPEC.md, "Records" and "Field bytes". A record is [`RECORD`](crate::RECORD)
+//! bytes long: of one that CR and LF follow, pass the first 150.
 
 use crate::raw;
 use crate::{Date, Fields, Refusal};

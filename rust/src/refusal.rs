@@ -51,6 +51,7 @@ reasons! {
     FileOpen = 19, "the end of the input while a file is open";
     CheckTwoPlaces = 20, "a computed check digit needs two places";
     TooWide = 21, "a number is too wide for its field";
+    NoLineEnd = 22, "a record of a lined file without CR and LF behind it";
 }
 
 impl Reason {

@@ -70,11 +70,15 @@ pub struct Limits {
 
 /// Takes the records of return files of either version, which each file's header names. The payments of a file appear
 /// on the board together, when its trailer is accepted.
+///
+/// A file is bare, with nothing between its records, or lined, with CR and LF behind each of them, the last included:
+/// its header decides, and the files of one input may differ.
 #[derive(Clone, Debug, PartialEq, Eq)]
 pub struct Session(Box<raw::Session>);
 
 /// The result of taking many records, up to the first refusal.
 #[derive(Clone, Copy, Debug, PartialEq, Eq)]
+#[must_use = "it has the refusal, and what was left of the bytes"]
 pub struct RunResult {
     /// The first refusal, if there is one.
     pub answer: Result<(), Refusal>,
@@ -82,6 +86,8 @@ pub struct RunResult {
     pub records: u64,
     /// Files accepted.
     pub files: u64,
+    /// The bytes of the records accepted, CR and LF included: what follows them was not taken.
+    pub bytes: usize,
 }
 
 impl Default for Session {
@@ -103,7 +109,9 @@ impl Session {
         Session(Box::new(unsafe { raw::hollytrot_session_new() }))
     }
 
-    /// Takes one record; a refusal does not change the session.
+    /// Takes one record; a refusal does not change the session. A header of 150 bytes opens a bare file; with CR and
+    /// LF, 152 bytes, it opens a lined one, and every record of it is passed with CR and LF. One that is right but for
+    /// them is refused 22; in a bare file a record with them is refused 1.
     pub fn take(&mut self, record: &[u8]) -> Result<(), Refusal> {
         // SAFETY: pointer and length are those of a slice, and the session came from the engine.
         let result = unsafe { raw::hollytrot_session_take(*self.0, record.as_ptr(), record.len()) };
@@ -111,18 +119,68 @@ impl Session {
         result.answer.to_result()
     }
 
-    /// Takes consecutive records up to the first that is refused; those before it remain accepted. A rest shorter than
-    /// a record is a record of the wrong length, so pass whole records until the input ends.
-    pub fn run(&mut self, records: &[u8]) -> RunResult {
+    /// Takes consecutive records up to the first that is refused; those before it remain accepted. The input ends with
+    /// these bytes: a rest that is no record is refused, and a header at their very end, without CR and LF, opens a bare
+    /// file. If more of the input may follow, use [`run_part`](Self::run_part).
+    ///
+    /// ```
+    /// use hollytrot::{Session, Writer};
+    ///
+    /// let header = b"AGREEMENT           COMPANY             237BANK                2023123100432104O";
+    /// let mut writer = Writer::lined();
+    /// let mut input = writer.header(header)?;
+    /// input.extend(writer.trailer()?);
+    ///
+    /// let mut session = Session::new();
+    /// let result = session.run(&input);
+    /// assert_eq!((result.answer, result.records, result.bytes), (Ok(()), 2, 2 * 152));
+    /// session.finish()?;
+    /// # Ok::<(), hollytrot::Refusal>(())
+    /// ```
+    pub fn run(&mut self, bytes: &[u8]) -> RunResult {
+        self.run_bytes(bytes, false)
+    }
+
+    /// As [`run`](Self::run), for a part of an input, split anywhere, when more of it may follow. Fewer than 152 bytes
+    /// at the end are not taken: they may be a part of a record, or a header whose CR and LF are still to come. This
+    /// rest, all behind [`RunResult::bytes`], goes in front of the next part; at the end of the input `run` takes it.
+    ///
+    /// ```
+    /// # fn take_all(mut input: impl std::io::Read) -> Result<hollytrot::Session, Box<dyn std::error::Error>> {
+    /// use std::io::Read;
+    ///
+    /// let mut session = hollytrot::Session::new();
+    /// let mut bytes = Vec::new();
+    /// while input.by_ref().take(65536).read_to_end(&mut bytes)? > 0 {
+    ///     let result = session.run_part(&bytes);
+    ///     result.answer?;
+    ///     bytes.drain(..result.bytes);
+    /// }
+    /// session.run(&bytes).answer?;
+    /// session.finish()?;
+    /// # Ok(session)
+    /// # }
+    /// ```
+    pub fn run_part(&mut self, bytes: &[u8]) -> RunResult {
+        self.run_bytes(bytes, true)
+    }
+
+    fn run_bytes(&mut self, bytes: &[u8], more: bool) -> RunResult {
+        let (start, length) = (bytes.as_ptr(), bytes.len());
         // SAFETY: pointer and length are those of a slice, and the session came from the engine.
-        let result =
-            unsafe { raw::hollytrot_session_run(*self.0, records.as_ptr(), records.len()) };
+        let result = unsafe { raw::hollytrot_session_run(*self.0, start, length, more) };
         *self.0 = result.session;
         RunResult {
             answer: result.answer.to_result(),
             records: result.records,
             files: result.files,
+            bytes: result.bytes,
         }
+    }
+
+    /// Whether a lined file is open. [`take`](Self::take) then expects CR and LF behind each record.
+    pub fn is_lined(&self) -> bool {
+        self.0.file.lined
     }
 
     /// Drops the open file; does nothing if none is open.
@@ -131,7 +189,8 @@ impl Session {
         *self.0 = unsafe { raw::hollytrot_session_abandon(*self.0) };
     }
 
-    /// The end of the input: refused if a file is open.
+    /// The end of the input: refused if a file is open. It knows nothing of bytes that [`run_part`](Self::run_part)
+    /// left: run those first.
     pub fn finish(&self) -> Result<(), Refusal> {
         // SAFETY: the session came from the engine.
         unsafe { raw::hollytrot_session_finish(*self.0) }

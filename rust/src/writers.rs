@@ -1,9 +1,22 @@
 //! The writer of one return file: docs/SPEC.md, "Writer".
 
 use crate::raw;
-use crate::{Refusal, RECORD};
+use crate::{Refusal, LINED, RECORD};
 
-/// Writes a file record by record: the header, each payment, then the trailer with the file's own count and total.
+/// Writes a file record by record: the header, each payment, then the trailer with the file's own count and total. Each
+/// record is 150 bytes; in a lined file it is 152, the last two CR and LF.
+///
+/// ```
+/// use hollytrot::Writer;
+///
+/// let header = b"AGREEMENT           COMPANY             237BANK                2023123100432104O";
+/// let mut writer = Writer::lined();
+/// let mut file = writer.header(header)?;
+/// file.extend(writer.trailer()?);
+/// assert_eq!(file.len(), 304);
+/// assert!(file.ends_with(b"\r\n"));
+/// # Ok::<(), hollytrot::Refusal>(())
+/// ```
 #[derive(Clone, Debug, PartialEq, Eq)]
 pub struct Writer(raw::Writer);
 
@@ -14,19 +27,28 @@ impl Default for Writer {
 }
 
 impl Writer {
-    /// A new writer, which expects a header.
+    /// A new writer of a bare file, which expects a header.
     pub fn new() -> Writer {
         // SAFETY: the call has no arguments.
         Writer(unsafe { raw::hollytrot_writer_new() })
     }
 
+    /// A new writer of a lined file, which expects a header.
+    pub fn lined() -> Writer {
+        let mut writer = Writer::new();
+        // The engine does not read this of a new writer: here it chooses the length of the header's buffer, which makes
+        // the file lined. So it never changes.
+        writer.0.file.lined = true;
+        writer
+    }
+
     /// The A of 80 field bytes: those of places 3 to 81, of which the last two are the version, `04` or `06`, and the
     /// second byte of the service field, 79 or 211.
-    pub fn header(&mut self, fields: &[u8]) -> Result<[u8; RECORD], Refusal> {
+    pub fn header(&mut self, fields: &[u8]) -> Result<Vec<u8>, Refusal> {
         let (bytes, length) = (fields.as_ptr(), fields.len());
         // SAFETY: pointers and lengths are those of slices, and `out` overlaps no other.
         self.write(|writer, out| unsafe {
-            raw::hollytrot_writer_header(writer, bytes, length, out, RECORD)
+            raw::hollytrot_writer_header(writer, bytes, length, out.as_mut_ptr(), out.len())
         })
     }
 
@@ -37,27 +59,31 @@ impl Writer {
         fields: &[u8],
         received: u64,
         tariff: u64,
-    ) -> Result<[u8; RECORD], Refusal> {
+    ) -> Result<Vec<u8>, Refusal> {
         let (bytes, length) = (fields.as_ptr(), fields.len());
         // SAFETY: pointers and lengths are those of slices, and `out` overlaps no other.
         self.write(|writer, out| unsafe {
-            raw::hollytrot_writer_payment(writer, bytes, length, received, tariff, out, RECORD)
+            let (start, size) = (out.as_mut_ptr(), out.len());
+            raw::hollytrot_writer_payment(writer, bytes, length, received, tariff, start, size)
         })
     }
 
     /// The Z; the writer is closed then.
-    pub fn trailer(&mut self) -> Result<[u8; RECORD], Refusal> {
+    pub fn trailer(&mut self) -> Result<Vec<u8>, Refusal> {
         // SAFETY: pointer and length are those of `out`, which nothing else refers to.
-        self.write(|writer, out| unsafe { raw::hollytrot_writer_trailer(writer, out, RECORD) })
+        self.write(|writer, out| unsafe {
+            raw::hollytrot_writer_trailer(writer, out.as_mut_ptr(), out.len())
+        })
     }
 
-    /// The record that `call` writes into `RECORD` bytes; a refusal does not change the writer.
+    /// The record that `call` writes, as long as those of the file; a refusal does not change the writer.
     fn write(
         &mut self,
-        call: impl FnOnce(raw::Writer, *mut u8) -> raw::WriteResult,
-    ) -> Result<[u8; RECORD], Refusal> {
-        let mut out = [0; RECORD];
-        let result = call(self.0, out.as_mut_ptr());
+        call: impl FnOnce(raw::Writer, &mut [u8]) -> raw::WriteResult,
+    ) -> Result<Vec<u8>, Refusal> {
+        let length = if self.0.file.lined { LINED } else { RECORD };
+        let mut out = vec![0; length];
+        let result = call(self.0, &mut out);
         result.answer.to_result()?;
         self.0 = result.writer;
         Ok(out)

@@ -1,40 +1,18 @@
 //! Known values through every type of the crate, with some of docs/SPEC.md, "Samples".
 
+mod common;
+
+use common::{code, payment_of, refused, HEADER};
 use hollytrot::record::{self, Row};
 use hollytrot::{
-    barcode, check_digit, line, page, Date, Fields, Issuer, Modulus, Reason, Record, Refusal,
-    Session, Version, Writer, LANES, RECORD,
+    barcode, check_digit, line, page, Date, Fields, Issuer, Modulus, Reason, Record, Session,
+    Version, Writer, LANES, RECORD,
 };
 
 const P4: &[u8] = b"817700000000010936599702411310797039001433708318";
 
-const HEADER: &[u8; 80] =
-    b"AGREEMENT           COMPANY             237BANK                2023123100432104O";
 const HEADER_06: &[u8; 80] =
     b"AGREEMENT           COMPANY             237BANK                2023123100432106O";
-
-fn refused(reason: Reason, place: usize) -> Refusal {
-    Refusal { reason, place }
-}
-
-/// A barcode of segment 6, where issuer and free field have other widths than elsewhere.
-fn code() -> [u8; 44] {
-    let issuer = Issuer {
-        segment: 6,
-        number: 12_345_678,
-    };
-    barcode::build(issuer, 8, 98_765_432_109, b"202402291234567890123").expect("good fields")
-}
-
-fn payment_of(code: &[u8]) -> [u8; 121] {
-    let mut fields = [b' '; 121];
-    fields[20..36].copy_from_slice(b"2024010220240304");
-    fields[36..80].copy_from_slice(code);
-    fields[80..88].copy_from_slice(b"00056789");
-    fields[96] = b'a';
-    fields[120] = b'2';
-    fields
-}
 
 #[test]
 fn refusals_say_number_place_and_reason() {
@@ -235,7 +213,7 @@ fn the_header_of_the_open_file_decides_the_codes() {
     let g = writer.payment(&payment_of_06(), 1, 0).expect("its code");
     let z = writer.trailer().expect("an open file");
     let mut session = Session::new();
-    let result = session.run(&[a, g, z].concat());
+    let result = session.run(&[&a[..], &g, &z].concat());
     assert_eq!((result.answer, result.files), (Ok(()), 1));
 
     // a file of version 04 behind it does not have the code

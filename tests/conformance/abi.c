@@ -39,12 +39,13 @@ AT(hollytrot_record, letter, 16);
 AT(hollytrot_record, header, 24);
 AT(hollytrot_record, payment, 72);
 AT(hollytrot_record, trailer, 200);
-SIZE(hollytrot_file, 24);
+SIZE(hollytrot_file, 32);
 AT(hollytrot_file, total, 8);
 AT(hollytrot_file, version, 16);
-SIZE(hollytrot_writer, 32);
+AT(hollytrot_file, lined, 24);
+SIZE(hollytrot_writer, 40);
 AT(hollytrot_writer, file, 8);
-SIZE(hollytrot_write_result, 48);
+SIZE(hollytrot_write_result, 56);
 AT(hollytrot_write_result, writer, 16);
 SIZE(hollytrot_tally, 16);
 AT(hollytrot_tally, centavos, 8);
@@ -53,7 +54,7 @@ AT(hollytrot_lane, tally, 16);
 SIZE(hollytrot_board, 2072);
 AT(hollytrot_board, used, 2048);
 AT(hollytrot_board, total, 2056);
-SIZE(hollytrot_session, 4176);
+SIZE(hollytrot_session, 4184);
 AT(hollytrot_session, work, 2072);
 AT(hollytrot_session, opened, 4144);
 AT(hollytrot_session, file, 4152);
@@ -62,12 +63,13 @@ AT(hollytrot_limits, record_length, 8);
 AT(hollytrot_limits, payments, 16);
 AT(hollytrot_limits, file_total, 24);
 AT(hollytrot_limits, board_total, 32);
-SIZE(hollytrot_take_result, 4192);
+SIZE(hollytrot_take_result, 4200);
 AT(hollytrot_take_result, session, 16);
-SIZE(hollytrot_run_result, 4208);
+SIZE(hollytrot_run_result, 4224);
 AT(hollytrot_run_result, session, 16);
-AT(hollytrot_run_result, records, 4192);
-AT(hollytrot_run_result, files, 4200);
+AT(hollytrot_run_result, records, 4200);
+AT(hollytrot_run_result, files, 4208);
+AT(hollytrot_run_result, bytes, 4216);
 SIZE(hollytrot_page_result, 24);
 AT(hollytrot_page_result, length, 16);
 
@@ -154,6 +156,7 @@ static void same_writer(hollytrot_writer found, uint64_t stage, hollytrot_file f
     SAME(found.file.taken, file.taken);
     SAME(found.file.total, file.total);
     SAME(found.file.version, file.version);
+    SAME(found.file.lined, file.lined);
 }
 
 static void fill_fields(void)
@@ -170,14 +173,14 @@ static void fill_fields(void)
 static void writers(void)
 {
     hollytrot_writer writer = hollytrot_writer_new();
-    same_writer(writer, 0, (hollytrot_file){0, 0, 0});
+    same_writer(writer, 0, (hollytrot_file){0, 0, 0, false});
     hollytrot_write_result result = hollytrot_writer_header(writer, text(header), HOLLYTROT_HEADER_FIELDS, a, 150);
     same_answer(result.answer, 0, 0);
-    same_writer(result.writer, 1, (hollytrot_file){0, 0, 6});
+    same_writer(result.writer, 1, (hollytrot_file){0, 0, 6, false});
 
     fill_fields();
     /* with a version that does not have the capture, then with a number that is no version */
-    writer = (hollytrot_writer){1, {7, 1000, 4}};
+    writer = (hollytrot_writer){1, {7, 1000, 4, false}};
     result = hollytrot_writer_payment(writer, fields, 121, 123456, 789, g, 150);
     same_answer(result.answer, 12, 117);
     writer.file.version = (1ull << 32) + 6;
@@ -187,17 +190,65 @@ static void writers(void)
     writer.file.version = 6;
     result = hollytrot_writer_payment(writer, fields, 121, 123456, 789, g, 150);
     same_answer(result.answer, 0, 0);
-    same_writer(result.writer, 1, (hollytrot_file){8, 124456, 6});
+    same_writer(result.writer, 1, (hollytrot_file){8, 124456, 6, false});
 
     result = hollytrot_writer_trailer(result.writer, z, 150);
     same_answer(result.answer, 0, 0);
-    same_writer(result.writer, 2, (hollytrot_file){8, 124456, 6});
+    same_writer(result.writer, 2, (hollytrot_file){8, 124456, 6, false});
     same_bytes(__LINE__, z, "Z00001000000000000124456 ", 25);
     /* a closed writer with another stage number is returned unchanged */
-    writer = (hollytrot_writer){77, {8, 9, 10}};
+    writer = (hollytrot_writer){77, {8, 9, 10, false}};
     result = hollytrot_writer_trailer(writer, z, 150);
     same_answer(result.answer, 9, 1);
     same_writer(result.writer, 77, writer.file);
+}
+
+/* The same three records as a lined file. */
+static uint8_t lined[3 * HOLLYTROT_LINED];
+
+/* A new writer takes buffers of both lengths, whatever its `lined` is. */
+static void lined_headers(void)
+{
+    for (int given = 0; given < 2; given++) {
+        hollytrot_writer writer = {0, {0, 0, 0, given}};
+        same_answer(hollytrot_writer_trailer(writer, lined, 150).answer, 9, 1);
+        same_answer(hollytrot_writer_payment(writer, fields, 121, 1, 0, lined, 152).answer, 9, 1);
+        hollytrot_write_result result = hollytrot_writer_header(writer, text(header), 80, lined, 151);
+        same_answer(result.answer, 1, 0);
+        same_writer(result.writer, 0, writer.file);
+        result = hollytrot_writer_header(writer, text(header), 80, lined, 150);
+        same_answer(result.answer, 0, 0);
+        same_writer(result.writer, 1, (hollytrot_file){0, 0, 6, false});
+        result = hollytrot_writer_header(writer, text(header), 80, lined, HOLLYTROT_LINED);
+        same_answer(result.answer, 0, 0);
+        same_writer(result.writer, 1, (hollytrot_file){0, 0, 6, true});
+    }
+}
+
+static void lined_writers(void)
+{
+    uint8_t *out = lined + 152;
+    hollytrot_writer writer = {1, {7, 1000, 6, true}};
+    hollytrot_write_result result = hollytrot_writer_payment(writer, fields, 121, 123456, 789, out, 150);
+    same_answer(result.answer, 1, 0);
+    same_writer(result.writer, 1, writer.file);
+    result = hollytrot_writer_payment(writer, fields, 121, 123456, 789, out, 152);
+    same_answer(result.answer, 0, 0);
+    same_writer(result.writer, 1, (hollytrot_file){8, 124456, 6, true});
+    out += 152;
+    same_answer(hollytrot_writer_trailer(result.writer, out, 150).answer, 1, 0);
+    result = hollytrot_writer_trailer(result.writer, out, 152);
+    same_answer(result.answer, 0, 0);
+    same_writer(result.writer, 2, (hollytrot_file){8, 124456, 6, true});
+    /* closed, it keeps its form */
+    same_answer(hollytrot_writer_trailer(result.writer, out, 150).answer, 1, 0);
+    same_answer(hollytrot_writer_trailer(result.writer, out, 152).answer, 9, 1);
+
+    const uint8_t *bare[] = {a, g, z};
+    for (size_t i = 0; i < 3; i++) {
+        same_bytes(__LINE__, lined + 152 * i, bare[i], 150);
+        same_bytes(__LINE__, lined + 152 * i + 150, "\r\n", 2);
+    }
 }
 
 static void records(void)
@@ -238,6 +289,8 @@ static void records(void)
     record = hollytrot_record_decode(z, 149, 0);
     same_answer(record.answer, 1, 0);
     SAME(record.letter, 0);
+    same_answer(hollytrot_record_check(lined, 152, 0), 1, 0);
+    same_answer(hollytrot_record_check(lined, 150, 0), 0, 0);
 
     hollytrot_part part = hollytrot_record_field(g, 150, 6, HOLLYTROT_G_RECEIVED);
     SAME(part.from, 81);
@@ -296,6 +349,7 @@ static void same_session(int line, const hollytrot_session *found, const hollytr
     SAME(found->file.taken, wanted->file.taken);
     SAME(found->file.total, wanted->file.total);
     SAME(found->file.version, wanted->file.version);
+    SAME(found->file.lined, wanted->file.lined);
 }
 
 /* The limits of the library are those of the header and of SPEC.md, "Limits". */
@@ -309,10 +363,10 @@ static void limits(void)
     SAME(limits.board_total, 1000000000000000000);
 }
 
-/* An open file of version 6; the second lane of the working board has the issuer of the G. */
+/* An open bare file of version 6; the second lane of the working board has the issuer of the G. */
 static hollytrot_session open_session(uint64_t taken)
 {
-    hollytrot_session session = {numbered_board(100000), numbered_board(200000), true, {taken, 1000, 6}};
+    hollytrot_session session = {numbered_board(100000), numbered_board(200000), true, {taken, 1000, 6, false}};
     session.work.lanes[1].issuer = (hollytrot_issuer){6, 12345678};
     return session;
 }
@@ -333,7 +387,7 @@ static void sessions(void)
     after.work.lanes[1].tally.centavos += 123456;
     after.work.total.payments += 1;
     after.work.total.centavos += 123456;
-    after.file = (hollytrot_file){9, 124456, 6};
+    after.file = (hollytrot_file){9, 124456, 6, false};
     result = hollytrot_session_take(session, g, 150);
     same_answer(result.answer, 0, 0);
     same_session(__LINE__, &result.session, &after);
@@ -343,14 +397,46 @@ static void sessions(void)
     after = hollytrot_session_abandon(session);
     session.work = session.shown;
     session.opened = false;
-    session.file = (hollytrot_file){0, 0, 0};
+    session.file = (hollytrot_file){0, 0, 0, false};
     same_session(__LINE__, &after, &session);
     after = hollytrot_session_new();
     SAME(after.opened, false);
     SAME(after.file.version, 0);
+    SAME(after.file.lined, false);
     SAME(after.shown.used, 0);
     after = hollytrot_session_take(after, a, 150).session;
     SAME(after.file.version, 6);
+    SAME(after.file.lined, false);
+}
+
+/* One record at a time: of a lined file, and in the wrong form. */
+static void lined_sessions(void)
+{
+    hollytrot_session session = hollytrot_session_new();
+    same_answer(hollytrot_session_take(session, lined, 151).answer, 1, 0);
+    same_answer(hollytrot_session_take(session, lined + 152, 152).answer, 9, 1);
+    hollytrot_take_result result = hollytrot_session_take(session, lined, 152);
+    same_answer(result.answer, 0, 0);
+    SAME(result.session.file.version, 6);
+    SAME(result.session.file.lined, true);
+    same_answer(hollytrot_session_take(open_session(8), lined + 152, 152).answer, 1, 0);
+
+    session = open_session(8);
+    session.file.lined = true;
+    result = hollytrot_session_finish(session);
+    same_session(__LINE__, &result.session, &session);
+    same_answer(hollytrot_session_take(session, lined + 152, 149).answer, 1, 0);
+    same_answer(hollytrot_session_take(session, lined + 152, 153).answer, 1, 0);
+    for (size_t length = 150; length < 152; length++) {
+        result = hollytrot_session_take(session, lined + 152, length);
+        same_answer(result.answer, HOLLYTROT_NO_LINE_END, 151);
+        same_session(__LINE__, &result.session, &session);
+    }
+    result = hollytrot_session_take(session, lined + 152, 152);
+    same_answer(result.answer, 0, 0);
+    SAME(result.session.file.taken, 9);
+    SAME(result.session.file.lined, true);
+    SAME(hollytrot_session_abandon(session).file.lined, false);
 }
 
 static void runs(void)
@@ -361,23 +447,61 @@ static void runs(void)
     memcpy(three, g, 150);
     memcpy(three + 150, g, 150);
     memcpy(three + 300, z, 150);
-    hollytrot_run_result run = hollytrot_session_run(session, three, 450);
+    hollytrot_run_result run = hollytrot_session_run(session, three, 450, false);
     same_answer(run.answer, 13, 2);
     SAME(run.records, 2);
     SAME(run.files, 0);
+    SAME(run.bytes, 300);
     SAME(run.session.file.taken, 10);
     SAME(run.session.file.total, 247912);
     SAME(run.session.work.lanes[1].tally.payments, session.work.lanes[1].tally.payments + 2);
     /* the right trailer closes the file, and the board shown is then the working board */
     session = open_session(7);
     memcpy(three + 150, z, 150);
-    run = hollytrot_session_run(session, three, 300);
+    run = hollytrot_session_run(session, three, 300, false);
     same_answer(run.answer, 0, 0);
     SAME(run.records, 2);
     SAME(run.files, 1);
     SAME(run.session.opened, false);
     SAME(run.session.file.version, 0);
     SAME(run.session.shown.lanes[1].tally.centavos, session.work.lanes[1].tally.centavos + 123456);
+    /* if more may follow, the last 150 bytes are left */
+    run = hollytrot_session_run(session, three, 300, true);
+    same_answer(run.answer, 0, 0);
+    SAME(run.records, 1);
+    SAME(run.bytes, 150);
+    SAME(run.session.opened, true);
+}
+
+static void lined_runs(void)
+{
+    hollytrot_session session = open_session(7);
+    session.file.lined = true;
+    /* a payment and a trailer without its LF: left if more may follow, else refused */
+    hollytrot_run_result run = hollytrot_session_run(session, lined + 152, 303, false);
+    same_answer(run.answer, HOLLYTROT_NO_LINE_END, 151);
+    SAME(run.bytes, 152);
+    run = hollytrot_session_run(session, lined + 152, 303, true);
+    same_answer(run.answer, 0, 0);
+    SAME(run.records, 1);
+    SAME(run.files, 0);
+    SAME(run.bytes, 152);
+    SAME(run.session.file.taken, 8);
+    SAME(run.session.file.lined, true);
+    run = hollytrot_session_run(run.session, lined + 304, 152, true);
+    same_answer(run.answer, 0, 0);
+    SAME(run.files, 1);
+    SAME(run.bytes, 152);
+    SAME(run.session.opened, false);
+    SAME(run.session.file.lined, false);
+    /* a header whose CR and LF may follow */
+    run = hollytrot_session_run(run.session, lined, 151, true);
+    same_answer(run.answer, 0, 0);
+    SAME(run.bytes, 0);
+    run = hollytrot_session_run(run.session, lined, 152, true);
+    same_answer(run.answer, 0, 0);
+    SAME(run.bytes, 152);
+    SAME(run.session.file.lined, true);
 }
 
 static void pages(void)
@@ -410,11 +534,15 @@ int main(void)
     barcodes();
     dates();
     writers();
+    lined_headers();
+    lined_writers();
     records();
     versions();
     limits();
     sessions();
+    lined_sessions();
     runs();
+    lined_runs();
     pages();
     printf("abi: %d values compared, %d wrong\n", checks, failures);
     return failures != 0;

@@ -1,0 +1,29 @@
+//! What the tests share: a refusal, and the field bytes of a header and of a payment.
+
+use hollytrot::{barcode, Issuer, Reason, Refusal};
+
+pub const HEADER: &[u8; 80] =
+    b"AGREEMENT           COMPANY             237BANK                2023123100432104O";
+
+pub fn refused(reason: Reason, place: usize) -> Refusal {
+    Refusal { reason, place }
+}
+
+/// A barcode of segment 6, where issuer and free field have other widths than elsewhere.
+pub fn code() -> [u8; 44] {
+    let issuer = Issuer {
+        segment: 6,
+        number: 12_345_678,
+    };
+    barcode::build(issuer, 8, 98_765_432_109, b"202402291234567890123").expect("good fields")
+}
+
+pub fn payment_of(code: &[u8]) -> [u8; 121] {
+    let mut fields = [b' '; 121];
+    fields[20..36].copy_from_slice(b"2024010220240304");
+    fields[36..80].copy_from_slice(code);
+    fields[80..88].copy_from_slice(b"00056789");
+    fields[96] = b'a';
+    fields[120] = b'2';
+    fields
+}
