@@ -1,5 +1,6 @@
-/* operations NAME ROUNDS <DAY: one operation of the engine on every record of a file, ROUNDS times. It prints a sum of
- * decoded numbers. src/bin/operations.rs does the same with the reference program and prints the same sum. */
+/* operations NAME ROUNDS <DAY: one operation of the engine on every record of a file, lined or bare, ROUNDS times. It
+ * prints a sum of decoded numbers. src/bin/operations.rs does the same with the reference program and prints the same
+ * sum. */
 #include <hollytrot.h>
 #include <stdio.h>
 #include <stdlib.h>
@@ -8,11 +9,13 @@
 #define MOST_RECORDS 5000
 
 /* The operations' inputs, prepared before the rounds. */
-static uint8_t day[MOST_RECORDS * HOLLYTROT_RECORD], written[MOST_RECORDS * HOLLYTROT_RECORD];
+static uint8_t day[MOST_RECORDS * HOLLYTROT_LINED], written[MOST_RECORDS * HOLLYTROT_LINED];
 static uint8_t codes[MOST_RECORDS][HOLLYTROT_BARCODE], lines[MOST_RECORDS][HOLLYTROT_LINE];
 static uint8_t header[HOLLYTROT_HEADER_FIELDS], fields[MOST_RECORDS][HOLLYTROT_PAYMENT_FIELDS];
 static uint64_t received[MOST_RECORDS], tariff[MOST_RECORDS];
 static size_t records;
+/* The bytes of each record, CR and LF included if the file is lined. */
+static size_t step;
 /* The version that the file's A names. */
 static uint64_t version;
 
@@ -30,11 +33,13 @@ static void check_accepted(hollytrot_answer answer)
 
 static void prepare(void)
 {
-    records = fread(day, 1, sizeof day, stdin) / HOLLYTROT_RECORD;
+    size_t length = fread(day, 1, sizeof day, stdin);
+    step = memcmp(day + HOLLYTROT_RECORD, "\r\n", 2) == 0 ? HOLLYTROT_LINED : HOLLYTROT_RECORD;
+    records = length / step;
     version = hollytrot_record_decode(day, HOLLYTROT_RECORD, 0).header.version;
     check_accepted(hollytrot_record_join(day, HOLLYTROT_RECORD, version, header, sizeof header));
     for (size_t i = 1; i + 1 < records; i++) {
-        const uint8_t *g = day + i * HOLLYTROT_RECORD;
+        const uint8_t *g = day + i * step;
         memcpy(codes[i], g + 37, HOLLYTROT_BARCODE);
         check_accepted(hollytrot_line_from_barcode(codes[i], HOLLYTROT_BARCODE, lines[i], HOLLYTROT_LINE));
         check_accepted(hollytrot_record_join(g, HOLLYTROT_RECORD, version, fields[i], HOLLYTROT_PAYMENT_FIELDS));
@@ -71,7 +76,7 @@ static uint64_t record(void)
 {
     uint64_t sum = 0;
     for (size_t i = 0; i < records; i++) {
-        hollytrot_record r = hollytrot_record_decode(day + i * HOLLYTROT_RECORD, HOLLYTROT_RECORD, version);
+        hollytrot_record r = hollytrot_record_decode(day + i * step, HOLLYTROT_RECORD, version);
         check_accepted(r.answer);
         sum += r.header.sequence + r.payment.received + r.payment.tariff + r.payment.number;
         sum += r.trailer.count + r.trailer.total;
@@ -84,7 +89,7 @@ static uint64_t take(void)
     hollytrot_take_result result;
     result.session = hollytrot_session_new();
     for (size_t i = 0; i < records; i++) {
-        result = hollytrot_session_take(result.session, day + i * HOLLYTROT_RECORD, HOLLYTROT_RECORD);
+        result = hollytrot_session_take(result.session, day + i * step, step);
         check_accepted(result.answer);
     }
     return result.session.shown.total.centavos;
@@ -92,7 +97,7 @@ static uint64_t take(void)
 
 static uint64_t run(void)
 {
-    hollytrot_run_result result = hollytrot_session_run(hollytrot_session_new(), day, records * HOLLYTROT_RECORD);
+    hollytrot_run_result result = hollytrot_session_run(hollytrot_session_new(), day, records * step, false);
     check_accepted(result.answer);
     return result.session.shown.total.centavos;
 }
@@ -101,15 +106,15 @@ static uint64_t write_file(void)
 {
     uint8_t *out = written;
     hollytrot_write_result result =
-        hollytrot_writer_header(hollytrot_writer_new(), header, sizeof header, out, HOLLYTROT_RECORD);
+        hollytrot_writer_header(hollytrot_writer_new(), header, sizeof header, out, step);
     check_accepted(result.answer);
     for (size_t i = 1; i + 1 < records; i++) {
-        out += HOLLYTROT_RECORD;
+        out += step;
         result = hollytrot_writer_payment(result.writer, fields[i], HOLLYTROT_PAYMENT_FIELDS, received[i], tariff[i],
-                                          out, HOLLYTROT_RECORD);
+                                          out, step);
         check_accepted(result.answer);
     }
-    result = hollytrot_writer_trailer(result.writer, out + HOLLYTROT_RECORD, HOLLYTROT_RECORD);
+    result = hollytrot_writer_trailer(result.writer, out + step, step);
     check_accepted(result.answer);
     return result.writer.file.total;
 }
@@ -131,7 +136,7 @@ int main(int count, char **words)
         uint64_t sum = 0;
         for (long rounds = atol(words[2]); rounds > 0; rounds--)
             sum += operations[i].round();
-        if (operations[i].round == write_file && memcmp(written, day, records * HOLLYTROT_RECORD) != 0)
+        if (operations[i].round == write_file && memcmp(written, day, records * step) != 0)
             fail("the file written is not the day");
         printf("%llu\n", (unsigned long long)sum);
         return 0;

@@ -69,15 +69,30 @@ static void answer_out(hollytrot_answer a) { bytes_out(&a, sizeof a); }
 
 static void part_out(hollytrot_part p) { bytes_out(&p, sizeof p); }
 
-/* A session has padding after its bool, so its members are written one by one. */
+/* Structs with a bool have padding after it, so their members are written one by one. A bool is written as the byte
+ * that it is in memory, 0 or 1. */
+static void flag_out(const bool *flag) { bytes_out(flag, 1); }
+
+static void file_out(const hollytrot_file *f)
+{
+    number_out(f->taken);
+    number_out(f->total);
+    number_out(f->version);
+    flag_out(&f->lined);
+}
+
 static void session_out(const hollytrot_session *s)
 {
     bytes_out(&s->shown, sizeof s->shown);
     bytes_out(&s->work, sizeof s->work);
-    number_out(s->opened);
-    number_out(s->file.taken);
-    number_out(s->file.total);
-    number_out(s->file.version);
+    flag_out(&s->opened);
+    file_out(&s->file);
+}
+
+static void writer_out(const hollytrot_writer *w)
+{
+    number_out(w->stage);
+    file_out(&w->file);
 }
 
 /* An output buffer for a call. */
@@ -205,14 +220,24 @@ static void check_digits(void)
     number_out(hollytrot_check_eleven(bytes, length));
 }
 
+static bool flag_in(void) { return byte_in() != 0; }
+
+static hollytrot_file file_in(void)
+{
+    hollytrot_file file;
+    file.taken = number_in();
+    file.total = number_in();
+    file.version = number_in();
+    file.lined = flag_in();
+    return file;
+}
+
 static void session_in(void)
 {
     memcpy(&session.shown, bytes_in(sizeof session.shown), sizeof session.shown);
     memcpy(&session.work, bytes_in(sizeof session.work), sizeof session.work);
-    session.opened = number_in() != 0;
-    session.file.taken = number_in();
-    session.file.total = number_in();
-    session.file.version = number_in();
+    session.opened = flag_in();
+    session.file = file_in();
 }
 
 static void take_result_out(hollytrot_take_result result)
@@ -228,14 +253,16 @@ static void take(void)
     take_result_out(hollytrot_session_take(session, bytes_in(length), length));
 }
 
-/* The length has eight bytes. */
+/* Whether more bytes are to come, then a length of eight bytes. */
 static void run(void)
 {
+    bool more = flag_in();
     size_t length = number_in();
-    hollytrot_run_result result = hollytrot_session_run(session, bytes_in(length), length);
+    hollytrot_run_result result = hollytrot_session_run(session, bytes_in(length), length, more);
     answer_out(result.answer);
     number_out(result.records);
     number_out(result.files);
+    number_out(result.bytes);
     session = result.session;
     session_out(&session);
 }
@@ -249,15 +276,14 @@ static void board(void)
 static void writer_in(void)
 {
     writer.stage = number_in();
-    writer.file.taken = number_in();
-    writer.file.total = number_in();
-    writer.file.version = number_in();
+    writer.file = file_in();
 }
 
 static void write_result_out(hollytrot_write_result result, size_t out_length)
 {
+    answer_out(result.answer);
     writer = result.writer;
-    bytes_out(&result, sizeof result);
+    writer_out(&writer);
     buffer_out(out_length);
 }
 
@@ -319,7 +345,7 @@ static void serve(uint8_t which)
     case 'e': take_result_out(hollytrot_session_finish(session)); break;
     case 'B': board(); break;
     case 'w': writer_in(); break;
-    case 'N': writer = hollytrot_writer_new(); bytes_out(&writer, sizeof writer); break;
+    case 'N': writer = hollytrot_writer_new(); writer_out(&writer); break;
     case 'h': header(); break;
     case 'g': payment(); break;
     case 'z': trailer(); break;

@@ -1,13 +1,14 @@
-//! `days ISSUERS PAYMENTS`: writes a day of PAYMENTS payments to standard output, in files of at most 50,000, each of a
-//! random one of ISSUERS issuers. A longer day of as many issuers starts with the same payments. All files have version
-//! 04, and the days are the same bytes as before there was a version 06, so that new figures compare with old ones.
+//! `days ISSUERS PAYMENTS [lined]`: writes a day of PAYMENTS payments to standard output, in files of at most 50,000,
+//! each of a random one of ISSUERS issuers. A longer day of as many issuers starts with the same payments. All files
+//! have version 04, and the days are the same bytes as before there was a version 06, so that new figures compare with
+//! old ones. A lined day has the same records, with CR and LF behind each.
 
 use std::error::Error;
 use std::io::{self, BufWriter, Write};
 
 use reference::days;
 use reference::random::Random;
-use reference::records::HEADER_FIELDS;
+use reference::records::{HEADER_FIELDS, LENGTH, LINED};
 use reference::Writer;
 
 /// Small enough that no day here passes the limit of a file or of the board.
@@ -31,17 +32,18 @@ fn header_fields(random: &mut Random) -> [u8; HEADER_FIELDS] {
 }
 
 fn main() -> Result<(), Box<dyn Error>> {
-    let arguments: Vec<u64> = std::env::args()
-        .skip(1)
-        .map(|word| word.parse())
-        .collect::<Result<_, _>>()?;
-    let &[issuers, payments] = &arguments[..] else {
-        return Err("days ISSUERS PAYMENTS".into());
+    let words: Vec<String> = std::env::args().skip(1).collect();
+    let words: Vec<&str> = words.iter().map(String::as_str).collect();
+    let (issuers, payments, size) = match words[..] {
+        [issuers, payments] => (issuers, payments, LENGTH),
+        [issuers, payments, "lined"] => (issuers, payments, LINED),
+        _ => return Err("days ISSUERS PAYMENTS [lined]".into()),
     };
+    let (issuers, payments): (u64, u64) = (issuers.parse()?, payments.parse()?);
     let random = &mut Random::new(issuers);
     let issuers = days::issuers(random, issuers as usize);
     let mut out = BufWriter::with_capacity(1 << 20, io::stdout().lock());
-    let mut record = [0; 150];
+    let mut record = vec![0; size];
     let mut left = payments;
     while left > 0 {
         let mut writer = Writer::new();

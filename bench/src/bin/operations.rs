@@ -1,16 +1,19 @@
-//! `operations NAME ROUNDS <DAY`: one operation of the reference program on every record of a file, ROUNDS times. It
-//! prints a sum of decoded numbers. operations.c does the same with the engine and prints the same sum.
+//! `operations NAME ROUNDS <DAY`: one operation of the reference program on every record of a file, lined or bare,
+//! ROUNDS times. It prints a sum of decoded numbers. operations.c does the same with the engine and prints the same
+//! sum.
 
 use std::error::Error;
 use std::hint::black_box;
 use std::io::{self, Read};
 
-use reference::records::{self, HEADER_FIELDS, PAYMENT_FIELDS};
+use reference::records::{self, HEADER_FIELDS, LENGTH, LINED, LINE_END, PAYMENT_FIELDS};
 use reference::{barcode, digits, line, Record, Refusal, Session, Writer};
 
 /// The operations' inputs, prepared before the rounds.
 struct Inputs {
     day: Vec<u8>,
+    /// The bytes of each record, CR and LF included if the file is lined.
+    step: usize,
     codes: Vec<[u8; 44]>,
     lines: Vec<[u8; 48]>,
     header: [u8; HEADER_FIELDS],
@@ -21,27 +24,29 @@ struct Inputs {
 }
 
 fn inputs(day: Vec<u8>) -> Result<Inputs, Refusal> {
+    let lined = day.get(LENGTH..LINED) == Some(LINE_END.as_slice());
     let mut inputs = Inputs {
         written: vec![0; day.len()],
         day,
+        step: if lined { LINED } else { LENGTH },
         codes: Vec::new(),
         lines: Vec::new(),
         header: [0; HEADER_FIELDS],
         version: 0,
         payments: Vec::new(),
     };
-    let count = inputs.day.len() / 150;
-    if let Record::A(header) = records::decode(&inputs.day[..150], 0)? {
+    let count = inputs.day.len() / inputs.step;
+    if let Record::A(header) = records::decode(&inputs.day[..LENGTH], 0)? {
         inputs.version = header.version;
     }
-    records::join(&inputs.day[..150], inputs.version, &mut inputs.header)?;
-    for g in inputs.day.chunks(150).take(count - 1).skip(1) {
+    records::join(&inputs.day[..LENGTH], inputs.version, &mut inputs.header)?;
+    for g in inputs.day.chunks(inputs.step).take(count - 1).skip(1) {
         let mut code = [0; 44];
         code.copy_from_slice(&g[37..81]);
         let mut typed = [0; 48];
         line::line_from_barcode(&code, &mut typed)?;
         let mut fields = [0; PAYMENT_FIELDS];
-        records::join(g, inputs.version, &mut fields)?;
+        records::join(&g[..LENGTH], inputs.version, &mut fields)?;
         let amount = |part| digits::number(part).unwrap_or(0);
         inputs.codes.push(code);
         inputs.lines.push(typed);
@@ -69,8 +74,8 @@ fn round(name: &str, inputs: &mut Inputs) -> Result<u64, Box<dyn Error>> {
             }
         }
         "record" => {
-            for record in inputs.day.chunks(150) {
-                sum += match records::decode(black_box(record), inputs.version)? {
+            for record in inputs.day.chunks(inputs.step) {
+                sum += match records::decode(black_box(&record[..LENGTH]), inputs.version)? {
                     Record::A(a) => a.sequence,
                     Record::G(g) => g.received + g.tariff + g.number,
                     Record::Z(z) => z.count + z.total,
@@ -79,19 +84,19 @@ fn round(name: &str, inputs: &mut Inputs) -> Result<u64, Box<dyn Error>> {
         }
         "take" => {
             let mut session = Session::new();
-            for record in inputs.day.chunks(150) {
+            for record in inputs.day.chunks(inputs.step) {
                 session.take(black_box(record))?;
             }
             sum += session.board().centavos;
         }
         "run" => {
             let mut session = Session::new();
-            session.run(black_box(&inputs.day)).answer?;
+            session.run(black_box(&inputs.day), false).answer?;
             sum += session.board().centavos;
         }
         "write" => {
             let mut writer = Writer::new();
-            let mut out = inputs.written.chunks_mut(150);
+            let mut out = inputs.written.chunks_mut(inputs.step);
             let mut next = || out.next().ok_or("the buffer is too short");
             writer.header(black_box(&inputs.header), next()?)?;
             for (fields, received, tariff) in &inputs.payments {

@@ -1,12 +1,20 @@
 //! The fuzzer's inputs. Any bytes are an input: the first says which calls are made, the rest are their arguments.
 
+use reference::records::LENGTH;
 use reference::session::LANES;
 use reference::{Board, Issuer, Lane, Session};
 
 use crate::calls::{Calls, Conversion, PAGE};
+use crate::lines;
 
 /// The length of the largest buffer for a page.
 const MOST_PAGE: usize = 9000;
+
+/// How many bytes a cut of runs has.
+pub const CUT: usize = 3;
+
+/// If the first byte of runs is at least this, they are fed as a caller would.
+pub const FED: u8 = 128;
 
 /// Which calls an input makes.
 #[derive(Clone, Copy, Debug, PartialEq, Eq)]
@@ -61,10 +69,6 @@ impl<'a> Rest<'a> {
 
     fn byte(&mut self) -> u8 {
         self.bytes(1).first().copied().unwrap_or(0)
-    }
-
-    fn flag(&mut self) -> bool {
-        self.byte() % 2 == 1
     }
 
     fn number(&mut self) -> u64 {
@@ -160,21 +164,62 @@ fn convert(calls: &mut Calls, rest: &mut Rest) {
     }
 }
 
-/// Runs of a new session. The first byte says how many records a run has; 0 means all.
+/// Where the bytes of runs start, by the first byte: behind it and its cuts.
+pub fn runs_start(first: u8) -> usize {
+    1 + CUT * usize::from(first % 8)
+}
+
+/// Runs of a new session. The first byte says how many cuts there are, and whether the bytes are fed as a caller would,
+/// which must come to the same end as one run. Each cut has a byte that says whether more bytes are to come and whether
+/// those that the run left are dropped, and a length in two bytes.
 fn run(calls: &mut Calls, rest: &mut Rest) {
     calls.new_session();
-    let piece = match rest.byte() {
-        0 => usize::MAX,
-        records => 150 * usize::from(records),
-    };
-    for piece in rest.0.chunks(piece) {
-        let _ = calls.run(piece);
+    let first = rest.byte();
+    let mut cuts = Vec::new();
+    for cut in rest.bytes(runs_start(first) - 1).chunks_exact(CUT) {
+        cuts.push((cut[0], usize::from(u16::from_le_bytes([cut[1], cut[2]]))));
+    }
+    let bytes = rest.0;
+    let (mut start, mut end) = (0, 0);
+    let mut ends = Vec::new();
+    for (how, length) in cuts {
+        end = bytes.len().min(end + length);
+        ends.push(end);
+        if first < FED {
+            let result = calls.run(&bytes[start..end], how % 2 == 1);
+            start = if how & 2 == 0 {
+                start + result.bytes
+            } else {
+                end
+            };
+        }
+    }
+    if first < FED {
+        calls.run(&bytes[start..], false);
+    } else {
+        lines::feed(calls, bytes, &ends);
     }
     calls.finish_session();
 }
 
-/// Takes at most `most` records one by one. The byte before each says which call is made first, and the record's length
-/// if it is not 150.
+/// The length of the record behind this byte of a step.
+pub fn step_length(how: u8) -> usize {
+    match how / 8 {
+        0 => LENGTH,
+        other => 134 + usize::from(other),
+    }
+}
+
+/// The byte of a step whose record has this length, 135 to 165, and which makes no other call.
+pub fn step(length: usize) -> u8 {
+    match length {
+        LENGTH => 0,
+        other => 8 * (other - 134) as u8,
+    }
+}
+
+/// Takes at most `most` records one by one. The byte before each says its length, if it is not 150, and which call is
+/// made first, or that it is a run.
 fn take(calls: &mut Calls, rest: &mut Rest, most: usize) {
     for _ in 0..most {
         if rest.0.is_empty() {
@@ -187,24 +232,32 @@ fn take(calls: &mut Calls, rest: &mut Rest, most: usize) {
             3 => calls.board(),
             _ => {}
         }
-        let length = match how / 8 {
-            0 => 150,
-            other => 134 + usize::from(other),
-        };
-        let _ = calls.take(rest.bytes(length));
+        let record = rest.bytes(step_length(how));
+        match how % 8 {
+            4 | 5 => drop(calls.run(record, how % 8 == 5)),
+            _ => drop(calls.take(record)),
+        }
     }
     calls.finish_session();
 }
 
-/// A session in an arbitrary state: its numbers, then up to four records, then its boards.
+/// A session in an arbitrary state: whether its file is open and whether it is lined, its numbers, then up to four
+/// records, then its boards.
 fn arbitrary_session(calls: &mut Calls, rest: &mut Rest) {
     let mut session = Session::new();
-    session.open = rest.flag();
+    let flags = rest.byte();
+    session.open = flags & 1 != 0;
+    session.lined = flags & 2 != 0;
     session.taken = rest.number();
     session.total = rest.number();
     session.version = rest.number();
     let records = usize::from(rest.byte() % 5);
-    let mut steps = Rest(rest.bytes(151 * records));
+    let mut steps = Rest(rest.0);
+    for _ in 0..records {
+        let how = rest.byte();
+        rest.bytes(step_length(how));
+    }
+    steps.0 = &steps.0[..steps.0.len() - rest.0.len()];
     session.shown = rest.board();
     session.working = rest.board();
     calls.set_session(&session);
@@ -224,10 +277,11 @@ fn page(calls: &mut Calls, rest: &mut Rest) {
     calls.page(number, place, records, files, out_length);
 }
 
-/// The calls of a new writer, or of one in an arbitrary state.
+/// The calls of a new writer, or of one in an arbitrary state, lined or bare.
 fn write(calls: &mut Calls, rest: &mut Rest) {
-    if rest.flag() {
-        calls.set_writer([(); 4].map(|()| rest.number()));
+    let flags = rest.byte();
+    if flags & 1 != 0 {
+        calls.set_writer([(); 4].map(|()| rest.number()), flags & 2 != 0);
     } else {
         calls.new_writer();
     }

@@ -11,5 +11,6 @@ pub mod engine;
 pub mod families;
 pub mod found;
 pub mod inputs;
+pub mod lines;
 pub mod versions;
 pub mod wire;

@@ -5,6 +5,8 @@ use reference::random::Random;
 use reference::records::{A_VERSION, G_CAPTURE, G_FORM, LENGTH, TABLE};
 use reference::{days, digits};
 
+use crate::lines;
+
 /// Numbers that are no version. Some are next to a version, the byte of its digit, or equal to it in the low bits.
 pub const OTHERS: [u64; 11] = [
     0,
@@ -73,10 +75,10 @@ pub fn change(random: &mut Random, record: &mut [u8]) {
 
 /// Changes one to three records of a day.
 pub fn change_day(random: &mut Random, bytes: &mut [u8]) {
-    let count = bytes.len().div_ceil(LENGTH);
+    let records = lines::records(bytes);
     for _ in 0..random.between(1, 3) {
-        let place = LENGTH * random.index(count);
-        let end = bytes.len().min(place + LENGTH);
-        change(random, &mut bytes[place..end]);
+        if let Some(record) = records.get(random.index(records.len())) {
+            change(random, &mut bytes[record.clone()]);
+        }
     }
 }

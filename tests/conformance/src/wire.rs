@@ -1,7 +1,7 @@
-//! The replies of `serve.c`, from the reference program's outcomes: little-endian numbers of eight bytes, in the order
-//! of the structs in hollytrot.h.
+//! The replies of `serve.c`, from the reference program's outcomes: little-endian numbers of eight bytes, and bools of
+//! one, in the order of the structs in hollytrot.h.
 
-use reference::{Barcode, Board, Date, Header, Payment, Record, Refusal, Session, Trailer};
+use reference::{Barcode, Board, Date, Header, Payment, Record, Refusal, Session, Trailer, Writer};
 
 pub fn number(reply: &mut Vec<u8>, n: u64) {
     reply.extend_from_slice(&n.to_le_bytes());
@@ -11,6 +11,11 @@ pub fn numbers(reply: &mut Vec<u8>, all: &[u64]) {
     for &n in all {
         number(reply, n);
     }
+}
+
+/// A bool is one byte.
+pub fn flag(reply: &mut Vec<u8>, flag: bool) {
+    reply.push(flag.into());
 }
 
 /// The number that starts at this index.
@@ -116,12 +121,23 @@ pub fn board(reply: &mut Vec<u8>, board: &Board) {
     numbers(reply, &[board.used as u64, board.payments, board.centavos]);
 }
 
+/// The file of a session or of a writer.
+fn file(reply: &mut Vec<u8>, figures: [u64; 3], lined: bool) {
+    numbers(reply, &figures);
+    flag(reply, lined);
+}
+
 pub fn session(reply: &mut Vec<u8>, session: &Session) {
     board(reply, &session.shown);
     board(reply, &session.working);
-    let open = u64::from(session.open);
-    numbers(
-        reply,
-        &[open, session.taken, session.total, session.version],
-    );
+    flag(reply, session.open);
+    let figures = [session.taken, session.total, session.version];
+    file(reply, figures, session.lined);
+}
+
+/// A writer whose stage has this number.
+pub fn writer(reply: &mut Vec<u8>, stage: u64, writer: &Writer) {
+    number(reply, stage);
+    let figures = [writer.taken, writer.total, writer.version];
+    file(reply, figures, writer.lined);
 }

@@ -1,6 +1,8 @@
 //! `quadro` as a process: its pages are those of the reference program, and if reading or writing fails it neither
 //! crashes nor prints anything that looks like a page.
 
+mod common;
+
 use std::fs::File;
 use std::io::{self, Read, Seek, SeekFrom, Write};
 use std::os::fd::OwnedFd;
@@ -10,43 +12,15 @@ use std::process::{Command, Output, Stdio};
 use std::thread;
 use std::time::Duration;
 
-use conformance::engine::{program, root};
-use conformance::versions;
+use common::{assert_page, command, output_of, quadro};
+use conformance::engine::root;
+use conformance::{lines, versions};
 use reference::days;
 use reference::page::page_of;
 use reference::random::Random;
 
-const QUADRO: &str = "target/bin/quadro";
-
 /// The signal of a write to a pipe that has no reader.
 const SIGPIPE: i32 = 13;
-
-fn quadro(stdin: impl Into<Stdio>) -> Command {
-    let mut command = program(QUADRO);
-    command
-        .stdin(stdin)
-        .stdout(Stdio::piped())
-        .stderr(Stdio::piped());
-    command
-}
-
-/// The output of quadro for the input that `feed` writes to its pipe.
-fn output_of(feed: impl FnOnce(&mut dyn Write) -> io::Result<()>) -> Output {
-    let mut child = quadro(Stdio::piped()).spawn().expect("quadro starts");
-    // quadro stops reading at a refused record, so this may fail.
-    let _ = feed(&mut child.stdin.take().unwrap());
-    child.wait_with_output().expect("quadro ends")
-}
-
-#[track_caller]
-fn assert_page(output: &Output, page: &[u8]) {
-    assert!(output.status.success(), "{}", output.status);
-    assert_eq!(output.stderr.escape_ascii().to_string(), "");
-    assert_eq!(
-        output.stdout.escape_ascii().to_string(),
-        page.escape_ascii().to_string()
-    );
-}
 
 /// There must be an error message and no page.
 #[track_caller]
@@ -62,16 +36,15 @@ fn assert_error(output: &Output) {
 
 /// quadro, started by a shell with this redirection.
 fn redirected(redirection: &str) -> Command {
-    let mut command = Command::new("sh");
-    command.args(["-c", &format!("exec \"$@\" {redirection}"), "sh"]);
-    command
-        .arg(root().join("tools/x86"))
-        .arg(root().join(QUADRO));
-    command
+    let quadro = command();
+    let mut shell = Command::new("sh");
+    shell.args(["-c", &format!("exec \"$@\" {redirection}"), "sh"]);
+    shell.arg(quadro.get_program()).args(quadro.get_args());
+    shell
 }
 
-/// A day of 0 to 70 issuers: unchanged, damaged, out of order, or with other versions or codes. Every tenth is longer
-/// than one buffer of quadro.
+/// A day of 0 to 70 issuers, bare, lined or both: unchanged, damaged, out of order, with other versions or codes, or
+/// with a damaged line end. Every tenth is longer than one buffer of quadro.
 fn day(i: u64) -> Vec<u8> {
     let random = &mut Random::new(i);
     let (files, most) = if i.is_multiple_of(10) {
@@ -80,13 +53,15 @@ fn day(i: u64) -> Vec<u8> {
         (random.index(5), random.index(30))
     };
     let issuers = random.index(71);
-    let mut bytes = days::day(random, issuers, files, most)
+    let form = lines::form(random);
+    let mut bytes = days::day_of(random, issuers, files, most, form)
         .expect("a good day")
         .bytes;
-    match i % 4 {
-        1 => drop(days::damage(random, &mut bytes)),
-        2 => days::disorder(random, &mut bytes),
-        3 => versions::change_day(random, &mut bytes),
+    match random.below(5) {
+        0 => drop(days::damage(random, &mut bytes)),
+        1 => days::disorder(random, &mut bytes),
+        2 => versions::change_day(random, &mut bytes),
+        3 => days::damage_line_end(random, &mut bytes),
         _ => {}
     }
     bytes
@@ -170,11 +145,11 @@ fn a_read_error_after_records() -> io::Result<()> {
     let bytes = days::day(&mut Random::new(1), 40, 12, 400)
         .expect("a good day")
         .bytes;
-    assert!(bytes.len() > 3 * 65_400);
+    assert!(bytes.len() > 3 * 65_536);
     let (mut sender, mut receiver) = UnixStream::pair()?;
     receiver.write_all(b"unread")?;
     let child = quadro(OwnedFd::from(receiver)).spawn()?;
-    sender.write_all(&bytes[..2 * 65_400])?;
+    sender.write_all(&bytes[..2 * 65_536])?;
     drop(sender);
     assert_error(&child.wait_with_output()?);
     Ok(())

@@ -1,6 +1,6 @@
 //! The calls that have a state: sessions, the page of a session's board, and writers.
 
-use reference::{page, Reason, Refusal, Session, Stage, Writer};
+use reference::{page, Reason, Refusal, RunResult, Session, Stage, Writer};
 
 use super::{put, Calls, FILL, PAGE};
 use crate::wire;
@@ -36,18 +36,19 @@ impl Calls {
         outcome
     }
 
-    /// Takes consecutive records; each counts as an input.
-    pub fn run(&mut self, bytes: &[u8]) -> Result<(), Refusal> {
-        let result = self.session.run(bytes);
+    /// Takes consecutive records; each counts as an input. More bytes may be to come.
+    pub fn run(&mut self, bytes: &[u8], more: bool) -> RunResult {
+        let result = self.session.run(bytes, more);
         let after = self.session.clone();
         self.counts.inputs += result.records;
         let (request, reply) = self.call(b'R');
+        wire::flag(request, more);
         wire::number(request, bytes.len() as u64);
         request.extend_from_slice(bytes);
         wire::answer(reply, &result.answer);
-        wire::numbers(reply, &[result.records, result.files]);
+        wire::numbers(reply, &[result.records, result.files, result.bytes as u64]);
         wire::session(reply, &after);
-        result.answer
+        result
     }
 
     pub fn abandon(&mut self) {
@@ -97,14 +98,14 @@ impl Calls {
     pub fn new_writer(&mut self) {
         self.writer = Writer::new();
         self.stage = 0;
+        let writer = self.writer.clone();
         let (_, reply) = self.call(b'N');
-        wire::numbers(reply, &[0; 4]);
+        wire::writer(reply, 0, &writer);
     }
 
-    /// Goes on with this writer, in an arbitrary state; stages past 1 are closed.
-    pub fn set_writer(&mut self, [stage, taken, total, version]: [u64; 4]) {
-        self.stage = stage;
-        self.writer = Writer {
+    /// Goes on with a writer in an arbitrary state; stages past 1 are closed.
+    pub fn set_writer(&mut self, [stage, taken, total, version]: [u64; 4], lined: bool) {
+        let writer = Writer {
             stage: match stage {
                 0 => Stage::Fresh,
                 1 => Stage::Open,
@@ -113,9 +114,12 @@ impl Calls {
             taken,
             total,
             version,
+            lined,
         };
+        self.stage = stage;
+        self.writer = writer.clone();
         let (request, _) = self.call(b'w');
-        wire::numbers(request, &[stage, taken, total, version]);
+        wire::writer(request, stage, &writer);
     }
 
     pub fn header(&mut self, fields: &[u8], out_length: u8) {
@@ -147,16 +151,10 @@ impl Calls {
         if outcome.is_ok() {
             self.stage = self.writer.stage as u64;
         }
-        let Writer {
-            taken,
-            total,
-            version,
-            ..
-        } = self.writer;
-        let writer = [self.stage, taken, total, version];
+        let (stage, writer) = (self.stage, self.writer.clone());
         let (request, reply) = self.call(letter);
         wire::answer(reply, &outcome);
-        wire::numbers(reply, &writer);
+        wire::writer(reply, stage, &writer);
         reply.extend_from_slice(out);
         request
     }

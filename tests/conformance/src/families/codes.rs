@@ -2,7 +2,7 @@
 
 use reference::days;
 use reference::random::Random;
-use reference::records::{G_CAPTURE, G_FORM, TABLE};
+use reference::records::{G_CAPTURE, G_FORM, LINE_END, TABLE};
 
 use super::sessions;
 use crate::calls::Calls;
@@ -10,6 +10,9 @@ use crate::versions;
 
 /// Both versions.
 const VERSIONS: [u64; 2] = [4, 6];
+
+/// What follows a record of a bare file, and of a lined one.
+const ENDS: [&[u8]; 2] = [b"", LINE_END];
 
 /// Where a G has its capture and its payment form, and where both are in its field bytes.
 const CAPTURE: usize = TABLE[G_CAPTURE].first - 1;
@@ -46,7 +49,7 @@ fn each_version(calls: &mut Calls, random: &mut Random) {
         record[79..81].copy_from_slice(&two.to_be_bytes());
         calls.record(&record, versions::told(random));
         fields[77..79].copy_from_slice(&two.to_be_bytes());
-        calls.header(&fields, 150);
+        calls.header(&fields, random.one_of(&[150, 152]));
         // In an open file the next header would not be expected.
         if calls.writer().version != 0 {
             calls.new_writer();
@@ -76,38 +79,49 @@ fn each_told(calls: &mut Calls, random: &mut Random) {
     }
 }
 
-/// An open file of each version, and payments with each byte as one of their codes: one by one, and in runs of two.
+/// An open file of each version and form, and payments with each byte as one of their codes: one by one, and in runs of
+/// two.
 fn taken(calls: &mut Calls, random: &mut Random) {
     calls.new_session();
     for version in VERSIONS {
-        let header = versions::header(random, version);
-        calls.take(&header).expect("a file to open");
-        for byte in 0..=255 {
-            for code in [CAPTURE, FORM] {
-                let mut record = sessions::payment(random, version);
-                let before = record;
-                record[code] = byte;
-                let _ = calls.take(&record);
-                let _ = calls.run(&[before, record].concat());
+        for end in ENDS {
+            let header = versions::header(random, version);
+            calls
+                .take(&[&header, end].concat())
+                .expect("a file to open");
+            for byte in 0..=255 {
+                for code in [CAPTURE, FORM] {
+                    let mut record = sessions::payment(random, version);
+                    let before = record;
+                    record[code] = byte;
+                    let _ = calls.take(&[&record, end].concat());
+                    let two = [&before, end, &record, end].concat();
+                    calls.run(&two, random.once_in(2));
+                }
             }
+            let trailer = sessions::trailer(calls.session());
+            calls
+                .take(&[&trailer, end].concat())
+                .expect("its own trailer");
         }
-        let trailer = sessions::trailer(calls.session());
-        calls.take(&trailer).expect("its own trailer");
     }
 }
 
-/// A writer of each version, and payments with each byte as one of their codes.
+/// A writer of each version and form, and payments with each byte as one of their codes.
 fn written(calls: &mut Calls, random: &mut Random) {
     for version in VERSIONS {
-        calls.set_writer([1, 0, 0, version]);
-        let code = days::barcode(random).expect("a good barcode");
-        for byte in 0..=255 {
-            for place in GIVEN {
-                let mut fields = days::payment_fields(random, &code, version);
-                fields[place] = byte;
-                calls.payment(&fields, random.number(12), random.number(7), 150);
+        for end in ENDS {
+            let size = 150 + end.len() as u8;
+            calls.set_writer([1, 0, 0, version], !end.is_empty());
+            let code = days::barcode(random).expect("a good barcode");
+            for byte in 0..=255 {
+                for place in GIVEN {
+                    let mut fields = days::payment_fields(random, &code, version);
+                    fields[place] = byte;
+                    calls.payment(&fields, random.number(12), random.number(7), size);
+                }
             }
+            calls.trailer(size);
         }
-        calls.trailer(150);
     }
 }

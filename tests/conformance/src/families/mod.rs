@@ -2,6 +2,7 @@
 
 mod codes;
 mod digits;
+mod ends;
 mod records;
 mod sessions;
 mod writers;
@@ -16,7 +17,12 @@ pub struct Family {
     pub compare: fn(&mut Calls, &mut Random, u64),
 }
 
-pub const ALL: [Family; 15] = [
+/// The slowest first, so that two workers end at about the same time.
+pub const ALL: [Family; 18] = [
+    Family {
+        name: "line ends, every two bytes",
+        compare: ends::each_two_bytes,
+    },
     Family {
         name: "typed lines, every change and swap",
         compare: digits::changed_lines,
@@ -62,6 +68,10 @@ pub const ALL: [Family; 15] = [
         compare: sessions::by_run,
     },
     Family {
+        name: "line ends, damaged, and every length",
+        compare: ends::each_length,
+    },
+    Family {
         name: "sessions, noise",
         compare: sessions::noise,
     },
@@ -76,6 +86,10 @@ pub const ALL: [Family; 15] = [
     Family {
         name: "files written",
         compare: writers::files,
+    },
+    Family {
+        name: "files written, buffers of every length",
+        compare: writers::buffer_sizes,
     },
 ];
 

@@ -1,22 +1,25 @@
-//! Sessions, boards and pages: days, damaged, out of order and with codes of the other version, and sessions in
-//! arbitrary states.
+//! Sessions, boards and pages: days, lined and bare, damaged, out of order, with codes of the other version and cut
+//! anywhere, and sessions in arbitrary states.
 
 use reference::random::Random;
+use reference::records::{LENGTH, LINED, LINE_END};
 use reference::{days, digits, Board, Issuer, Reason, Session};
 
 use super::near;
 use crate::calls::{Calls, PAGE};
-use crate::versions;
+use crate::{lines, versions};
 
 /// Numbers at the limits of counts and sums.
 const LIMITS: [u64; 4] = [0, 999_997, 1_000_000_000_000_000_000, u64::MAX];
 
-/// A day of 0 to 70 issuers, with files of both versions: unchanged, damaged at one to three places, out of order, or
-/// both. One in four has another version or another code in one to three records.
+/// A day of 0 to 70 issuers, with files of both versions, lined, bare or both: unchanged, damaged at one to three
+/// places, out of order, or both. One in four has another version or another code in one to three records, one in four
+/// a damaged line end.
 fn day(random: &mut Random) -> Vec<u8> {
     let issuers = random.index(71);
     let (files, most) = (random.index(5), random.index(30));
-    let mut bytes = days::day(random, issuers, files, most)
+    let form = lines::form(random);
+    let mut bytes = days::day_of(random, issuers, files, most, form)
         .expect("a good day")
         .bytes;
     let how = random.below(4);
@@ -26,18 +29,28 @@ fn day(random: &mut Random) -> Vec<u8> {
     if how & 2 != 0 {
         days::disorder(random, &mut bytes);
     }
-    if random.once_in(4) {
-        versions::change_day(random, &mut bytes);
+    match random.below(4) {
+        0 => versions::change_day(random, &mut bytes),
+        1 => days::damage_line_end(random, &mut bytes),
+        _ => {}
     }
     bytes
 }
 
-/// Days record by record, with the session after each. Sometimes a refused record is taken again, or the file
-/// abandoned.
+/// Days record by record, with the session after each. Sometimes a record is tried with another line end first.
+/// Sometimes a refused record is taken again, or the file abandoned.
 pub fn by_record(calls: &mut Calls, random: &mut Random, times: u64) {
     for _ in 0..1_500 * times {
         calls.new_session();
-        for record in day(random).chunks(150) {
+        let bytes = day(random);
+        for range in lines::records(&bytes) {
+            let record = &bytes[range];
+            if random.once_in(8) {
+                if let Some(record) = record.first_chunk() {
+                    let lined = random.once_in(2);
+                    let _ = calls.take(&lines::with_end(random, record, lined));
+                }
+            }
             if calls.take(record).is_err() {
                 match random.below(4) {
                     0 => calls.abandon(),
@@ -55,38 +68,45 @@ pub fn by_record(calls: &mut Calls, random: &mut Random, times: u64) {
     }
 }
 
-/// Days in pieces of whole records, then the page.
+/// Days in runs over pieces that are cut anywhere, then the page.
 pub fn by_run(calls: &mut Calls, random: &mut Random, times: u64) {
     for _ in 0..8_000 * times {
         calls.new_session();
         let bytes = day(random);
-        let piece = 150 * (1 + random.index(40));
-        for piece in bytes.chunks(piece) {
-            if calls.run(piece).is_err() && random.once_in(2) {
-                break;
-            }
+        if random.once_in(2) {
+            let ends = lines::cuts(random, bytes.len());
+            lines::feed(calls, &bytes, &ends);
+        } else {
+            lines::run_pieces(calls, random, &bytes);
         }
         calls.finish_session();
         calls.page(0, 0, random.number(19), random.number(19), PAGE);
     }
 }
 
-/// Random bytes of every length up to 200, half of them with a letter first, taken by a new session and by one with a
-/// file open.
+/// Random bytes of every length up to 200, half of them with a letter first and half of the long ones with CR and LF
+/// where they follow a record: taken by a new session, and by one with a bare or a lined file open.
 pub fn noise(calls: &mut Calls, random: &mut Random, times: u64) {
     for i in 0..20 * times {
         calls.new_session();
         if i % 2 == 1 {
             let header = days::header(random).expect("a good header");
-            calls.take(&header).expect("a file to open");
+            let end: &[u8] = if i % 4 == 1 { b"" } else { LINE_END };
+            calls
+                .take(&[&header, end].concat())
+                .expect("a file to open");
         }
         for length in 0..=200 {
             let mut bytes = super::noise(random, length);
             if let (Some(first), true) = (bytes.first_mut(), random.once_in(2)) {
                 *first = random.one_of(b"AGZ");
             }
+            if let (Some(end), true) = (bytes.get_mut(LENGTH..LINED), random.once_in(2)) {
+                end.copy_from_slice(LINE_END);
+            }
             let _ = calls.take(&bytes);
-            let _ = calls.run(&bytes);
+            calls.run(&bytes, false);
+            calls.run(&bytes, true);
         }
     }
 }
@@ -102,7 +122,7 @@ fn issuer(random: &mut Random) -> Issuer {
 
 /// A board in an arbitrary state, with numbers near the limits. Some of its lanes have one of the few issuers, so
 /// that a payment's issuer may be found once, several times or never.
-fn board(random: &mut Random) -> Board {
+pub fn board(random: &mut Random) -> Board {
     let mut board = Board::new();
     for lane in &mut board.lanes {
         if random.once_in(16) {
@@ -138,7 +158,8 @@ pub fn trailer(session: &Session) -> [u8; 150] {
     record
 }
 
-/// Sessions in arbitrary states, with a few calls each. Their file may have a version that is none.
+/// Sessions in arbitrary states, with a few calls each. Their file may have a version that is none, and may be lined
+/// while it is not open.
 pub fn arbitrary(calls: &mut Calls, random: &mut Random, times: u64) {
     for _ in 0..12_000 * times {
         let session = Session {
@@ -146,20 +167,13 @@ pub fn arbitrary(calls: &mut Calls, random: &mut Random, times: u64) {
             taken: near(random, &[0, 999_996, 999_997, u64::MAX - 2]),
             total: near(random, &[0, 99_999_999_999_999_999, u64::MAX]),
             version: versions::told(random),
+            lined: random.once_in(2),
             shown: board(random),
             working: board(random),
         };
         calls.set_session(&session);
         for _ in 0..random.index(5) {
-            let version = versions::made(random, calls.session().version);
-            let next = payment(random, version);
-            let _ = match random.below(10) {
-                0 => calls.take(&trailer(calls.session())),
-                1 => calls.take(&days::trailer(random)),
-                2 => calls.take(&days::header(random).expect("a good header")),
-                3 => calls.run(&[next, payment(random, version), trailer(&session)].concat()),
-                _ => calls.take(&next),
-            };
+            call(calls, random);
         }
         match random.below(4) {
             0 => calls.abandon(),
@@ -173,6 +187,29 @@ pub fn arbitrary(calls: &mut Calls, random: &mut Random, times: u64) {
                 PAGE,
             ),
         }
+    }
+}
+
+/// One record for the session as it is, or a run of three, mostly with the line ends of its file.
+fn call(calls: &mut Calls, random: &mut Random) {
+    let Session { version, lined, .. } = *calls.session();
+    let version = versions::made(random, version);
+    let next = match random.below(10) {
+        0 => trailer(calls.session()),
+        1 => days::trailer(random),
+        2 => days::header(random).expect("a good header"),
+        _ => payment(random, version),
+    };
+    let mut bytes = lines::with_end(random, &next, lined);
+    if random.once_in(8) {
+        let second = payment(random, version);
+        bytes.extend(lines::with_end(random, &second, lined));
+        let mut ahead = calls.session().clone();
+        ahead.run(&bytes, false);
+        bytes.extend(lines::with_end(random, &trailer(&ahead), lined));
+        calls.run(&bytes, random.once_in(2));
+    } else {
+        let _ = calls.take(&bytes);
     }
 }
 

@@ -1,11 +1,11 @@
-//! Files written record by record, with refused calls among them, and writers in arbitrary states.
+//! Files written record by record, lined and bare, with refused calls among them, and writers in arbitrary states.
 
 use reference::days;
 use reference::random::Random;
 
-use super::{near, out_length};
+use super::near;
 use crate::calls::Calls;
-use crate::versions;
+use crate::{lines, versions};
 
 /// A header of either version, sometimes with another byte in its version.
 fn header(calls: &mut Calls, random: &mut Random) {
@@ -14,7 +14,7 @@ fn header(calls: &mut Calls, random: &mut Random) {
         fields[77 + random.index(2)] = random.one_of(b"0456 \0");
     }
     damage(random, &mut fields);
-    calls.header(&fields, out_length(random, 150));
+    calls.header(&fields, lines::buffer_size(random, calls));
 }
 
 /// A payment, mostly with codes of the version of the writer's file.
@@ -31,7 +31,7 @@ fn payment(calls: &mut Calls, random: &mut Random) {
         }
     };
     let (received, tariff) = (amount(random, 12), amount(random, 7));
-    calls.payment(&fields, received, tariff, out_length(random, 150));
+    calls.payment(&fields, received, tariff, lines::buffer_size(random, calls));
 }
 
 /// Sometimes damages the field bytes at one to three places, or changes their length: by one, or two fewer.
@@ -51,7 +51,8 @@ pub fn files(calls: &mut Calls, random: &mut Random, times: u64) {
             let stage = near(random, &[0, 1, 2]);
             let taken = near(random, &[0, 999_996, 999_997, u64::MAX]);
             let total = near(random, &[0, 99_999_999_999_999_999, u64::MAX]);
-            calls.set_writer([stage, taken, total, versions::told(random)]);
+            let numbers = [stage, taken, total, versions::told(random)];
+            calls.set_writer(numbers, random.once_in(2));
         } else {
             calls.new_writer();
         }
@@ -59,11 +60,46 @@ pub fn files(calls: &mut Calls, random: &mut Random, times: u64) {
         for _ in 0..random.index(8) {
             match random.below(12) {
                 0 => header(calls, random),
-                1 => calls.trailer(out_length(random, 150)),
+                1 => calls.trailer(lines::buffer_size(random, calls)),
                 _ => payment(calls, random),
             }
         }
-        calls.trailer(out_length(random, 150));
+        calls.trailer(lines::buffer_size(random, calls));
         payment(calls, random);
+    }
+}
+
+/// Each call, with a buffer of each length, at each stage and in both forms; the lengths of field bytes are right.
+pub fn buffer_sizes(calls: &mut Calls, random: &mut Random, times: u64) {
+    for _ in 0..times {
+        for stage in [0, 1, 2, u64::MAX] {
+            for lined in [false, true] {
+                for size in 0..=255 {
+                    each_call(calls, random, stage, lined, size);
+                }
+            }
+        }
+    }
+}
+
+/// Each call from the same writer, with field bytes that are accepted and with damaged ones: a wrong length is refused
+/// before these.
+fn each_call(calls: &mut Calls, random: &mut Random, stage: u64, lined: bool, size: u8) {
+    let version = days::version(random);
+    let code = days::barcode(random).expect("a good barcode");
+    let mut header = days::header_fields(random);
+    let mut payment = days::payment_fields(random, &code, version);
+    for damaged in [false, true] {
+        if damaged {
+            days::damage(random, &mut header);
+            days::damage(random, &mut payment);
+        }
+        let start = |calls: &mut Calls| calls.set_writer([stage, 1, 5, version], lined);
+        start(calls);
+        calls.header(&header, size);
+        start(calls);
+        calls.payment(&payment, 7, 1, size);
+        start(calls);
+        calls.trailer(size);
     }
 }

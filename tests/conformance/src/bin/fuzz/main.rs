@@ -4,6 +4,7 @@
 
 mod corpus;
 mod coverage;
+mod ends;
 mod mutate;
 mod places;
 mod repair;

@@ -1,22 +1,24 @@
-//! Mutations of an input: of bytes, of ranges of bytes, and of the records and fields in it.
+//! Mutations of an input: of bytes, of ranges of bytes, and of the records, fields and line ends in it.
+
+use std::ops::Range;
 
 use conformance::inputs::Kind;
 use conformance::versions;
 use reference::digits;
 use reference::random::Random;
-use reference::records::{LENGTH, TABLE};
+use reference::records::TABLE;
 
-use crate::places;
 use crate::repair::repair;
+use crate::{ends, places};
 
 /// The length of the longest input.
 const MOST_BYTES: usize = 1 << 14;
 
 /// Bytes at the edges of their classes.
-const BYTES: &[u8] = b"\0\x01\x1f /09:@AGOZ[`az~\x7f\x80\x9f\xa0\xd3\xff";
+const BYTES: &[u8] = b"\0\x01\n\r\x1f /09:@AGOZ[`az~\x7f\x80\x9f\xa0\xd3\xff";
 
 /// Numbers at the edges of their widths and limits.
-pub const EDGES: [u64; 36] = [
+pub const EDGES: [u64; 37] = [
     0,
     1,
     2,
@@ -33,6 +35,7 @@ pub const EDGES: [u64; 36] = [
     64,
     65,
     150,
+    152,
     1899,
     1900,
     2000,
@@ -71,18 +74,19 @@ fn edge(random: &mut Random) -> u64 {
 pub fn mutate(random: &mut Random, kind: Kind, one: &[u8], other: &[u8]) -> Vec<u8> {
     let mut bytes = one.to_vec();
     for _ in 0..1 << random.below(4) {
-        match random.below(13) {
+        match random.below(15) {
             0 => records(random, kind, &mut bytes, other),
             1 | 2 => field(random, kind, &mut bytes, other),
             3 | 4 => range(random, &mut bytes, other),
             5 | 6 => number(random, kind, &mut bytes),
             7 => date(random, kind, &mut bytes),
             8 => version(random, kind, &mut bytes),
+            9 | 10 => form(random, kind, &mut bytes),
             _ => byte(random, &mut bytes),
         }
     }
     if random.once_in(2) {
-        repair(kind, &mut bytes);
+        repair(random, kind, &mut bytes);
     }
     bytes.truncate(MOST_BYTES);
     bytes.insert(0, kind as u8);
@@ -171,53 +175,58 @@ fn version(random: &mut Random, kind: Kind, bytes: &mut [u8]) {
         Some(told) if random.once_in(2) => {
             told.copy_from_slice(&versions::told(random).to_le_bytes());
         }
-        _ => match place(random, kind, bytes.len()) {
-            Some(place) => versions::change(random, &mut bytes[place..]),
+        _ => match record(random, kind, bytes) {
+            Some(record) => versions::change(random, &mut bytes[record]),
             None => byte(random, bytes),
         },
     }
 }
 
-/// The index of one of the records, if there are any.
-fn place(random: &mut Random, kind: Kind, length: usize) -> Option<usize> {
-    let count = places::records(kind, length).count();
-    places::records(kind, length).nth(random.index(count))
+/// Damages a line end, changes the form of a file, or cuts runs elsewhere.
+fn form(random: &mut Random, kind: Kind, bytes: &mut Vec<u8>) {
+    if kind == Kind::Run && random.once_in(2) {
+        ends::cut(random, bytes);
+    } else if !ends::line_end(random, kind, bytes) {
+        byte(random, bytes);
+    }
+}
+
+/// The range of one of the records, if there are any.
+fn record(random: &mut Random, kind: Kind, bytes: &[u8]) -> Option<Range<usize>> {
+    let records = places::records(kind, bytes);
+    records.get(random.index(records.len())).cloned()
 }
 
 /// Drops, doubles or moves a record, or inserts one of the other input.
 fn records(random: &mut Random, kind: Kind, bytes: &mut Vec<u8>, other: &[u8]) {
-    let step = match kind {
-        Kind::Run => LENGTH,
-        Kind::Take | Kind::ArbitrarySession => LENGTH + 1,
+    let before = match kind {
+        Kind::Run => 0,
+        _ if places::has_steps(kind) => 1,
         _ => return range(random, bytes, other),
     };
-    let record = |bytes: &[u8], place: usize| {
-        let end = bytes.len().min(place + step);
-        bytes[place..end].to_vec()
-    };
-    let (Some(here), Some(there)) = (
-        place(random, kind, bytes.len()),
-        place(random, kind, other.len()),
-    ) else {
+    let (Some(here), Some(there)) = (record(random, kind, bytes), record(random, kind, other))
+    else {
         return;
     };
-    let end = bytes.len().min(here + step);
+    let (start, end) = (here.start - before, here.end);
     match random.below(4) {
-        0 => drop(bytes.drain(here..end)),
-        1 => drop(bytes.splice(here..here, record(bytes, here))),
-        2 => drop(bytes.splice(here..here, record(other, there))),
-        _ => bytes[here..].rotate_left(end - here),
+        0 => drop(bytes.drain(start..end)),
+        1 => drop(bytes.splice(start..start, bytes[start..end].to_vec())),
+        2 => drop(bytes.splice(
+            start..start,
+            other[there.start - before..there.end].to_vec(),
+        )),
+        _ => bytes[start..].rotate_left(end - start),
     }
 }
 
 /// Replaces a field of a record by that of another record, by a number at an edge, or by one repeated byte.
 fn field(random: &mut Random, kind: Kind, bytes: &mut [u8], other: &[u8]) {
-    let (Some(here), Some(there)) = (
-        place(random, kind, bytes.len()),
-        place(random, kind, other.len()),
-    ) else {
+    let (Some(here), Some(there)) = (record(random, kind, bytes), record(random, kind, other))
+    else {
         return byte(random, bytes);
     };
+    let (here, there) = (here.start, there.start);
     let rows: Vec<_> = TABLE
         .iter()
         .filter(|row| row.letter == bytes[here])

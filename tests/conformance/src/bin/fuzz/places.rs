@@ -1,20 +1,60 @@
-//! Where an input without its first byte has records, dates of eight digits, and numbers of eight bytes.
+//! Where an input without its first byte has records, dates of eight digits, numbers of eight bytes, and lengths of
+//! buffers.
 
-use conformance::inputs::Kind;
-use reference::records::{Content, LENGTH, TABLE};
+use std::ops::Range;
+
+use conformance::inputs::{self, Kind};
+use conformance::lines;
+use reference::records::{Content, TABLE};
 use reference::session::LANES;
 
-/// Where records start, if all of them have 150 bytes.
-pub fn records(kind: Kind, length: usize) -> impl Iterator<Item = usize> {
-    let (first, step) = match kind {
-        Kind::Record => (8, usize::MAX),
-        Kind::Convert => (10, usize::MAX),
-        Kind::Run => (1, LENGTH),
-        Kind::Take => (1, LENGTH + 1),
-        Kind::ArbitrarySession => (27, LENGTH + 1),
-        _ => (usize::MAX, 1),
-    };
-    (first..length).step_by(step)
+/// Whether records have a byte before them that says how long they are.
+pub fn has_steps(kind: Kind) -> bool {
+    matches!(kind, Kind::Take | Kind::ArbitrarySession)
+}
+
+/// The ranges of records, with what follows them: in runs their line ends, in steps what their lengths say. The last
+/// may be shorter.
+pub fn records(kind: Kind, rest: &[u8]) -> Vec<Range<usize>> {
+    let all = rest.len();
+    match kind {
+        Kind::Record if all > 8 => vec![8..all],
+        Kind::Convert if all > 10 => vec![10..all],
+        Kind::Run => {
+            let start = runs_start(rest);
+            let moved = |record: Range<usize>| start + record.start..start + record.end;
+            lines::records(&rest[start..])
+                .into_iter()
+                .map(moved)
+                .collect()
+        }
+        Kind::Take => steps(rest, 0, usize::MAX),
+        Kind::ArbitrarySession => steps(rest, 26, arbitrary_steps(rest)),
+        _ => Vec::new(),
+    }
+}
+
+/// Where the bytes of runs start.
+pub fn runs_start(rest: &[u8]) -> usize {
+    let first = rest.first().copied().unwrap_or(0);
+    inputs::runs_start(first).min(rest.len())
+}
+
+/// How many records a session in an arbitrary state takes.
+fn arbitrary_steps(rest: &[u8]) -> usize {
+    rest.get(25).map_or(0, |count| usize::from(count % 5))
+}
+
+/// The records of at most so many steps, the first of which starts here.
+fn steps(rest: &[u8], first: usize, most: usize) -> Vec<Range<usize>> {
+    let mut records: Vec<Range<usize>> = Vec::new();
+    let mut next = first;
+    while next + 1 < rest.len() && records.len() < most {
+        let end = next + 1 + inputs::step_length(rest[next]);
+        records.push(next + 1..end.min(rest.len()));
+        next = end;
+    }
+    records
 }
 
 /// Where dates start, including the due dates that barcodes may have. Some may be past the end.
@@ -23,7 +63,8 @@ pub fn dates(kind: Kind, rest: &[u8]) -> Vec<usize> {
         Kind::Date => vec![0],
         Kind::Barcode => vec![19, 23],
         _ => {
-            let of_record = |place: usize| {
+            let of_record = |record: Range<usize>| {
+                let place = record.start;
                 let rows = TABLE.iter().filter(move |row| row.letter == rest[place]);
                 rows.flat_map(move |row| match row.content {
                     Content::Date => vec![place + row.first - 1],
@@ -31,7 +72,10 @@ pub fn dates(kind: Kind, rest: &[u8]) -> Vec<usize> {
                     _ => Vec::new(),
                 })
             };
-            records(kind, rest.len()).flat_map(of_record).collect()
+            records(kind, rest)
+                .into_iter()
+                .flat_map(of_record)
+                .collect()
         }
     }
 }
@@ -50,8 +94,8 @@ pub fn numbers(kind: Kind, rest: &[u8]) -> Vec<usize> {
         }
         Kind::ArbitrarySession => {
             let mut places = vec![1, 9, 17];
-            let records = rest.get(25).map_or(0, |count| usize::from(count % 5));
-            let shown = 26 + records * (LENGTH + 1);
+            let records = steps(rest, 26, arbitrary_steps(rest));
+            let shown = records.last().map_or(26, |last| last.end);
             let working = board(rest, shown, &mut places);
             board(rest, working, &mut places);
             places
@@ -71,6 +115,23 @@ pub fn version(kind: Kind, rest: &[u8]) -> Option<usize> {
         Kind::Write if first % 2 == 1 => Some(25),
         _ => None,
     }
+}
+
+/// Where a writer's calls have the lengths of their buffers.
+pub fn buffer_sizes(rest: &[u8]) -> Vec<usize> {
+    let mut sizes = Vec::new();
+    let is_arbitrary = rest.first().is_some_and(|flags| flags % 2 == 1);
+    let mut next = if is_arbitrary { 33 } else { 1 };
+    while next + 1 < rest.len() {
+        sizes.push(next + 1);
+        let counted = |place: usize| place + 1 + rest.get(place).map_or(0, |&n| usize::from(n));
+        next = match rest[next] % 3 {
+            0 => counted(next + 2),
+            1 => counted(next + 18),
+            _ => next + 2,
+        };
+    }
+    sizes
 }
 
 /// Adds where the numbers of a board and of its lanes start, and returns where the board ends.

@@ -1,12 +1,17 @@
-//! Repairs check digits and trailers after a mutation, so that inputs get past those checks.
+//! Repairs line ends, check digits and trailers after a mutation, so that inputs get past those checks.
 
 use conformance::inputs::Kind;
+use reference::random::Random;
 use reference::records::{Row, G_BARCODE, G_RECEIVED, LENGTH, TABLE, Z_COUNT, Z_TOTAL};
 use reference::{digits, line, Modulus};
 
-use crate::places;
+use crate::{ends, places};
 
-pub fn repair(kind: Kind, rest: &mut [u8]) {
+/// Repairs line ends only in every second input, so that damaged ones are met behind right records too.
+pub fn repair(random: &mut Random, kind: Kind, rest: &mut Vec<u8>) {
+    if random.once_in(2) {
+        ends::repair(kind, rest);
+    }
     match kind {
         Kind::Line => repair_line(rest),
         Kind::Barcode => repair_barcode(rest),
@@ -40,8 +45,8 @@ fn repair_line(typed: &mut [u8]) {
 /// Repairs the barcodes of payments, and the counts and totals of trailers.
 fn repair_records(kind: Kind, rest: &mut [u8]) {
     let (mut taken, mut total) = (0, 0u64);
-    for place in places::records(kind, rest.len()) {
-        let Some(record) = rest.get_mut(place..place + LENGTH) else {
+    for record in places::records(kind, rest) {
+        let Some(record) = rest.get_mut(record.start..record.start + LENGTH) else {
             return;
         };
         if record[0] == b'G' {

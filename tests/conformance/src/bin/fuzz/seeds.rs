@@ -1,10 +1,13 @@
 //! The first inputs of each kind: the samples, and random valid ones.
 
+use std::ops::Range;
 use std::{fs, io};
 
 use conformance::engine::root;
-use conformance::inputs::Kind;
+use conformance::inputs::{self, Kind, FED};
+use conformance::lines;
 use reference::random::Random;
+use reference::records::{LENGTH, LINE_END};
 use reference::{days, Board, Issuer, Refusal};
 
 use crate::mutate::EDGES;
@@ -67,18 +70,20 @@ fn valid(random: &mut Random, kind: Kind, turn: usize) -> Result<Vec<u8>, Refusa
             2 => [vec![2, 80], record(random, 0)?].concat(),
             _ => [vec![2, 121], record(random, 1)?].concat(),
         },
-        Kind::Run => [vec![random.below(4) as u8], day(random)?].concat(),
+        Kind::Run => runs(random)?,
         Kind::Take => steps(&day(random)?),
         Kind::ArbitrarySession => {
-            let mut rest = vec![1];
+            let lined = random.once_in(2);
+            let end: &[u8] = if lined { LINE_END } else { b"" };
+            let mut rest = vec![1 + 2 * u8::from(lined)];
             let version = days::version(random);
             rest.extend(numbers([random.number(6), random.number(17), version]));
             rest.push(2);
             let issuer = days::issuer(random);
             let mut payment = days::payment(random, version)?;
             payment[37..81].copy_from_slice(&days::barcode_of(random, issuer)?);
-            rest.extend(steps(&payment));
-            rest.extend(steps(&days::trailer(random)));
+            rest.extend(steps(&[&payment, end].concat()));
+            rest.extend(steps(&[&days::trailer(random), end].concat()));
             rest.extend(board(random, issuer));
             rest.extend(board(random, issuer));
             rest
@@ -109,15 +114,34 @@ fn record(random: &mut Random, turn: usize) -> Result<Vec<u8>, Refusal> {
     Ok([numbers([version]), record.to_vec()].concat())
 }
 
+/// A day of bare files, of lined files, or of both.
 fn day(random: &mut Random) -> Result<Vec<u8>, Refusal> {
     let (issuers, files) = (random.index(8), random.index(4));
-    Ok(days::day(random, issuers, files, 4)?.bytes)
+    let form = lines::form(random);
+    Ok(days::day_of(random, issuers, files, 4, form)?.bytes)
 }
 
-/// Records to be taken one by one, with no other call between them.
-fn steps(records: &[u8]) -> Vec<u8> {
-    let step = |record: &[u8]| [&[0], record].concat();
-    records.chunks(150).flat_map(step).collect()
+/// A day in runs that are cut at up to three places, fed as a caller would or not.
+fn runs(random: &mut Random) -> Result<Vec<u8>, Refusal> {
+    let day = day(random)?;
+    let cuts = random.below(4) as u8;
+    let mut rest = vec![cuts + random.one_of(&[0, FED])];
+    for _ in 0..cuts {
+        let length = random.index(day.len() + 1) as u16;
+        rest.push(random.below(4) as u8);
+        rest.extend(length.to_le_bytes());
+    }
+    rest.extend(day);
+    Ok(rest)
+}
+
+/// Records to be taken one by one, each with its line end if it has one, with no other call between them.
+fn steps(bytes: &[u8]) -> Vec<u8> {
+    let step = |record: Range<usize>| {
+        let how = inputs::step(record.len().max(LENGTH));
+        [&[how], &bytes[record]].concat()
+    };
+    lines::records(bytes).into_iter().flat_map(step).collect()
 }
 
 /// A board with numbers at the edges; its first lane has this issuer.
@@ -133,25 +157,27 @@ fn board(random: &mut Random, first: Issuer) -> Vec<u8> {
     board
 }
 
-/// The calls that write a file, by a new writer or by one whose file is open already, which refuses the header.
+/// The calls that write a lined or a bare file, by a new writer or by one whose file is open already, which refuses the
+/// header.
 fn file(random: &mut Random, new: bool) -> Result<Vec<u8>, Refusal> {
-    let mut rest = vec![u8::from(!new)];
+    let size = random.one_of(&[150, 152]);
+    let mut rest = vec![u8::from(!new) + (size - 150)];
     let header = days::header_fields(random);
     // The last digit of the version, which has two.
     let version = u64::from(header[78] - b'0');
     if !new {
         rest.extend(numbers([1, random.number(6), random.number(17), version]));
     }
-    rest.extend([0, 150, header.len() as u8]);
+    rest.extend([0, size, header.len() as u8]);
     rest.extend(header);
     for _ in 0..random.index(3) {
         let code = days::barcode(random)?;
         let fields = days::payment_fields(random, &code, version);
-        rest.extend([1, 150]);
+        rest.extend([1, size]);
         rest.extend(numbers([random.number(12), random.number(7)]));
         rest.push(fields.len() as u8);
         rest.extend(fields);
     }
-    rest.extend([2, 150]);
+    rest.extend([2, size]);
     Ok(rest)
 }
