@@ -1,5 +1,5 @@
 -- The laws of a file's form. Assumes nothing.
-use Prim.Native.Nat.{ℕ, _+_, _<_}
+use Prim.Native.Nat.{ℕ, _+_, _≤_, _<_}
 use mathlib.Core.Bool.{Bool, true, false, cond, _&&_, _||_, and-eq-true-iff}
 use mathlib.Core.List.{List, [], _∷_, _++_, append-nil}
 use mathlib.Core.Logic.{_↔_, ⊎-elim}
@@ -16,6 +16,15 @@ use Rattle.answer.proofs.Orders.{require-accepts}
 use Rattle.answer.proofs.Tests.{unequal, or-cases, lt-or-le}
 use Rattle.layout.specs.Layouts.{recordLength}
 use Rattle.file.specs.Forms.{lineEnd, endOf, inForm, linedLength, lengthOf, bodyOf, hasLineEnd, fitsLength, endPlace, endAnswer, formOf, LineEndIsCrAndLf, FittingIsInForm}
+
+-- the bytes of a record in either form are 150 to 152
+pub at-least-bare : (lined : Bool) → recordLength ≤ lengthOf lined
+at-least-bare true = omega arith
+at-least-bare false = omega arith
+
+pub at-most-lined : (lined : Bool) → lengthOf lined ≤ linedLength
+at-most-lined true = omega arith
+at-most-lined false = omega arith
 
 -- A record of 150 bytes in either form.
 module _ (rec : List ℕ) (n : length rec ≡ recordLength) where

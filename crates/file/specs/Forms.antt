@@ -65,7 +65,7 @@ formOf opened lined bytes = cond opened lined (hasLineEnd bytes)
 
 -- Promises.
 
--- CR and LF follow exactly if the bytes are 150, CR and LF
+-- exactly that: the bytes are a record's 150, then CR and LF
 abbrev pub LineEndIsCrAndLf : Type 0
 LineEndIsCrAndLf =
     (bytes : List ℕ)

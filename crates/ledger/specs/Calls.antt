@@ -17,7 +17,7 @@ use Rattle.ledger.specs.Ledgers.{ledgerStep, ledgerAfter}
 use Rattle.ledger.specs.Promises.{sessionStep, reached, ledgerOf, Agrees}
 use Rattle.ledger.specs.Runs.{ledgerPieces}
 
--- taking a record or abandoning, a run over bytes, which more are to follow or not, finishing
+-- taking a record or abandoning; a run over bytes, told whether more are to follow; finishing
 pub data Call : Type 0 where
   stepping : Step → Call
   running : Bool → List ℕ → Call

@@ -1,5 +1,5 @@
 -- The turns run one input, and its page is printed. Assumes nothing.
-use Prim.Native.Nat.{ℕ, _+_, _-_, _*_, _^_, _≤_}
+use Prim.Native.Nat.{ℕ, _+_, _-_, _*_, _≤_}
 use mathlib.Core.Bool.{Bool, true, false}
 use mathlib.Core.List.{List, [], _++_, append-nil}
 use mathlib.Core.Logic.{_⊎_, inl, inr}
@@ -26,7 +26,7 @@ use Rattle.quadro.specs.declared.BufferRead.the-variants as buffer
 use Rattle.quadro.specs.declared.TurnEnd.{TurnEnd}
 use Rattle.quadro.specs.declared.TurnEnd.the-variants as turn
 use Rattle.quadro.specs.declared.TurnResult.{TurnResult}
-use Rattle.quadro.specs.Buffers.{bufferLength, mostKept, EndsBelow}
+use Rattle.quadro.specs.Buffers.{bufferLength, mostKept, inputLimit, EndsBelow}
 use Rattle.quadro.specs.Turns.{hasMore, turnWith, moreUnlessRefused, turnOf, TurnOf, TurnRun}
 use Rattle.quadro.specs.Inputs.{Fed, InputRun, DayOfInput, OverIsTheInputs}
 use Rattle.quadro.proofs.Buffers.{ended-refused}
@@ -74,11 +74,11 @@ pub record Reached (start : RunResult) (turns : ℕ) (t : TurnResult) (buf : Lis
   pub more : t .end ≡ turn.More
   pub size : length (take (t .kept) buf) ≡ t .kept
   pub few : t .kept ≤ mostKept
-  pub long : 2 ^ 60 ≤ length input + turns * (bufferLength - mostKept)
+  pub long : inputLimit ≤ length input + turns * (bufferLength - mostKept)
 
 pub reached-none :
     (start : RunResult) (turns : ℕ) (buf : List ℕ) → start .answer ≡ Accepted
-    → 2 ^ 60 ≤ turns * (bufferLength - mostKept) → Reached start turns (turnWith turn.More start 0) buf
+    → inputLimit ≤ turns * (bufferLength - mostKept) → Reached start turns (turnWith turn.More start 0) buf
 reached-none start turns buf a l =
     record {
       input = [];
@@ -210,7 +210,7 @@ module _ (bytes : List ℕ) (t : TurnResult) {day : RunResult} {before left : Li
 over-last :
     (bytes : List ℕ) (t : TurnResult) {day : RunResult} {before left : List ℕ} → Fed freshDay before day left
     → t .end ≡ turn.Over
-    → ((2 ^ 60 ≤ length before) × (t ≡ turnWith turn.More day (length left)))
+    → ((inputLimit ≤ length before) × (t ≡ turnWith turn.More day (length left)))
     ⊎ ((hasMore (t .end) ≡ false) × (take (length left) bytes ≡ left) × TurnOf day (length left) bytes t)
     → DayOfInput before (length left) bytes (t .day)
 over-last bytes t fed o (inl m) =

@@ -19,7 +19,11 @@ EndsBelow n Full = Unit {0}
 EndsBelow n (Ended k) = k < n
 EndsBelow n Failed = Unit {0}
 
--- 2^60 before an input is read, and 2^62 while it is read
+-- after so many bytes an input is read no further
+abbrev pub inputLimit : ℕ
+inputLimit = 2 ^ 60
+
+-- the most records, files or bytes that are counted before an input is read, and while it is read
 abbrev pub mostBefore : ℕ
 mostBefore = 2 ^ 60
 

@@ -19,7 +19,7 @@ use Rattle.session.specs.declared.Session.{Session}
 use Rattle.session.specs.declared.RunResult.{RunResult}
 use Rattle.session.specs.Sessions.{takeAnswer, nextSession, takeOf}
 use Rattle.session.specs.Runs.{pieceLength, pieceOf, leastLeft, piecesUpTo, piecesOf, filesClosed, addCounts, stoppedIfRefused, runAll, runOf, bytesOf, AllTaken, sessionAfterAll, nextAnswer, RunIsItsTakes, RunLeavesFew, FeedingIsOneRun}
-use Rattle.session.proofs.Lengths.{at-most-lined}
+use Rattle.file.proofs.Forms.{at-most-lined}
 use Rattle.session.proofs.Runs.{piece-some, least-some, run-none, run-refused, run-on, counts-add, counts-none}
 
 abbrev closedBy : List ℕ → ℕ

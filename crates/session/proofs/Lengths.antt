@@ -10,7 +10,7 @@ use lib.ListN.{length, take, length-take}
 use Rattle.layout.specs.Layouts.{recordLength}
 use Rattle.file.specs.Forms.{linedLength, lengthOf, hasLineEnd, fitsLength, formOf}
 use Rattle.session.specs.Runs.{leastLeft}
-use Rattle.file.proofs.Forms.{not-ended, fits-bare-length, fits-longer}
+use Rattle.file.proofs.Forms.{at-least-bare, at-most-lined, not-ended, fits-bare-length, fits-longer}
 
 -- more than 150 bytes
 module _ (opened lined : Bool) (rec : List ℕ) (longer : recordLength < length rec) where
@@ -38,27 +38,15 @@ module _ {opened : Bool} (lined : Bool) (bytes : List ℕ) where
       → t ≡ formOf opened lined (take linedLength bytes)
   piece-ahead e f = rw e f
 
-pub some-bytes : (lined : Bool) → 0 < lengthOf lined
-some-bytes true = omega arith
-some-bytes false = omega arith
-
-pub at-least-bare : (lined : Bool) → recordLength ≤ lengthOf lined
-at-least-bare true = omega arith
-at-least-bare false = omega arith
-
 -- a record of an open file that is as long as its form's records are
 pub fits-form : (lined : Bool) (rec : List ℕ) → length rec ≡ lengthOf lined → fitsLength true lined rec ≡ true
 fits-form true rec n = sym (fits-lined true true rec (omega (arith, n)) refl refl) ∙ le-leb (length rec) linedLength (omega (arith, n))
 fits-form false rec n = fits-bare-length true false rec n
 
-pub at-most-lined : (lined : Bool) → lengthOf lined ≤ linedLength
-at-most-lined true = omega arith
-at-most-lined false = omega arith
-
 -- what one more record needs is enough for a run's next step, and for the record
 pub needs-least : (more lined : Bool) → leastLeft more ≤ cond more linedLength (lengthOf lined)
 needs-least true lined = omega arith
-needs-least false lined = some-bytes lined
+needs-least false lined = omega (arith, at-least-bare lined)
 
 pub needs-record : (more lined : Bool) → lengthOf lined ≤ cond more linedLength (lengthOf lined)
 needs-record true lined = at-most-lined lined

@@ -25,7 +25,7 @@ use Rattle.record.specs.Values.{recordShown, shownUnlessRefused, decodedRecord,
 use Rattle.file.specs.declared.FileResult.{FileResult}
 use Rattle.file.specs.Files.{fileResultOf, fileAnswer, fileWith}
 use Rattle.file.specs.Forms.{lengthOf, bodyOf, fitsLength, endAnswer}
-use Rattle.file.proofs.Forms.{first-in}
+use Rattle.file.proofs.Forms.{at-least-bare, first-in}
 use Rattle.board.specs.declared.Lane.{Lane}
 use Rattle.board.specs.declared.SlotResult.{SlotResult}
 use Rattle.board.specs.declared.PostResult.{PostResult}
@@ -41,7 +41,7 @@ use Rattle.session.specs.Sessions.{sessionTerms, laneOfPayment, takeAnsw
 use Rattle.session.specs.Runs.{pieceLength, leastLeft, filesClosed}
 use Rattle.session.specs.LeadingPayments.{Taken, NextPaymentOf, withLeading, LeadingPaymentsOf}
 use Rattle.session.proofs.Steps.{posted-board, taken-file}
-use Rattle.session.proofs.Lengths.{some-bytes, at-least-bare, fits-form}
+use Rattle.session.proofs.Lengths.{fits-form}
 use Rattle.session.proofs.Runs.{least-some, piece-part, piece-first, run-goes}
 
 -- what is decoded as a payment was accepted, and its first byte names a payment
@@ -146,11 +146,11 @@ one-more self more bytes b inv {paid} {next} took {at} found {e} posted accepted
     let p = took .shown in
     let piece = take (next .at - from) (drop from bytes) in
     let own : size ≡ lengthOf lined = rw (took .going) in
-    let some = some-bytes lined in
+    let some = at-least-bare lined in
     let least = least-some more in
     let l = length-drop from bytes in
     let long : length piece ≡ lengthOf lined = length-take-le (next .at - from) (drop from bytes) (omega (arith, took .ends, took .inside)) ∙ omega (arith, took .ends) in
-    let body : bodyOf piece ≡ take recordLength (drop from bytes) = take-take recordLength (next .at - from) (drop from bytes) (omega (arith, took .ends, at-least-bare lined)) in
+    let body : bodyOf piece ≡ take recordLength (drop from bytes) = take-take recordLength (next .at - from) (drop from bytes) (omega (arith, took .ends, some)) in
     let is : decodedRecord (sessionTerms s) (bodyOf piece) ≡ decoded.Payment p = ap (decodedRecord (sessionTerms s)) body ∙ took .is in
     let found′ : at ≡ indexOf (p .barcode .issuer) (lanesOf (b .work)) = rw (took .lane) at found in
     let posted′ : e ≡ slotResultOf (slotAt (b .work) at) (laneOfPayment p) = rw (took .lane) at posted in

@@ -16,6 +16,7 @@ use Rattle.answer.specs.declared.Answer.the-variants.{Accepted, Refused}
 use Rattle.answer.proofs.Tests.{lt-or-le}
 use Rattle.layout.specs.Layouts.{namedBy}
 use Rattle.file.specs.Forms.{linedLength, formOf}
+use Rattle.file.proofs.Forms.{at-least-bare}
 use Rattle.session.specs.declared.Session.{Session}
 use Rattle.session.specs.declared.RunResult.{RunResult}
 use Rattle.session.specs.declared.TakeResult.{TakeResult}
@@ -23,11 +24,10 @@ use Rattle.session.specs.declared.leading.LeadingPayments.{LeadingPaymen
 use Rattle.session.specs.Sessions.{takeAnswer, nextSession, takeOf}
 use Rattle.session.specs.Runs.{pieceLength, pieceOf, leastLeft, piecesUpTo, piecesOf, filesClosed, emptyRun, addCounts, runOf}
 use Rattle.session.specs.LeadingPayments.{withLeading, LeadingPaymentsOf}
-use Rattle.session.proofs.Lengths.{some-bytes}
 
 -- a piece is not empty, and needs a byte
 pub piece-some : (s : Session) (bytes : List ℕ) → 0 < pieceLength s bytes
-piece-some s bytes = some-bytes (formOf (s .opened) (s .file .lined) (take linedLength bytes))
+piece-some s bytes = omega (arith, at-least-bare (formOf (s .opened) (s .file .lined) (take linedLength bytes)))
 
 pub least-some : (more : Bool) → 0 < leastLeft more
 least-some true = omega arith

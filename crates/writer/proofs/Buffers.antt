@@ -1,5 +1,5 @@
 -- Laws of the caller's buffer: the lengths that fit a call, and a record put into it in its form. Assumes nothing.
-use Prim.Native.Nat.{ℕ, _+_, _≤_}
+use Prim.Native.Nat.{ℕ, _+_}
 use mathlib.Core.Bool.{Bool, true, false}
 use mathlib.Core.List.{List, _++_, append-nil}
 use mathlib.Core.Logic.{⊎-elim}
@@ -38,11 +38,7 @@ fitting-size stage lined size = go stage
     go Open t = of-form lined t
     go Closed t = of-form lined t
 
--- a record fits in either form; in a buffer of 150 it is bare
-pub record-fits : (lined : Bool) → recordLength ≤ lengthOf lined
-record-fits true = omega arith
-record-fits false = omega arith
-
+-- a buffer that is not one of 152 is one of 150
 pub bare-size : (size : ℕ) → size ≡ lengthOf (isLinedBuffer size) → (size ≡ linedLength → ⊥) → size ≡ recordLength
 bare-size size n other = n ∙ rw (ne-eqb size linedLength other)
 

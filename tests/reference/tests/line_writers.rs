@@ -3,25 +3,15 @@
 
 mod common;
 
-use common::{a, a06, assert_answer, g, lined, p4_code, with_byte, z};
+use common::{
+    a, a06, assert_answer, g, header_fields, lined, p4_code, payment_fields, with_byte, z,
+};
 use reference::days::{self, Form};
 use reference::random::Random;
 use reference::{digits, records, Session, Stage, Writer};
 
 /// The lengths of buffers that are tried.
 const SIZES: [usize; 9] = [0, 2, 149, 150, 151, 152, 153, 300, 304];
-
-fn header_fields() -> [u8; 80] {
-    let mut fields = [0; 80];
-    records::join(&a(), 4, &mut fields).unwrap();
-    fields
-}
-
-fn payment_fields() -> [u8; 121] {
-    let mut fields = [0; 121];
-    records::join(&g(&p4_code(), 0), 4, &mut fields).unwrap();
-    fields
-}
 
 fn open_writer(size: usize) -> Writer {
     let mut writer = Writer::new();

@@ -2,22 +2,10 @@
 
 mod common;
 
-use common::{a, assert_answer, g, p4_code, with_byte, z};
-use reference::{answer, records, Stage, Writer};
+use common::{a, assert_answer, g, header_fields, p4_code, payment_fields, with_byte, z};
+use reference::{answer, Stage, Writer};
 
 const FILE_LIMIT: u64 = 99_999_999_999_999_999;
-
-fn header_fields() -> [u8; 80] {
-    let mut fields = [0; 80];
-    records::join(&a(), 4, &mut fields).unwrap();
-    fields
-}
-
-fn payment_fields() -> [u8; 121] {
-    let mut fields = [0; 121];
-    records::join(&g(&p4_code(), 0), 4, &mut fields).unwrap();
-    fields
-}
 
 fn open_writer() -> Writer {
     let mut writer = Writer::new();

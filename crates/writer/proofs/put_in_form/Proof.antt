@@ -5,14 +5,15 @@ use borrow.Author.Needs.{needs}
 use lib.ListN.{length}
 use lib.Seq.{lt-length-set}
 use Rattle.writer.specs.Writers.{isLinedBuffer}
-use Rattle.writer.proofs.Buffers.{record-fits, bare-size, put-lined, put-bare}
+use Rattle.file.proofs.Forms.{at-least-bare}
+use Rattle.writer.proofs.Buffers.{bare-size, put-lined, put-bare}
 use Rattle.writer.proofs.put_in_form.Statement.{statement}
 use Rattle.writer.proofs.put_in_form.Tie as tie
 
 copy-requires : tie.Need-copy-requires
 copy-requires c κs =
     let pre = c .before .before .before .pre in
-    omega (arith, pre .0, pre .1, record-fits (isLinedBuffer (length (c .before .before .before .args .out .now))))
+    omega (arith, pre .0, pre .1, at-least-bare (isLinedBuffer (length (c .before .before .before .args .out .now))))
 
 slice-write-out : tie.Need-slice-write-out
 slice-write-out c = search needs

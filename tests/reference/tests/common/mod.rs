@@ -53,6 +53,20 @@ pub fn z(count: u64, total: u64) -> [u8; 150] {
     text.as_bytes().try_into().expect("150 bytes")
 }
 
+/// The field bytes of the header `a`.
+pub fn header_fields() -> [u8; 80] {
+    let mut fields = [0; 80];
+    records::join(&a(), 4, &mut fields).expect("a good header");
+    fields
+}
+
+/// The field bytes of a payment of P4.
+pub fn payment_fields() -> [u8; 121] {
+    let mut fields = [0; 121];
+    records::join(&g(&p4_code(), 0), 4, &mut fields).expect("a good payment");
+    fields
+}
+
 /// The record with its line end.
 pub fn lined(record: &[u8; 150]) -> [u8; 152] {
     let mut bytes = [13; 152];

@@ -11,7 +11,7 @@ use Rattle.board.specs.Lanes.{mostLanes}
 use Rattle.board.specs.Searches.{cacheLength}
 use Rattle.board.proofs.Searches.{Searched, search-on, search-hits, search-ends}
 use Rattle.board.proofs.Caches.{Caches, zeros-cache, cached-starts, caches-on}
-use Rattle.session.proofs.Lengths.{some-bytes}
+use Rattle.file.proofs.Forms.{at-least-bare}
 use Rattle.session.proofs.Payments.{next-told, one-more}
 use Rattle.session.proofs.Runs.{counts-none}
 use Rattle.session.specs.Runs.{runOf}
@@ -132,7 +132,7 @@ loop-less : tie.Need-loop-less Inv-loop2 μ-loop2 Inv-loop μ-loop
 loop-less c =
     let read = c .before .before .before .before .before .before .before .before .before .before .before .before .before .before .before in
     let took = next-told (read .before .before .next-payment .ensures) (read .payment .given .1) in
-    omega (arith, took .inside, took .ends, some-bytes (read .before .before .before .loop .progress .file .lined))
+    omega (arith, took .inside, took .ends, at-least-bare (read .before .before .before .loop .progress .file .lined))
 
 loop-again : tie.Need-loop-again Inv-loop2 μ-loop2 Inv-loop μ-loop
 loop-again c =

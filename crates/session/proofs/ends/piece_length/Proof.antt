@@ -3,7 +3,7 @@ use mathlib.Core.Path.{ap, _∙_}
 use native.Mathlib.Omega.{arith}
 use borrow.Author.Needs.{needs}
 use Rattle.file.specs.Forms.{lengthOf}
-use Rattle.session.proofs.Lengths.{some-bytes}
+use Rattle.file.proofs.Forms.{at-least-bare}
 use Rattle.session.proofs.ends.piece_length.Statement.{statement}
 use Rattle.session.proofs.ends.piece_length.Tie as tie
 
@@ -22,7 +22,7 @@ returns-2 : tie.Need-returns-2
 returns-2 c =
     let form = c .before .before .is-piece-lined .result in
     let n = c .before .record-length .ensures ∙ ap lengthOf (c .before .before .is-piece-lined .ensures) in
-    (omega (arith, n, c .if1 .left), (λ h. omega (arith, c .before .record-length .ensures, some-bytes form), omega (arith, c .if1 .left)))
+    (omega (arith, n, c .if1 .left), (λ h. omega (arith, c .before .record-length .ensures, at-least-bare form), omega (arith, c .if1 .left)))
 
 pub piece-length-spec : {M : Type 1} → statement M
 piece-length-spec =

@@ -4,7 +4,8 @@ use mathlib.Core.Path.{sym, _∙_}
 use native.Mathlib.Omega.{arith}
 use borrow.Author.Needs.{needs}
 use borrow.Author.Tests.{not-false}
-use Rattle.session.proofs.Lengths.{at-least-bare, needs-least, needs-record}
+use Rattle.file.proofs.Forms.{at-least-bare}
+use Rattle.session.proofs.Lengths.{needs-least, needs-record}
 use Rattle.session.proofs.Payments.{next-is}
 use Rattle.session.proofs.leading.next_payment.Statement.{statement}
 use Rattle.session.proofs.leading.next_payment.Tie as tie
