@@ -8,7 +8,9 @@
 #include <stdio.h>
 
 /* How many bytes are run at a time: any number from HOLLYTROT_LINED on. */
+#ifndef PART
 #define PART 65536
+#endif
 
 static uint8_t part[PART];
 static uint8_t page[HOLLYTROT_PAGE];

@@ -87,6 +87,19 @@ fn bare_headers_at_the_end_of_a_buffer() {
     headers_at_the_end(false);
 }
 
+/// A day of many buffers, each of which ends inside a header: behind each even number of its bytes, 2 to 150. Such a
+/// header is left whole for the next buffer, which so ends a buffer's length behind the start of the header.
+#[test]
+fn a_header_at_the_end_of_every_buffer() {
+    let random = &mut Random::new(5);
+    let mut bytes = Vec::new();
+    for inside in (2..=150).step_by(2) {
+        bytes.extend(two_files(random, BUFFER - inside));
+    }
+    bytes.extend(file(random, 3, true));
+    assert_same_page(&bytes);
+}
+
 /// The same, with a damaged line end in the file at the end of the buffer.
 #[test]
 fn damaged_line_ends_at_the_end_of_a_buffer() {
@@ -127,6 +140,42 @@ fn bare_inputs_that_end_around_the_end_of_a_buffer() {
 fn days_that_end_around_the_end_of_a_buffer() {
     for length in (BUFFER - 156..=BUFFER + 156).step_by(2) {
         assert_same_page(&two_files(&mut Random::new(length as u64), length));
+    }
+}
+
+/// The inputs that docs/DECISIONS.md, "Line ends", and docs/REFUSALS.md, "A file with other line ends", name: number,
+/// place and accepted records, as the pages say them.
+#[test]
+fn inputs_that_the_pages_name() {
+    let random = &mut Random::new(11);
+    let (bare, lined) = (file(random, 3, false), file(random, 3, true));
+    let (header, ended) = (&bare[..150], &lined[..152]);
+    let with_lf: Vec<u8> = bare
+        .chunks(150)
+        .flat_map(|record| [record, b"\n"].concat())
+        .collect();
+    for (input, number, place, records) in [
+        ([header, b"\r"].concat(), 1, 0, 1),
+        ([header, b"\rG", &bare[150..]].concat(), 9, 1, 1),
+        ([ended, &bare[150..]].concat(), 22, 151, 1),
+        ([&lined[..], b"\r\n"].concat(), 1, 0, 3),
+        ([&lined[..], b"\r\n", &lined].concat(), 9, 1, 3),
+        (with_lf, 9, 1, 1),
+        (lined[..454].to_vec(), 22, 151, 2),
+        ([&bare[..], b"\n"].concat(), 1, 0, 3),
+        ([&lined[..], b"\n"].concat(), 1, 0, 3),
+        ([&bare[..], b"\r\n"].concat(), 1, 0, 3),
+        ([&bare[..], b"\x1a"].concat(), 1, 0, 3),
+        ([&lined[..], b"\x1a"].concat(), 1, 0, 3),
+    ] {
+        let output = output_of(|stdin| stdin.write_all(&input));
+        let start = format!("answer={number}\nplace={place}\nrecord={records}\n");
+        assert!(
+            output.stdout.starts_with(start.as_bytes()),
+            "{start}{}",
+            output.stdout.escape_ascii()
+        );
+        assert_page(&output, &page_of(&input));
     }
 }
 
