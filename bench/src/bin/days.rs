@@ -1,7 +1,8 @@
-//! `days ISSUERS PAYMENTS [lined]`: writes a day of PAYMENTS payments to standard output, in files of at most 50,000,
-//! each of a random one of ISSUERS issuers. A longer day of as many issuers starts with the same payments. All files
-//! have version 04, and the days are the same bytes as before there was a version 06, so that new figures compare with
-//! old ones. A lined day has the same records, with CR and LF behind each.
+//! `days ISSUERS PAYMENTS [lined | 06]`: writes a day of PAYMENTS payments to standard output, in files of at most
+//! 50,000, each of a random one of ISSUERS issuers. A longer day of as many issuers starts with the same payments. All
+//! files have version 04, and the days are the same bytes as before there was a version 06, so that new figures compare
+//! with old ones. A lined day has the same records, with CR and LF behind each. The files of a 06 day have version 06,
+//! and their payments any of its codes.
 
 use std::error::Error;
 use std::io::{self, BufWriter, Write};
@@ -16,9 +17,9 @@ const AMOUNT_DIGITS: u32 = 10;
 
 const PAYMENTS_IN_FILE: u64 = 50_000;
 
-/// The field bytes of a random A of version 04. `days::header_fields` would draw the version, and then every later byte
-/// of the day would be another one.
-fn header_fields(random: &mut Random) -> [u8; HEADER_FIELDS] {
+/// The field bytes of a random A of this version. `days::header_fields` would draw the version, and then every later
+/// byte of the day would be another one.
+fn header_fields(random: &mut Random, version: &[u8; 2]) -> [u8; HEADER_FIELDS] {
     let mut fields = [b' '; HEADER_FIELDS];
     days::text(random, &mut fields[..20]);
     days::text(random, &mut fields[20..40]);
@@ -26,7 +27,7 @@ fn header_fields(random: &mut Random) -> [u8; HEADER_FIELDS] {
     days::text(random, &mut fields[43..63]);
     fields[63..71].copy_from_slice(&days::date(random).digits());
     fields[71..77].fill_with(|| random.digit());
-    fields[77..79].copy_from_slice(b"04");
+    fields[77..79].copy_from_slice(version);
     fields[79] = random.one_of(&[79, 211]);
     fields
 }
@@ -34,10 +35,11 @@ fn header_fields(random: &mut Random) -> [u8; HEADER_FIELDS] {
 fn main() -> Result<(), Box<dyn Error>> {
     let words: Vec<String> = std::env::args().skip(1).collect();
     let words: Vec<&str> = words.iter().map(String::as_str).collect();
-    let (issuers, payments, size) = match words[..] {
-        [issuers, payments] => (issuers, payments, LENGTH),
-        [issuers, payments, "lined"] => (issuers, payments, LINED),
-        _ => return Err("days ISSUERS PAYMENTS [lined]".into()),
+    let (issuers, payments, size, version) = match words[..] {
+        [issuers, payments] => (issuers, payments, LENGTH, b"04"),
+        [issuers, payments, "lined"] => (issuers, payments, LINED, b"04"),
+        [issuers, payments, "06"] => (issuers, payments, LENGTH, b"06"),
+        _ => return Err("days ISSUERS PAYMENTS [lined | 06]".into()),
     };
     let (issuers, payments): (u64, u64) = (issuers.parse()?, payments.parse()?);
     let random = &mut Random::new(issuers);
@@ -47,7 +49,7 @@ fn main() -> Result<(), Box<dyn Error>> {
     let mut left = payments;
     while left > 0 {
         let mut writer = Writer::new();
-        writer.header(&header_fields(random), &mut record)?;
+        writer.header(&header_fields(random, version), &mut record)?;
         out.write_all(&record)?;
         for _ in 0..left.min(PAYMENTS_IN_FILE) {
             let issuer = issuers[random.index(issuers.len())];
