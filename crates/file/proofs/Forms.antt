@@ -1,6 +1,6 @@
 -- The laws of a file's form. Assumes nothing.
 use Prim.Native.Nat.{ℕ, _+_, _≤_, _<_}
-use mathlib.Core.Bool.{Bool, true, false, cond, _&&_, _||_, and-eq-true-iff}
+use mathlib.Core.Bool.{Bool, true, false, cond, _&&_, _||_, or-true, and-eq-true-iff}
 use mathlib.Core.List.{List, [], _∷_, _++_, append-nil}
 use mathlib.Core.Logic.{_↔_, ⊎-elim}
 use mathlib.Core.Path.{_≡_, refl, sym, ap, _∙_}
@@ -15,7 +15,7 @@ use Rattle.answer.specs.Orders.{require}
 use Rattle.answer.proofs.Orders.{require-accepts}
 use Rattle.answer.proofs.Tests.{unequal, or-cases, lt-or-le}
 use Rattle.layout.specs.Layouts.{recordLength}
-use Rattle.file.specs.Forms.{lineEnd, endOf, inForm, linedLength, lengthOf, bodyOf, hasLineEnd, fitsLength, endPlace, endAnswer, formOf, LineEndIsCrAndLf, FittingIsInForm}
+use Rattle.file.specs.Forms.{lineEnd, endOf, inForm, linedLength, lengthOf, bodyOf, hasLineEnd, fitsLength, endPlace, endAnswer, isTakenLined, LineEndIsCrAndLf, FittingIsInForm}
 
 -- the bytes of a record in either form are 150 to 152
 pub at-least-bare : (lined : Bool) → recordLength ≤ lengthOf lined
@@ -150,10 +150,6 @@ fits-body opened lined bytes h =
 pub fits-in : (opened lined : Bool) (rec : List ℕ) → length rec ≡ recordLength → (form : Bool) → (opened ≡ true → form ≡ lined)
     → fitsLength opened lined (inForm form rec) ≡ true
 fits-in false lined rec n true h = rw (fits-closed lined (inForm true rec), ended-in rec n true) (or-true (eqb (length (inForm true rec)) recordLength))
-  where
-    or-true : (t : Bool) → (t || true) ≡ true
-    or-true true = refl
-    or-true false = refl
 fits-in false lined rec n false h =
     rw (fits-closed lined (inForm false rec), eq-eqb (length (inForm false rec)) recordLength (length-in rec n false))
 fits-in true true rec n form h =
@@ -172,7 +168,7 @@ pub fitting-is-in-form : FittingIsInForm
 fitting-is-in-form opened lined bytes = (there opened lined, back opened lined)
   where
     there : (opened lined : Bool) → (fitsLength opened lined bytes ≡ true) × (endAnswer opened lined bytes ≡ Accepted)
-        → (length (bodyOf bytes) ≡ recordLength) × (bytes ≡ inForm (formOf opened lined bytes) (bodyOf bytes))
+        → (length (bodyOf bytes) ≡ recordLength) × (bytes ≡ inForm (isTakenLined opened lined bytes) (bodyOf bytes))
     there false lined h =
         ⊎-elim
         (λ e.
@@ -189,10 +185,10 @@ fitting-is-in-form opened lined bytes = (there opened lined, back opened lined)
         line-end-is-cr-and-lf bytes .0 (require-accepts (hasLineEnd bytes) NoLineEnd endPlace .0 (sym (ends-lined bytes) ∙ h .1))
 
     back : (opened lined : Bool)
-        → (length (bodyOf bytes) ≡ recordLength) × (bytes ≡ inForm (formOf opened lined bytes) (bodyOf bytes))
+        → (length (bodyOf bytes) ≡ recordLength) × (bytes ≡ inForm (isTakenLined opened lined bytes) (bodyOf bytes))
         → (fitsLength opened lined bytes ≡ true) × (endAnswer opened lined bytes ≡ Accepted)
     back opened lined h =
-        let form = formOf opened lined bytes in
+        let form = isTakenLined opened lined bytes in
         let same : opened ≡ true → form ≡ lined = λ e. rw e in (
           ap (fitsLength opened lined) (h .1) ∙ fits-in opened lined (bodyOf bytes) (h .0) form same,
           ap (endAnswer opened lined) (h .1) ∙ ends-in opened lined (bodyOf bytes) (h .0) form same,

@@ -59,9 +59,16 @@ endPlace = recordLength + 1
 unfoldable pub endAnswer : Bool → Bool → List ℕ → Answer
 endAnswer opened lined bytes = cond (opened && lined) (require (hasLineEnd bytes) NoLineEnd endPlace) Accepted
 
--- the form of what is taken: that of the open file; a header's, with no file open, by what follows it
-abbrev pub formOf : Bool → Bool → List ℕ → Bool
-formOf opened lined bytes = cond opened lined (hasLineEnd bytes)
+-- whether what is taken is lined: as the open file is; a header, with no file open, by what follows it
+abbrev pub isTakenLined : Bool → Bool → List ℕ → Bool
+isTakenLined opened lined bytes = cond opened lined (hasLineEnd bytes)
+
+-- where a run cuts what is left of an input: whether the next piece is lined, and its length, unless fewer bytes are left
+abbrev pub isNextLined : Bool → Bool → List ℕ → Bool
+isNextLined opened lined bytes = isTakenLined opened lined (take linedLength bytes)
+
+abbrev pub nextLength : Bool → Bool → List ℕ → ℕ
+nextLength opened lined bytes = lengthOf (isNextLined opened lined bytes)
 
 -- Promises.
 
@@ -77,4 +84,4 @@ abbrev pub FittingIsInForm : Type 0
 FittingIsInForm =
     (opened lined : Bool) (bytes : List ℕ)
     → ((fitsLength opened lined bytes ≡ bool.true) × (endAnswer opened lined bytes ≡ Accepted))
-    ↔ ((length (bodyOf bytes) ≡ recordLength) × (bytes ≡ inForm (formOf opened lined bytes) (bodyOf bytes)))
+    ↔ ((length (bodyOf bytes) ≡ recordLength) × (bytes ≡ inForm (isTakenLined opened lined bytes) (bodyOf bytes)))

@@ -5,8 +5,7 @@ use mathlib.Core.List.{List, [], _∷_, _++_, map}
 use mathlib.Core.Path.{_≡_, refl, sym, ap, ap₂, _∙_}
 use lib.ListN.{length, getD}
 use Rattle.answer.specs.declared.Reason.the-variants.{WrongLength, NotExpected}
-use Rattle.answer.specs.declared.Answer.{Answer}
-use Rattle.answer.specs.declared.Answer.the-variants.{Accepted, Refused}
+use Rattle.answer.specs.declared.Answer.the-variants.{Accepted}
 use Rattle.answer.specs.Orders.{Each}
 use Rattle.answer.proofs.Orders.{then-accepts, accepted-takes}
 use Rattle.answer.proofs.Steps.{passed}
@@ -19,7 +18,7 @@ use Rattle.layout.specs.Layouts.{recordLength, namedBy}
 use Rattle.kinds.specs.Terms.{Terms}
 use Rattle.record.specs.Records.{recordAnswer}
 use Rattle.record.specs.Values.{versionIn, recordShown, shownUnlessRefused}
-use Rattle.file.specs.Forms.{inForm, bodyOf, hasLineEnd, fitsLength, endAnswer, formOf}
+use Rattle.file.specs.Forms.{inForm, bodyOf, hasLineEnd, fitsLength, endAnswer, isTakenLined}
 use Rattle.file.proofs.Forms.{first-in, fitting-is-in-form}
 use Rattle.session.specs.declared.Session.{Session}
 use Rattle.session.specs.declared.TakeResult.{TakeResult}
@@ -27,11 +26,8 @@ use Rattle.session.specs.Sessions.{openedAt, sessionTerms, sessionExpects, sess
 use Rattle.ledger.specs.Ledgers.{laneOfRecord, headerTerms, taking}
 use Rattle.ledger.specs.Promises.{answersOf}
 use Rattle.ledger.specs.WholeFiles.{IsRight, allInForm, AllAccepted, AcceptedFileIsWhole}
+use Rattle.ledger.proofs.Sessions.{own-accepts}
 use Rattle.ledger.proofs.WholeFiles.{taken, right-under-any-terms}
-
-accepted-by-itself : (s : Session) (a : Answer) (n : MaybeRecord) (rec : List ℕ) → sessionAnswer s (shownUnlessRefused a (recordShown n rec)) ≡ Accepted → a ≡ Accepted
-accepted-by-itself s Accepted n rec e = refl
-accepted-by-itself s (Refused why p) n rec e = e
 
 -- a record that was accepted, with whatever follows it
 pub record TakenRight (s : Session) (rec : List ℕ) : Type 0 where
@@ -39,7 +35,7 @@ pub record TakenRight (s : Session) (rec : List ℕ) : Type 0 where
   pub state : sessionAnswer s (shownUnlessRefused (recordAnswer (sessionTerms s) (bodyOf rec)) (recordShown (namedBy (getD (bodyOf rec) 0 0)) (bodyOf rec))) ≡ Accepted
   pub expected : sessionExpects (s .opened) (namedBy (getD rec 0 0)) ≡ true
   pub long : length (bodyOf rec) ≡ recordLength
-  pub form : rec ≡ inForm (formOf (s .opened) (s .file .lined) rec) (bodyOf rec)
+  pub form : rec ≡ inForm (isTakenLined (s .opened) (s .file .lined) rec) (bodyOf rec)
 
 pub taken-right : (s : Session) (rec : List ℕ) → takeAnswer s rec ≡ Accepted → TakenRight s rec
 taken-right s rec e =
@@ -51,7 +47,7 @@ taken-right s rec e =
     let both = then-accepts (sessionAnswer s (shownUnlessRefused own shown)) (endAnswer (s .opened) (s .file .lined) rec) .0 (met .1) in
     let form = fitting-is-in-form (s .opened) (s .file .lined) rec .0 (fits .0, both .1) in
     record {
-      own = accepted-by-itself s own (namedBy (getD body 0 0)) body (both .0);
+      own = own-accepts s own shown (both .0);
       state = both .0;
       expected = met .0;
       long = form .0;

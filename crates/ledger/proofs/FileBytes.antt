@@ -1,12 +1,12 @@
 -- A run over the bytes of a file, lined or bare, whose records are all accepted. Assumes nothing.
 use Prim.Native.Nat.{ℕ, suc, _+_, _≤_}
-use mathlib.Core.Bool.{Bool, true, false, _&&_}
+use mathlib.Core.Bool.{Bool, true, false, and-false}
 use mathlib.Core.List.{List, [], _∷_, _++_, map, append-nil}
 use mathlib.Core.Path.{_≡_, refl, sym, ap, ap₂, _∙_}
 use native.Mathlib.Omega.{arith}
 use borrow.Author.Tests.{ne-eqb}
 use lib.Dec.{eqb}
-use lib.ListN.{length, getD, take, drop, length-append, length-take, length-map}
+use lib.ListN.{length, getD, take, drop, length-append, length-take, List·getD-append}
 use lib.Seq.{take-at, drop-at, getD-take, getD-append-add}
 use Rattle.answer.specs.declared.Answer.{Answer}
 use Rattle.answer.specs.declared.Answer.the-variants.{Accepted, Refused}
@@ -20,7 +20,7 @@ use Rattle.layout.specs.Layouts.{recordLength, namedBy}
 use Rattle.kinds.specs.Terms.{Terms}
 use Rattle.record.specs.Values.{decodedRecord}
 use Rattle.record.proofs.Shown.{accepted-is}
-use Rattle.file.specs.Forms.{endOf, inForm, linedLength, lengthOf, hasLineEnd, formOf}
+use Rattle.file.specs.Forms.{endOf, inForm, linedLength, lengthOf, hasLineEnd, isNextLined}
 use Rattle.file.proofs.Forms.{length-in, ended-in, not-ended}
 use Rattle.board.specs.Boards.{boardWithAll}
 use Rattle.session.specs.declared.Session.{Session}
@@ -32,7 +32,7 @@ use Rattle.ledger.specs.Ledgers.{lanesOfRecords, headerTerms, taking}
 use Rattle.ledger.specs.Promises.{sessionAfter, answersOf}
 use Rattle.ledger.specs.WholeFiles.{IsRight, recordsOf, allInForm, AllAccepted}
 use Rattle.ledger.specs.Runs.{PiecesAreTheRecords, FileBytesRun}
-use Rattle.ledger.proofs.WholeFiles.{first-of, file-posted}
+use Rattle.ledger.proofs.WholeFiles.{first-of, as-many, file-posted}
 use Rattle.ledger.proofs.Forms.{next-in, keeps-form}
 
 -- The pieces.
@@ -40,11 +40,7 @@ use Rattle.ledger.proofs.Forms.{next-in, keeps-form}
 -- without CR behind it a record is not ended
 no-cr : (bytes : List ℕ) → (getD bytes recordLength 0 ≡ 13 → ⊥) → hasLineEnd bytes ≡ false
 unfolding hasLineEnd
-no-cr bytes h = rw (ne-eqb (getD bytes recordLength 0) 13 h) (neither (eqb (length bytes) linedLength))
-  where
-    neither : (t : Bool) → (t && false) ≡ false
-    neither true = refl
-    neither false = refl
+no-cr bytes h = rw (ne-eqb (getD bytes recordLength 0) 13 h) (and-false (eqb (length bytes) linedLength))
 
 -- a record of 150 bytes, which does not begin with 13 if it is bare
 abbrev Joins : Bool → List ℕ → Type 0
@@ -66,12 +62,9 @@ ahead false rec (next ∷ recs) n h =
     getD-take linedLength bytes recordLength 0 (omega arith)
     ∙ ap (λ (k : ℕ). getD bytes k 0) (sym (omega (arith, length-in rec n false)))
     ∙ getD-append-add (inForm false rec) rest 0 0
-    ∙ first-joined next (bytesOf (allInForm false recs)) (h .0 .0) in
+    ∙ List·getD-append (inForm false next) (bytesOf (allInForm false recs)) 0 0 (omega (arith, length-in next (h .0 .0) false))
+    ∙ first-of false next (h .0 .0) in
     no-cr (take linedLength bytes) (λ e. h .0 .1 refl (sym at ∙ e))
-  where
-    first-joined : (rec rest : List ℕ) → length rec ≡ recordLength → getD (inForm false rec ++ rest) 0 0 ≡ getD rec 0 0
-    first-joined [] rest n = absurd (omega arith)
-    first-joined (b ∷ rec) rest n = refl
 
 pub pieces-are-the-records : PiecesAreTheRecords
 pieces-are-the-records s lined [] form h = refl
@@ -92,7 +85,7 @@ pieces-are-the-records s lined (rec ∷ recs) form h =
     ∙ ap (λ (rs : List (List ℕ)). inForm lined rec ∷ rs)
     (pieces-are-the-records (takeOf s (inForm lined rec) .session) lined recs (keeps (takeAnswer s (inForm lined rec))) (h .1))
   where
-    piece-form : (t : Bool) → s .opened ≡ t → formOf (s .opened) (s .file .lined) (take linedLength (inForm lined rec ++ bytesOf (allInForm lined recs))) ≡ lined
+    piece-form : (t : Bool) → s .opened ≡ t → isNextLined (s .opened) (s .file .lined) (inForm lined rec ++ bytesOf (allInForm lined recs)) ≡ lined
     piece-form true e = rw e (form e)
     piece-form false e = rw e (ahead lined rec recs (h .0 .0) (h .1))
 
@@ -173,6 +166,3 @@ file-bytes-run s lined a recs z none-open whole e =
     ap (runAll s) pieces ∙ run-accepted all s e
     ∙ ap (λ (x : Session). taken x (length all) (closedIn all) (length (bytesOf all))) left
     ∙ ap₂ (λ (n c : ℕ). taken (closedAt (boardWithAll (s .shown) (lanesOfRecords recs))) n c (length (bytesOf all))) count closed
-  where
-    as-many : (lined : Bool) (recs : List (List ℕ)) → length (allInForm lined recs) ≡ length recs
-    as-many lined recs = simp length-map

@@ -16,7 +16,7 @@ use Rattle.layout.specs.declared.MaybeRecord.{MaybeRecord}
 use Rattle.layout.specs.declared.MaybeRecord.the-variants.{Is, Other}
 use Rattle.layout.specs.declared.Record.the-variants.{Header, Payment, Trailer}
 use Rattle.layout.specs.Layouts.{namedBy}
-use Rattle.file.specs.Forms.{linedLength, lengthOf, bodyOf, hasLineEnd, fitsLength, formOf}
+use Rattle.file.specs.Forms.{bodyOf, hasLineEnd, fitsLength, nextLength}
 use Rattle.session.specs.declared.Session.{Session}
 use Rattle.session.specs.declared.RunResult.{RunResult}
 use Rattle.session.specs.Sessions.{freshSession, takeAnswer, nextSession, takeOf}
@@ -112,7 +112,7 @@ pieces-up-to : (n : ℕ) (s : Session) (k : Ledger) (more : Bool) (bytes : List 
 pieces-up-to zero s k more bytes h = refl
 pieces-up-to (suc n) s k more bytes h =
     let size : pieceLength s bytes ≡ ledgerPieceLength k bytes =
-    ap₂ (λ (opened lined : Bool). lengthOf (formOf opened lined (take linedLength bytes))) (h .opened) (h .lined) in
+    ap₂ (λ (opened lined : Bool). nextLength opened lined bytes) (h .opened) (h .lined) in
     let piece = ledgerPieceOf k bytes in
     let later =
     pieces-up-to n (takeOf s piece .session) (ledgerStep k (taking piece)) more (drop (ledgerPieceLength k bytes) bytes) (take-agrees s k piece h) in
@@ -129,4 +129,4 @@ run-is-the-ledgers more bytes =
     let r = runAll freshSession pieces in
     let t = run-on pieces freshSession freshLedger fresh-agrees in
     let takes = run-is-its-takes freshSession more bytes in
-    rw same (t .session, sym (omega (arith, t .files)), t .accepted, rw same at (takes .2), t .answer, t .whole)
+    rw same (t .session, sym (omega (arith, t .files)), t .accepted, rw same at (takes .2), rw same at (takes .3), t .answer, t .whole)

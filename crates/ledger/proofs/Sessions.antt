@@ -105,7 +105,8 @@ only-trailers-show s rec h =
     let body = bodyOf rec in
     stays s (hasLineEnd rec) body (namedBy (getD body 0 0)) (recordAnswer (sessionTerms s) body) (takeAnswer s rec) (λ e. h (ap namedBy (sym (first-in rec)) ∙ e))
 
-own-accepts : (s : Session) (a : Answer) (d : Decoded) → sessionAnswer s (shownUnlessRefused a d) ≡ Accepted
+-- a record that the session accepts is accepted by itself
+pub own-accepts : (s : Session) (a : Answer) (d : Decoded) → sessionAnswer s (shownUnlessRefused a d) ≡ Accepted
     → a ≡ Accepted
 own-accepts s Accepted d e = refl
 own-accepts s (Refused why p) d e = e

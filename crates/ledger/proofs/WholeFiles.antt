@@ -45,6 +45,10 @@ right-under-any-terms t u r rec e h = (other-records-ignore-terms u t rec (ap is
 pub first-of : (lined : Bool) (rec : List ℕ) → length rec ≡ recordLength → getD (inForm lined rec) 0 0 ≡ getD rec 0 0
 first-of lined rec n = sym (first-in (inForm lined rec)) ∙ ap (λ (l : List ℕ). getD l 0 0) (body-in rec n lined)
 
+-- as many records in a form as there are
+pub as-many : (lined : Bool) (recs : List (List ℕ)) → length (allInForm lined recs) ≡ length recs
+as-many lined recs = simp length-map
+
 -- taking a record that is accepted by itself and expected, in the form of the open file if there is one
 pub taken : (s : Session) (lined : Bool) (r : Record) (rec : List ℕ) → IsRight (sessionTerms s) r rec → sessionExpects (s .opened) (Is r) ≡ true
     → (s .opened ≡ true → lined ≡ s .file .lined)

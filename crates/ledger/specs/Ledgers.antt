@@ -168,19 +168,19 @@ ledgerAnswer k rec =
 abbrev pub filedWith : Opened → List ℕ → Filed
 filedWith f z = record { header = f .header; payments = f .payments; trailer = z; lined = f .lined }
 
--- an accepted A opens a file, lined if CR and LF follow it, a G is added to it, a Z closes it: it is then an accepted
--- file
+-- an accepted A opens a file, lined if CR and LF follow it (`ended`), a G is added to it, a Z closes it: it is then an
+-- accepted file
 abbrev pub withRecord : List Filed → Option Opened → MaybeRecord → Bool → List ℕ → Ledger
-withRecord files none named lined rec =
-    record { accepted = files; opened = some (record { header = rec; payments = []; lined = lined }) }
-withRecord files (some f) (Is Header) lined rec = record { accepted = files; opened = some f }
-withRecord files (some f) (Is Payment) lined rec =
+withRecord files none named ended rec =
+    record { accepted = files; opened = some (record { header = rec; payments = []; lined = ended }) }
+withRecord files (some f) (Is Header) ended rec = record { accepted = files; opened = some f }
+withRecord files (some f) (Is Payment) ended rec =
     record {
       accepted = files;
       opened = some (record { header = f .header; payments = f .payments ++ (rec ∷ []); lined = f .lined });
     }
-withRecord files (some f) (Is Trailer) lined rec = record { accepted = files ++ (filedWith f rec ∷ []); opened = none }
-withRecord files (some f) Other lined rec = record { accepted = files; opened = some f }
+withRecord files (some f) (Is Trailer) ended rec = record { accepted = files ++ (filedWith f rec ∷ []); opened = none }
+withRecord files (some f) Other ended rec = record { accepted = files; opened = some f }
 
 -- the ledger with a record, if it is accepted
 abbrev pub nextLedger : Ledger → List ℕ → Ledger

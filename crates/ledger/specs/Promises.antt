@@ -149,8 +149,8 @@ OpenFilesHaveAVersion =
 
 -- Promises, of any session, one in an arbitrary state included.
 
--- in an open file whose version is another number than 4 and 6, every G is refused 10 at the version's place in a
--- header
+-- in an open file whose version is another number than 4 and 6, every G whose length fits is refused 10 at the
+-- version's place in a header
 abbrev pub PaymentsTakenUnderAVersion : Type 0
 PaymentsTakenUnderAVersion =
     (s : Session) (rec : List ℕ) → s .opened ≡ true → isVersion (s .file .version) ≡ false

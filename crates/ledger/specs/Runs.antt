@@ -9,7 +9,7 @@ use Rattle.answer.specs.declared.Answer.{Answer}
 use Rattle.answer.specs.declared.Answer.the-variants.{Accepted}
 use Rattle.answer.specs.Orders.{Each}
 use Rattle.layout.specs.Layouts.{recordLength}
-use Rattle.file.specs.Forms.{linedLength, lengthOf, formOf}
+use Rattle.file.specs.Forms.{nextLength}
 use Rattle.board.specs.Boards.{boardWithAll}
 use Rattle.session.specs.declared.RunResult.{RunResult}
 use Rattle.session.specs.declared.Session.{Session}
@@ -22,7 +22,7 @@ use Rattle.ledger.specs.WholeFiles.{Whole, recordsOf, allInForm, fileOf,
 
 -- the pieces that a run cuts, each by the ledger that those before it left
 abbrev pub ledgerPieceLength : Ledger → List ℕ → ℕ
-ledgerPieceLength k bytes = lengthOf (formOf (isOpen (k .opened)) (isOpenLined (k .opened)) (take linedLength bytes))
+ledgerPieceLength k bytes = nextLength (isOpen (k .opened)) (isOpenLined (k .opened)) bytes
 
 abbrev pub ledgerPieceOf : Ledger → List ℕ → List ℕ
 ledgerPieceOf k bytes = take (ledgerPieceLength k bytes) bytes
@@ -73,8 +73,8 @@ FileBytesRun =
     }
 
 -- whatever the bytes, and whether more are to follow or not, a run from a fresh session takes records that the ledger
--- accepts, and stops with the ledger's answer to the next; its session is the one that they reach, and its files are
--- the ledger's. If it is accepted, no record is left.
+-- accepts, and stops with the ledger's answer to the next; its session is the one that they reach, its files are the
+-- ledger's, and they are the first `bytes` of the input. If it is accepted, no record is left.
 abbrev pub RunIsTheLedgers : Type 0
 RunIsTheLedgers =
     (more : Bool) (bytes : List ℕ)
@@ -84,5 +84,6 @@ RunIsTheLedgers =
     (r .session ≡ reached steps) × (r .files ≡ length (ledgerOf steps .accepted))
     × AllAccepted (ledgerAnswers freshLedger steps)
     × (bytesOf (take (r .records) pieces) ≡ take (r .bytes) bytes)
+    × (length (bytesOf (take (r .records) pieces)) ≡ r .bytes)
     × (r .answer ≡ nextLedgerAnswer (ledgerOf steps) (drop (r .records) pieces))
     × (r .answer ≡ Accepted → r .records ≡ length pieces)

@@ -5,7 +5,7 @@ use mathlib.Core.List.{List, [], _∷_, _++_, map, append-assoc, append-nil, map
 use mathlib.Core.Path.{_≡_, refl, sym, ap, ap₂, subst, _∙_}
 use native.Mathlib.Omega.{arith}
 use lib.Dec.{eqb}
-use lib.ListN.{length, length-append, length-map}
+use lib.ListN.{length, length-append}
 use Rattle.answer.specs.declared.Reason.the-variants.{WrongLength, NotExpected}
 use Rattle.answer.specs.declared.Answer.{Answer}
 use Rattle.answer.specs.declared.Answer.the-variants.{Accepted, Refused}
@@ -41,6 +41,7 @@ use Rattle.ledger.specs.Samples as ledger
 use Rattle.ledger.specs.WholeFiles.{recordsOf, allInForm, AllAccepted}
 use Rattle.ledger.specs.WrittenFiles as files
 use Rattle.ledger.specs.WrittenFiles.{GivenPayment, recordOf, writtenRecords, PaymentsWritten, openedBy, Closed, trailerAfter}
+use Rattle.ledger.proofs.WholeFiles.{as-many}
 use Rattle.ledger.proofs.WrittenFiles.{in-its-form, closed-file-is-whole, closed-file-is-accepted}
 use Rattle.promises.specs.Calls.{WriterCall, header, payment, trailer, answerTo, nextWriter, writes, writerAfterCalls}
 use Rattle.promises.specs.Calls.{recordsWritten, OneFile, CallsMakeOneFile, OpenWritersHaveAVersion, headerAlone, HeaderAloneIsNoFile}
@@ -290,6 +291,3 @@ header-alone-is-no-file = (
       let same : 1 ≡ length all = ap length (sym (header-alone .1) ∙ f .records) ∙ as-many (f .lined) all in
       omega (arith, same, length-append written last),
 )
-  where
-    as-many : (lined : Bool) (recs : List (List ℕ)) → length (allInForm lined recs) ≡ length recs
-    as-many lined recs = simp length-map

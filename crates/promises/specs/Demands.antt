@@ -75,7 +75,7 @@ pub record Demand1 : Type 2 where
 
 -- "It agrees with the FEBRABAN layout," the version the header names. A statement about a record is under any terms,
 -- one about a file under the version of its own header's bytes: each covers 04 and 06. A statement about a file is over
--- its form too: each covers files whose records CR and LF follow and files without.
+-- its form too: each covers files whose records are followed by CR and LF, and files without.
 pub record Demand2 : Type 0 where
   pub table : FieldsCover × RecordIsItsFields × MarkNames × GivenLengths
   pub versions :

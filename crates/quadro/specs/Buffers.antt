@@ -19,7 +19,7 @@ EndsBelow n Full = Unit {0}
 EndsBelow n (Ended k) = k < n
 EndsBelow n Failed = Unit {0}
 
--- after so many bytes an input is read no further
+-- an input is read to its end, unless it has at least so many bytes
 abbrev pub inputLimit : ℕ
 inputLimit = 2 ^ 60
 

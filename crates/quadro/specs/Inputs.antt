@@ -22,9 +22,9 @@ pub record Fed (start : RunResult) (input : List ℕ) (day : RunResult) (left : 
   pub unrun : left ≡ leftOf (start .session) input
 
 -- The last turn over an input that the day `start` runs, with these bytes in the buffer: the input before it was run
--- and accepted, and what it left is at the buffer's front. Then came a turn that has no more, or `inputLimit` bytes
--- were read. No contract can say that these bytes are what standard input gave; that each turn runs the bytes in its
--- buffer is `TurnRun`. The loop promises it of any `start`, so it cannot begin a new day in between.
+-- and accepted, and what it left is at the buffer's front. Then came a turn that has no more, or at least `inputLimit`
+-- bytes were read. No contract can say that these bytes are what standard input gave; that each turn runs the bytes in
+-- its buffer is `TurnRun`. The loop promises it of any `start`, so it cannot begin a new day in between.
 pub record InputRun (start : RunResult) (bytes : List ℕ) (t : TurnResult) : Type 0 where
   pub before : List ℕ
   pub day : RunResult

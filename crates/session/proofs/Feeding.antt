@@ -14,7 +14,7 @@ use Rattle.answer.specs.declared.Answer.the-variants.{Accepted, Refused}
 use Rattle.answer.proofs.Orders.{not-both, accepted-takes}
 use Rattle.answer.proofs.Tests.{lt-or-le}
 use Rattle.layout.specs.Layouts.{namedBy}
-use Rattle.file.specs.Forms.{linedLength, lengthOf, formOf}
+use Rattle.file.specs.Forms.{linedLength, lengthOf, isTakenLined, isNextLined}
 use Rattle.session.specs.declared.Session.{Session}
 use Rattle.session.specs.declared.RunResult.{RunResult}
 use Rattle.session.specs.Sessions.{takeAnswer, nextSession, takeOf}
@@ -140,10 +140,10 @@ module _ (s : Session) (front rest : List ℕ) (enough : linedLength ≤ length 
   size = pieceLength s front
 
   short : size ≤ length front
-  short = omega (arith, enough, at-most-lined (formOf (s .opened) (s .file .lined) (take linedLength front)))
+  short = omega (arith, enough, at-most-lined (isNextLined (s .opened) (s .file .lined) front))
 
   same-size : pieceLength s (front ++ rest) ≡ size
-  same-size = ap (λ (l : List ℕ). lengthOf (formOf (s .opened) (s .file .lined) l)) (take-append-le linedLength front rest enough)
+  same-size = ap (λ (l : List ℕ). lengthOf (isTakenLined (s .opened) (s .file .lined) l)) (take-append-le linedLength front rest enough)
 
   same-piece : pieceOf s (front ++ rest) ≡ pieceOf s front
   same-piece = ap (λ (n : ℕ). take n (front ++ rest)) same-size ∙ take-append-le size front rest short

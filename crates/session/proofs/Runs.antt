@@ -15,7 +15,7 @@ use Rattle.answer.specs.declared.Answer.{Answer}
 use Rattle.answer.specs.declared.Answer.the-variants.{Accepted, Refused}
 use Rattle.answer.proofs.Tests.{lt-or-le}
 use Rattle.layout.specs.Layouts.{namedBy}
-use Rattle.file.specs.Forms.{linedLength, formOf}
+use Rattle.file.specs.Forms.{isNextLined}
 use Rattle.file.proofs.Forms.{at-least-bare}
 use Rattle.session.specs.declared.Session.{Session}
 use Rattle.session.specs.declared.RunResult.{RunResult}
@@ -27,7 +27,7 @@ use Rattle.session.specs.LeadingPayments.{withLeading, LeadingPaymentsOf
 
 -- a piece is not empty, and needs a byte
 pub piece-some : (s : Session) (bytes : List ℕ) → 0 < pieceLength s bytes
-piece-some s bytes = omega (arith, at-least-bare (formOf (s .opened) (s .file .lined) (take linedLength bytes)))
+piece-some s bytes = omega (arith, at-least-bare (isNextLined (s .opened) (s .file .lined) bytes))
 
 pub least-some : (more : Bool) → 0 < leastLeft more
 least-some true = omega arith

@@ -1,6 +1,6 @@
 -- Serves the run's fast path alone (src/leading.rt): the next payment, and what payments leave. Assumes nothing.
 use Prim.Native.Nat.{ℕ, _+_, _-_, _≤_}
-use mathlib.Core.Bool.{Bool, true}
+use mathlib.Core.Bool.{Bool, true, cond}
 use mathlib.Core.List.{List}
 use mathlib.Core.Path.{_≡_}
 use lib.ListN.{length, take, drop}
@@ -11,7 +11,7 @@ use Rattle.record.specs.declared.Payment.{Payment}
 use Rattle.record.specs.declared.Decoded.the-variants as decoded
 use Rattle.record.specs.Values.{decodedRecord}
 use Rattle.file.specs.Files.{fileAnswer, fileWith}
-use Rattle.file.specs.Forms.{lengthOf, endAnswer}
+use Rattle.file.specs.Forms.{linedLength, lengthOf, endAnswer}
 use Rattle.board.specs.declared.Lane.{Lane}
 use Rattle.session.specs.declared.Session.{Session}
 use Rattle.session.specs.declared.leading.Progress.{Progress}
@@ -20,6 +20,10 @@ use Rattle.session.specs.declared.leading.MaybePayment.the-variants.{Is,
 use Rattle.session.specs.declared.leading.LeadingPayments.{LeadingPayments}
 use Rattle.session.specs.Sessions.{laneOfPayment}
 use Rattle.session.specs.Runs.{leastLeft, addCounts, runOf}
+
+-- the bytes that must be left for one more record of an open file of this form: a record's, or 152 if more are to follow
+abbrev pub recordNeeds : Bool → Bool → ℕ
+recordNeeds lined more = cond more linedLength (lengthOf lined)
 
 -- a payment that the open file takes: its record starts where the progress before it ended, and is there whole
 pub record Taken (opened more : Bool) (before : Progress) (bytes : List ℕ) (payment : Lane) (next : Progress) :

@@ -11,7 +11,7 @@ use Rattle.layout.specs.declared.MaybeRecord.{MaybeRecord}
 use Rattle.layout.specs.declared.MaybeRecord.the-variants.{Is, Other}
 use Rattle.layout.specs.declared.Record.the-variants.{Header, Payment, Trailer}
 use Rattle.layout.specs.Layouts.{namedBy}
-use Rattle.file.specs.Forms.{linedLength, lengthOf, formOf}
+use Rattle.file.specs.Forms.{linedLength, nextLength}
 use Rattle.session.specs.declared.Session.{Session}
 use Rattle.session.specs.declared.RunResult.{RunResult}
 use Rattle.session.specs.Sessions.{takeAnswer, nextSession, takeOf}
@@ -19,7 +19,7 @@ use Rattle.session.specs.Sessions.{takeAnswer, nextSession, takeOf}
 -- the next piece: in an open file as long as its records are; with no file open 152 bytes if they end in CR and LF,
 -- else 150. The last piece may be shorter.
 abbrev pub pieceLength : Session → List ℕ → ℕ
-pieceLength s bytes = lengthOf (formOf (s .opened) (s .file .lined) (take linedLength bytes))
+pieceLength s bytes = nextLength (s .opened) (s .file .lined) bytes
 
 abbrev pub pieceOf : Session → List ℕ → List ℕ
 pieceOf s bytes = take (pieceLength s bytes) bytes

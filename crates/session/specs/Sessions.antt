@@ -89,13 +89,13 @@ sessionAnswer s (decoded.Payment p) = payAnswer s (laneOfPayment p)
 sessionAnswer s (decoded.Trailer t) = figuresAnswer (s .file) (figuresIn t)
 sessionAnswer s (decoded.Refused why place) = answer.Refused why place
 
--- the session with an accepted record, where CR and LF follow it or not: a header's decide the form of its file, and
--- payments of an open file are shown together when its Z is accepted
+-- the session with an accepted record; `ended` is whether CR and LF follow it, which decides the form of a header's
+-- file. Payments of an open file are shown together when its Z is accepted.
 abbrev pub sessionWith : Session → Bool → Decoded → Session
-sessionWith s lined (decoded.Header h) = openedAt (s .shown) (h .version) lined
-sessionWith s lined (decoded.Payment p) = sessionWithPayment s (laneOfPayment p)
-sessionWith s lined (decoded.Trailer t) = closedAt (s .work)
-sessionWith s lined (decoded.Refused why place) = s
+sessionWith s ended (decoded.Header h) = openedAt (s .shown) (h .version) ended
+sessionWith s ended (decoded.Payment p) = sessionWithPayment s (laneOfPayment p)
+sessionWith s ended (decoded.Trailer t) = closedAt (s .work)
+sessionWith s ended (decoded.Refused why place) = s
 
 -- an answer, and the new session if it is accepted, else the old one
 abbrev pub takeResult : Answer → Session → Session → TakeResult
@@ -112,7 +112,7 @@ abbrev pub trailerResult : Session → Figures → Answer → TakeResult
 trailerResult s shown ending = takeResult (figuresAnswer (s .file) shown then ending) (closedAt (s .work)) s
 
 abbrev pub recordResult : Session → Bool → Answer → Decoded → TakeResult
-recordResult s lined ending d = takeResult (sessionAnswer s d then ending) (sessionWith s lined d) s
+recordResult s ended ending d = takeResult (sessionAnswer s d then ending) (sessionWith s ended d) s
 
 -- taking a record: 1; then, of its first 150 bytes, 9, its own refusals, under the version of the open file, and the
 -- session's; last 22

@@ -1,12 +1,12 @@
 // How long what is taken may be, what must follow a record, and where a run cuts, in a bare file and in a lined one.
-ghost use mathlib.Core.Bool.{true, cond};
+ghost use mathlib.Core.Bool.{true};
 ghost use mathlib.Core.Path.{_≡_};
 ghost use Prim.Native.Nat.{_<_, _≤_, min};
-ghost use lib.ListN.{length, take};
+ghost use lib.ListN.{length};
 ghost use Rattle.layout.specs.Layouts.{recordLength};
-ghost use Rattle.file.specs.Forms.{linedLength, lengthOf, fitsLength, endAnswer, formOf};
+ghost use Rattle.file.specs.Forms.{fitsLength, endAnswer, isNextLined, nextLength};
 ghost use Rattle.session.specs.Runs.{leastLeft};
-use crate::Session;
+ghost use Rattle.session.specs.LeadingPayments.{recordNeeds};
 use answer::Answer;
 use answer::Reason;
 
@@ -19,10 +19,10 @@ pub(crate) fn fits_length(opened: bool, lined: bool, rec: &[u8]) -> bool
     ensures { λ r. ⌜ r ≡ fitsLength opened lined (now (rec .entry)) ⌝ }
     ensures long { λ r. ⌜ (r ≡ true → recordLength ≤ length (now (rec .entry))) ⌝ }
 {
-    if rec.len() < Session::RECORD {
+    if rec.len() < layout::LENGTH {
         return false;
     }
-    if rec.len() == Session::RECORD {
+    if rec.len() == layout::LENGTH {
         return true;
     }
     if !opened {
@@ -34,7 +34,7 @@ pub(crate) fn fits_length(opened: bool, lined: bool, rec: &[u8]) -> bool
     rec.len() <= file::LINED
 }
 
-// 22 for a record of an open lined file that CR and LF do not follow, or more than these.
+// 22 for a record of an open lined file, unless CR and LF and nothing more follow it.
 pub(crate) fn check_end(opened: bool, lined: bool, rec: &[u8]) -> Answer
     ensures { λ r. ⌜ r ≡ endAnswer opened lined (now (rec .entry)) ⌝ }
 {
@@ -63,7 +63,7 @@ pub(crate) fn least_left(more: bool) -> usize
 // The bytes that a run must have left to take one more record of an open file of this form: a record's, or 152 if more
 // bytes are to follow.
 pub(crate) fn record_needs(lined: bool, more: bool) -> usize
-    ensures { λ r. ⌜ r ≡ cond more linedLength (lengthOf lined) ⌝ }
+    ensures { λ r. ⌜ r ≡ recordNeeds lined more ⌝ }
 {
     if more {
         return file::LINED;
@@ -72,8 +72,8 @@ pub(crate) fn record_needs(lined: bool, more: bool) -> usize
 }
 
 // Whether the next piece is lined: as the open file is; with no file open if CR and LF are where they follow a header.
-fn is_piece_lined(opened: bool, lined: bool, bytes: &[u8]) -> bool
-    ensures { λ r. ⌜ r ≡ formOf opened lined (take linedLength (now (bytes .entry))) ⌝ }
+fn is_next_lined(opened: bool, lined: bool, bytes: &[u8]) -> bool
+    ensures { λ r. ⌜ r ≡ isNextLined opened lined (now (bytes .entry)) ⌝ }
 {
     if opened {
         return lined;
@@ -84,13 +84,12 @@ fn is_piece_lined(opened: bool, lined: bool, bytes: &[u8]) -> bool
     file::has_line_end(&bytes[..file::LINED])
 }
 
-// The bytes of the next piece, 150 or 152; what is left if that is less.
-pub(crate) fn piece_length(opened: bool, lined: bool, bytes: &[u8]) -> usize
-    ensures { λ r. ⌜ r ≡ min (lengthOf (formOf opened lined (take linedLength (now (bytes .entry)))))
-        (length (now (bytes .entry))) ⌝ }
+// How many bytes the next piece has: 150 or 152, or what is left if that is less.
+pub(crate) fn cut_length(opened: bool, lined: bool, bytes: &[u8]) -> usize
+    ensures { λ r. ⌜ r ≡ min (nextLength opened lined (now (bytes .entry))) (length (now (bytes .entry))) ⌝ }
     ensures some { λ r. ⌜ (0 < length (now (bytes .entry)) → 0 < r) × (r ≤ length (now (bytes .entry))) ⌝ }
 {
-    let length = file::record_length(is_piece_lined(opened, lined, bytes));
+    let length = file::record_length(is_next_lined(opened, lined, bytes));
     if bytes.len() < length {
         return bytes.len();
     }

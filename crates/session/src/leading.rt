@@ -1,11 +1,12 @@
 // The fast path of a run: the accepted payments at the front of a slice, posted in place on one copy of the working
-// board. It mirrors what `Session::take` (taking.rt) does with an accepted payment: the kind is expected,
-// `record::decode`, `File::take`, `Board::post`, `check_end`. Everything else, refused payments included, is left to
-// `Session::take`: no refusal is made here, so the order of these checks does not matter.
+// board. It mirrors what `Session::take` (taking.rt) does with an accepted payment: the length, that the kind is
+// expected, `record::decode`, `File::take`, `Board::post`, `check_end`. Everything else, refused payments included, is
+// left to `Session::take`: no refusal is made here, so the order of these checks does not matter. It cuts as `run` does:
+// `record_needs` and `file::record_length` mirror `least_left` and `cut_length` (ends.rt).
 // What must change together: if `take` checks one more thing of a payment, so does `next_payment`; if a payment changes
 // one more member of the session, so does the loop, and `run` (running.rt) takes it over from `LeadingPayments`.
 // The proof that ties them is proofs/Payments.antt: by `payment-taken` and `payment-leaves`, a payment posted here is
-// accepted by `takeAnswer` and leaves the session that `take` leaves, `nextSession`.
+// accepted by `takeAnswer` and leaves the session that `take` leaves, `nextSession`; by `one-more` it is the next piece.
 // What is slow and so avoided: a board by value is 2 KB, and each call that takes one copies it. So the loop itself
 // reads and stores lanes, and the board's functions get numbers and one lane (board: src/searching.rt, `Slot::post`).
 ghost use mathlib.Core.Path.{_≡_};

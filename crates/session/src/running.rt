@@ -25,10 +25,10 @@ fn files_closed(named: MaybeRecord) -> u64
 }
 
 impl Session {
-    // Takes records one after the other, up to the first refusal or the end: each 150 bytes, and 152 in a lined file,
-    // which a header opens that CR and LF follow. If `more` bytes are to follow, it takes nothing once fewer than 152
-    // are left: hand what is left, at the front of what follows, to the next run. Else the last piece may be shorter,
-    // and is refused as `take` refuses it. The same as one `take` each, but faster (leading.rt). No bytes: accepted, no
+    // Takes records one after the other, up to the first refusal or the end: each 150 bytes, or 152 in a lined file, one
+    // whose header is followed by CR and LF. If `more` bytes are to follow, it takes nothing once fewer than 152 are
+    // left: hand what is left, at the front of what follows, to the next run. Else the last piece may be shorter, and is
+    // refused as `take` refuses it. The same as one `take` each, but faster (leading.rt). No bytes: accepted, no
     // records.
     pub fn run(self, bytes: &[u8], more: bool) -> RunResult
         ensures { λ r. ⌜ r ≡ runOf self more (now (bytes .entry)) ⌝ }
@@ -49,7 +49,7 @@ impl Session {
             if bytes.len() - at < ends::least_left(more) {
                 break;
             }
-            let end = at + ends::piece_length(session.opened, session.file.lined, &bytes[at..]);
+            let end = at + ends::cut_length(session.opened, session.file.lined, &bytes[at..]);
             let took = session.take(&bytes[at..end]);
             answer = took.answer;
             let Answer::Accepted = answer else {

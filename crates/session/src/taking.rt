@@ -144,17 +144,17 @@ impl Session {
         }
     }
 
-    // Takes the 150 bytes of a record whose kind is expected, which CR and LF follow or not, and the answer to that:
-    // its own refusal, or what the session makes of it.
-    fn take_expected(self, rec: &[u8], lined: bool, ending: Answer) -> TakeResult
-        ensures { λ r. ⌜ r ≡ recordResult self lined ending (decodedRecord (sessionTerms self) (now (rec .entry))) ⌝ }
+    // Takes the 150 bytes of a record whose kind is expected; `ended` is whether CR and LF follow it, and `ending` the
+    // answer to what follows it. The record's own refusal, or what the session makes of it.
+    fn take_expected(self, rec: &[u8], ended: bool, ending: Answer) -> TakeResult
+        ensures { λ r. ⌜ r ≡ recordResult self ended ending (decodedRecord (sessionTerms self) (now (rec .entry))) ⌝ }
     {
         match record::decode(rec, self.file.version) {
             Decoded::Refused(why, place) => TakeResult {
                 answer: Answer::Refused(why, place),
                 session: self,
             },
-            Decoded::Header(h) => self.take_header(h.version, lined, ending),
+            Decoded::Header(h) => self.take_header(h.version, ended, ending),
             Decoded::Payment(p) => self.take_payment(p.barcode.issuer, p.received, ending),
             Decoded::Trailer(t) => self.take_trailer(
                 Figures {

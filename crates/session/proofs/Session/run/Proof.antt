@@ -46,17 +46,17 @@ sub-if1 c = search needs
 least-left-requires : tie.Need-least-left-requires Inv-loop μ-loop
 least-left-requires c κs = search needs
 
-sub-piece-length : tie.Need-sub-piece-length Inv-loop μ-loop
-sub-piece-length c = search needs
+sub-cut-length : tie.Need-sub-cut-length Inv-loop μ-loop
+sub-cut-length c = search needs
 
-part-piece-length-start : tie.Need-part-piece-length-start Inv-loop μ-loop
-part-piece-length-start c = search needs
+part-cut-length-start : tie.Need-part-cut-length-start Inv-loop μ-loop
+part-cut-length-start c = search needs
 
-part-piece-length-end : tie.Need-part-piece-length-end Inv-loop μ-loop
-part-piece-length-end c = search needs
+part-cut-length-end : tie.Need-part-cut-length-end Inv-loop μ-loop
+part-cut-length-end c = search needs
 
-piece-length-requires : tie.Need-piece-length-requires Inv-loop μ-loop
-piece-length-requires c κs = search needs
+cut-length-requires : tie.Need-cut-length-requires Inv-loop μ-loop
+cut-length-requires c κs = search needs
 
 add-end : tie.Need-add-end Inv-loop μ-loop
 add-end c = search needs
@@ -100,7 +100,7 @@ add-files c =
     let a = cut .before .before .before .before .before .before .before .before .before .before .before .before .args in
     let at = l .at + paid .result .progress .at in
     let inside : at < length (a .bytes .now) = omega (arith, enough .if1 .left, enough .before .least-left .ensures, least-some (a .more)) in
-    let grown = cut-grows (a .bytes .now) at inside (cut .piece-length .ensures .1) in
+    let grown = cut-grows (a .bytes .now) at inside (cut .cut-length .ensures .1) in
     omega (arith, grown .0, add-end cut .fits, l .inv .1, l .inv .2, c .files-closed .ensures .1)
 
 add-records-2 : tie.Need-add-records-2 Inv-loop μ-loop
@@ -112,7 +112,7 @@ add-records-2 c =
     let a = cut .before .before .before .before .before .before .before .before .before .before .before .before .args in
     let at = l .at + paid .result .progress .at in
     let inside : at < length (a .bytes .now) = omega (arith, enough .if1 .left, enough .before .least-left .ensures, least-some (a .more)) in
-    let grown = cut-grows (a .bytes .now) at inside (cut .piece-length .ensures .1) in
+    let grown = cut-grows (a .bytes .now) at inside (cut .cut-length .ensures .1) in
     omega (arith, grown .0, add-end cut .fits, l .inv .1, paid .ensures .few)
 
 loop-less : tie.Need-loop-less Inv-loop μ-loop
@@ -124,7 +124,7 @@ loop-less c =
     let a = cut .before .before .before .before .before .before .before .before .before .before .before .before .args in
     let at = l .at + paid .result .progress .at in
     let inside : at < length (a .bytes .now) = omega (arith, enough .if1 .left, enough .before .least-left .ensures, least-some (a .more)) in
-    let grown = cut-grows (a .bytes .now) at inside (cut .piece-length .ensures .1) in
+    let grown = cut-grows (a .bytes .now) at inside (cut .cut-length .ensures .1) in
     omega (arith, grown .0, grown .1)
 
 loop-again : tie.Need-loop-again Inv-loop μ-loop
@@ -136,13 +136,13 @@ loop-again c =
     let a = cut .before .before .before .before .before .before .before .before .before .before .before .before .args in
     let at = l .at + paid .result .progress .at in
     let inside : at < length (a .bytes .now) = omega (arith, enough .if1 .left, enough .before .least-left .ensures, least-some (a .more)) in
-    let grown = cut-grows (a .bytes .now) at inside (cut .piece-length .ensures .1) in
+    let grown = cut-grows (a .bytes .now) at inside (cut .cut-length .ensures .1) in
     let s = withLeading (l .session) (paid .result) in (
       grown .1,
       omega (arith, grown .0, paid .ensures .few, l .inv .1),
       omega (arith, c .files-closed .ensures .1, l .inv .2),
       run-goes (a .self) s (a .more) (a .bytes .now) at _ _ (run-paid (a .self) (l .session) (a .more) (a .bytes .now) (l .at) (l .records) (l .files) (l .inv .3) (paid .ensures)) inside (omega (arith, enough .if1 .left, enough .before .least-left .ensures))
-          (cut-ends (a .bytes .now) at s (cut .piece-length .ensures .0)) (c .before .before .before .before .before .before .take .ensures) (c .before .before .before .before .enum-told .given .1) (c .files-closed .ensures .0 ∙ ap filesClosed (c .before .named-by .ensures)),
+          (cut-ends (a .bytes .now) at s (cut .cut-length .ensures .0)) (c .before .before .before .before .before .before .take .ensures) (c .before .before .before .before .enum-told .given .1) (c .files-closed .ensures .0 ∙ ap filesClosed (c .before .named-by .ensures)),
       c .before .before .before .before .enum-told .given .1,
     )
 
@@ -166,7 +166,7 @@ returns-2 c =
     let inside : at < length (a .bytes .now) = omega (arith, enough .if1 .left, enough .before .least-left .ensures, least-some (a .more)) in
     let s = withLeading (l .session) (paid .result) in
     run-stops (a .self) s (a .more) (a .bytes .now) at _ _ (run-paid (a .self) (l .session) (a .more) (a .bytes .now) (l .at) (l .records) (l .files) (l .inv .3) (paid .ensures)) inside (omega (arith, enough .if1 .left, enough .before .least-left .ensures))
-    (cut-ends (a .bytes .now) at s (cut .piece-length .ensures .0)) (c .before .before .take .ensures) (c .enum-told2 .given .1)
+    (cut-ends (a .bytes .now) at s (cut .cut-length .ensures .0)) (c .before .before .take .ensures) (c .enum-told2 .given .1)
 
 pub run-spec : {M : Type 1} → statement M
 run-spec =
@@ -183,10 +183,10 @@ run-spec =
     add-at
     sub-if1
     least-left-requires
-    sub-piece-length
-    part-piece-length-start
-    part-piece-length-end
-    piece-length-requires
+    sub-cut-length
+    part-cut-length-start
+    part-cut-length-end
+    cut-length-requires
     add-end
     sub-take
     part-take-start

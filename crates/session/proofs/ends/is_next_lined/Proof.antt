@@ -1,10 +1,10 @@
--- `session::ends::is_piece_lined` meets its contract. Assumes nothing.
+-- `session::ends::is_next_lined` meets its contract. Assumes nothing.
 use mathlib.Core.Path.{sym}
 use borrow.Author.Needs.{needs}
 use lib.Seq.{length-take-le}
 use Rattle.session.proofs.Lengths.{piece-open, piece-short, piece-ahead}
-use Rattle.session.proofs.ends.is_piece_lined.Statement.{statement}
-use Rattle.session.proofs.ends.is_piece_lined.Tie as tie
+use Rattle.session.proofs.ends.is_next_lined.Statement.{statement}
+use Rattle.session.proofs.ends.is_next_lined.Tie as tie
 
 returns : tie.Need-returns
 returns c = let a = c .before .before .args in piece-open (a .lined) (a .bytes .now) (c .if1 .taken)
@@ -23,6 +23,6 @@ returns-3 c =
     let a = c .before .before .before .before .before .args in
     piece-ahead (a .lined) (a .bytes .now) (c .before .before .before .if1 .left) (c .has-line-end .ensures)
 
-pub is-piece-lined-spec : {M : Type 1} → statement M
-is-piece-lined-spec =
+pub is-next-lined-spec : {M : Type 1} → statement M
+is-next-lined-spec =
     tie.close (tie.spec returns returns-2 slice-aggregate-has-line-end has-line-end-requires returns-3)
