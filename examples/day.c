@@ -6,6 +6,7 @@
  */
 #include <hollytrot.h>
 #include <stdio.h>
+#include <string.h>
 
 /* How many bytes are run at a time: any number from HOLLYTROT_LINED on. */
 #ifndef PART
@@ -33,8 +34,7 @@ int main(void)
         records += run.records;
         files += run.files;
         length -= run.bytes;
-        for (size_t i = 0; i < length; i++)
-            part[i] = part[run.bytes + i];
+        memmove(part, part + run.bytes, length);
     } while (more && answer.number == HOLLYTROT_ACCEPTED);
     if (ferror(stdin)) {
         perror("day: standard input");

@@ -63,7 +63,7 @@ enum {
     HOLLYTROT_WRONG_BOX_CHECK = 6,     /* the check of a box is wrong */
     HOLLYTROT_WRONG_GENERAL_CHECK = 7, /* the general check is wrong */
     HOLLYTROT_NO_TEXT = 8,             /* a byte is not a text byte */
-    HOLLYTROT_NOT_EXPECTED = 9,        /* the first byte names no record expected now */
+    HOLLYTROT_NOT_EXPECTED = 9,        /* no such record, or no such call of a writer, is expected now */
     HOLLYTROT_FIXED_DIFFERS = 10,      /* a fixed field has other bytes */
     HOLLYTROT_NO_DATE = 11,            /* eight digits are not a date */
     HOLLYTROT_UNKNOWN_CODE = 12,       /* unknown capture or payment form */
@@ -228,7 +228,8 @@ enum {
 };
 
 /* Accepted, or the first refusal of the record, as one of a file of this version. Neither the order of records nor any
- * sum is checked. */
+ * sum is checked, nor what follows the record: the next one starts 150 bytes on, 152 in a file whose header is followed
+ * by CR and LF. To check a file, run a session over it. */
 hollytrot_answer hollytrot_record_check(const uint8_t *bytes, size_t length, uint64_t version);
 
 /* The same answer, with the values of an accepted record. */
@@ -247,7 +248,10 @@ hollytrot_answer hollytrot_record_join(const uint8_t *bytes, size_t length, uint
  * the given one if the call is refused.
  *
  * The length of `out` in the header's call decides the form: 150 bytes for a bare file, 152 for a lined one, whose
- * records all get their CR and LF from the writer. In the later calls `out` has the same length. */
+ * records all get their CR and LF from the writer. In the later calls `out` has the same length.
+ *
+ * A call that is not expected now is refused 9 at 1, after 1 for a wrong length, and so is every call of a closed
+ * writer: use a new one for each file. */
 
 /* The figures of an open file, its payments and the centavos they received, the version that its header names, 4 or 6,
  * and whether it is lined. They are 0 and false in a new writer and in a session with no file open. If you set another

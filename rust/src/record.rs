@@ -98,7 +98,8 @@ impl Row {
 }
 
 /// Accepted, or the first refusal of the record, as one of a file of this version. Neither the order of records nor any
-/// sum is checked. For an A or a Z the version does not matter.
+/// sum is checked, nor what follows the record: to check a file, run a [`Session`](crate::Session) over it. For an A or
+/// a Z the version does not matter.
 pub fn check(bytes: &[u8], version: Version) -> Result<(), Refusal> {
     // SAFETY: pointer and length are those of a slice.
     unsafe { raw::hollytrot_record_check(bytes.as_ptr(), bytes.len(), version.number()) }
@@ -149,14 +150,15 @@ pub fn field(bytes: &[u8], version: Version, row: Row) -> &[u8] {
     &bytes[part.from..part.from + part.length]
 }
 
-/// The field bytes of an accepted A: what [`Writer::header`](crate::Writer::header) takes for the same record.
+/// The field bytes of an accepted A: what [`Writer::header`](crate::Writer::header) takes for the same record. A G is
+/// refused 1, for the length of its field bytes, and a Z 9 at 1.
 pub fn header_fields(bytes: &[u8]) -> Result<[u8; 80], Refusal> {
     // An A does not depend on the version, and a G is refused for the length of the buffer before its version is read.
     join(bytes, Version::Four)
 }
 
 /// The field bytes of an accepted G of a file of this version: what [`Writer::payment`](crate::Writer::payment) takes
-/// for the same record.
+/// for the same record. An A is refused 1, for the length of its field bytes, and a Z 9 at 1.
 pub fn payment_fields(bytes: &[u8], version: Version) -> Result<[u8; 121], Refusal> {
     join(bytes, version)
 }

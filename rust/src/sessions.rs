@@ -120,8 +120,8 @@ impl Session {
     }
 
     /// Takes consecutive records up to the first that is refused; those before it remain accepted. The input ends with
-    /// these bytes: a rest that is no record is refused, and a header at their very end, without CR and LF, opens a bare
-    /// file. If more of the input may follow, use [`run_part`](Self::run_part).
+    /// these bytes: a rest that is no record is refused, and a header at their very end, without CR and LF, opens a
+    /// bare file. If more of the input may follow, use [`run_part`](Self::run_part).
     ///
     /// ```
     /// use hollytrot::{Session, Writer};

@@ -4,7 +4,8 @@ use crate::raw;
 use crate::{Refusal, LINED, RECORD};
 
 /// Writes a file record by record: the header, each payment, then the trailer with the file's own count and total. Each
-/// record is 150 bytes; in a lined file it is 152, the last two CR and LF.
+/// record is 150 bytes; in a lined file it is 152, the last two CR and LF. A call that is not expected now is refused 9
+/// at 1, and so is every call after the trailer: use a new writer for each file.
 ///
 /// ```
 /// use hollytrot::Writer;

@@ -147,26 +147,33 @@ fn days_that_end_around_the_end_of_a_buffer() {
 /// place and accepted records, as the pages say them.
 #[test]
 fn inputs_that_the_pages_name() {
-    let random = &mut Random::new(11);
-    let (bare, lined) = (file(random, 3, false), file(random, 3, true));
-    let (header, ended) = (&bare[..150], &lined[..152]);
-    let with_lf: Vec<u8> = bare
-        .chunks(150)
-        .flat_map(|record| [record, b"\n"].concat())
-        .collect();
+    let lined = file(&mut Random::new(11), 3, true);
+    let records: Vec<&[u8]> = lined.chunks(152).map(|record| &record[..150]).collect();
+    let [a, g, z] = records[..] else {
+        panic!("three records")
+    };
+    let bare = records.concat();
     for (input, number, place, records) in [
-        ([header, b"\r"].concat(), 1, 0, 1),
-        ([header, b"\rG", &bare[150..]].concat(), 9, 1, 1),
-        ([ended, &bare[150..]].concat(), 22, 151, 1),
-        ([&lined[..], b"\r\n"].concat(), 1, 0, 3),
-        ([&lined[..], b"\r\n", &lined].concat(), 9, 1, 3),
-        (with_lf, 9, 1, 1),
+        ([a, b"\r"].concat(), 1, 0, 1),
+        ([a, b"\rG", g, z].concat(), 9, 1, 1),
+        ([a, b"\n", g, b"\n", z, b"\n"].concat(), 9, 1, 1),
+        ([a, b"\r\n", g, z].concat(), 22, 151, 1),
+        ([a, b"\r\n", g, b" \r\n", z, b"\r\n"].concat(), 22, 151, 1),
+        ([a, g, b"\r\n", z, b"\r\n"].concat(), 9, 1, 2),
         (lined[..454].to_vec(), 22, 151, 2),
+        ([&lined[..454], &lined].concat(), 22, 151, 2),
+        ([&lined[..], b"\r\n", &lined].concat(), 9, 1, 3),
+        ([&bare[..], b"\n", &bare].concat(), 9, 1, 3),
         ([&bare[..], b"\n"].concat(), 1, 0, 3),
-        ([&lined[..], b"\n"].concat(), 1, 0, 3),
         ([&bare[..], b"\r\n"].concat(), 1, 0, 3),
         ([&bare[..], b"\x1a"].concat(), 1, 0, 3),
+        ([&bare[..], &[0; 149]].concat(), 1, 0, 3),
+        ([&bare[..], &[0; 150]].concat(), 9, 1, 3),
+        ([&lined[..], b"\n"].concat(), 1, 0, 3),
+        ([&lined[..], b"\r\n"].concat(), 1, 0, 3),
         ([&lined[..], b"\x1a"].concat(), 1, 0, 3),
+        ([&b"\r\n"[..], &lined].concat(), 9, 1, 0),
+        ([&b"\xef\xbb\xbf"[..], &bare].concat(), 9, 1, 0),
     ] {
         let output = output_of(|stdin| stdin.write_all(&input));
         let start = format!("answer={number}\nplace={place}\nrecord={records}\n");
