@@ -1,11 +1,11 @@
 -- Laws of the builder: the pieces it writes, and what its answer tells. Assumes nothing.
 use Prim.Native.Nat.{ℕ, _+_, _-_, _^_, _≤_, _<_}
-use mathlib.Core.Bool.{true, false, and-eq-true-iff}
+use mathlib.Core.Bool.{true, false}
 use mathlib.Core.Logic.{⊎-elim}
 use mathlib.Core.List.{List, [], _∷_, _++_, append-assoc, append-nil}
 use mathlib.Core.Path.{_≡_, refl, sym, ap, _∙_}
 use native.Mathlib.Omega.{arith}
-use borrow.Author.Tests.{lt-ltb, ltb-true, leb-true, eqb-true, eq-eqb, ne-eqb, le-leb}
+use borrow.Author.Tests.{lt-ltb, ltb-true, eqb-true, eq-eqb, ne-eqb, le-leb}
 use lib.Dec.{leb, ltb, eqb}
 use lib.ListN.{length, set, take, drop, length-append, length-drop, drop-of-length-le}
 use lib.Seq.{take-all}
@@ -20,7 +20,7 @@ use Rattle.decimal.specs.Bytes.{within, isOf, all, eachIs}
 use Rattle.decimal.specs.Numbers.{digitsOf, putNumberAnswer}
 use Rattle.decimal.specs.Places.{widthOf, putAt}
 use Rattle.decimal.proofs.Numbers.{digits-fill, digit-back, number-put}
-use Rattle.decimal.proofs.Bytes.{each-accepts}
+use Rattle.decimal.proofs.Bytes.{within-bounds, each-accepts}
 use Rattle.decimal.proofs.Finite.{or-cases}
 use Rattle.decimal.proofs.Places.{put-next, put-whole}
 use Rattle.barcode.specs.declared.Issuer.{Issuer}
@@ -73,11 +73,11 @@ ranges-of i kind amount rest = fields-within-ranges-build i kind amount rest .0
 -- segment and kind are one digit each
 pub segment-small : (s : ℕ) → isSegment s ≡ true → s ≤ 9
 segment-small s h =
-    ⊎-elim (λ e. omega (arith, leb-true s 7 (and-eq-true-iff (leb 1 s) (leb s 7) .0 e .1))) (λ e. omega (arith, eqb-true s 9 e))
+    ⊎-elim (λ e. omega (arith, within-bounds 1 7 s e .1)) (λ e. omega (arith, eqb-true s 9 e))
     (or-cases (within 1 7 s) (eqb s 9) h)
 
 pub kind-small : (k : ℕ) → isKind k ≡ true → k ≤ 9
-kind-small k h = leb-true k 9 (and-eq-true-iff (leb 6 k) (leb k 9) .0 h .1)
+kind-small k h = within-bounds 6 9 k h .1
 
 -- The pieces, one behind the other.
 

@@ -13,7 +13,7 @@ use Rattle.decimal.specs.declared.Class.the-variants.{Digit}
 use Rattle.decimal.specs.Bytes.{within, isOf, all}
 use Rattle.decimal.specs.Places.{places}
 use Rattle.decimal.specs.Numbers.{valueOf, numberOf, digitsOf}
-use Rattle.decimal.proofs.Bytes.{all-joins, all-of-part, all-at}
+use Rattle.decimal.proofs.Bytes.{within-bounds, all-joins, all-of-part, all-at}
 use Rattle.decimal.proofs.Finite.{below, at}
 use Rattle.decimal.proofs.Numbers.{digit-range, value-digit, number-of-digits, digits-of-number, digits-fill}
 use Rattle.decimal.proofs.Places.{length-piece}
@@ -128,10 +128,8 @@ unfolding isDate
 in-range d h =
     let n = daysIn (d .year) (d .month) in
     let both = and-eq-true-iff (within 1900 2199 (d .year)) (within 1 n (d .day)) .0 h in
-    let year = leb-true (d .year) 2199 (and-eq-true-iff (leb 1900 (d .year)) (leb (d .year) 2199) .0 (both .0) .1) in
-    let days = and-eq-true-iff (leb 1 (d .day)) (leb (d .day) n) .0 (both .1) in
-    let one = leb-true 1 (d .day) (days .0) in
-    let last = leb-true (d .day) n (days .1) in
+    let year = within-bounds 1900 2199 (d .year) (both .0) in
+    let days = within-bounds 1 n (d .day) (both .1) in
     let month = few-months (d .year) (d .month) (omega arith) in
     let most = few-days (d .year) (d .month) month in
     (omega arith, omega arith, omega arith)

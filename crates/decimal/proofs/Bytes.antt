@@ -6,9 +6,9 @@ use mathlib.Core.Path.{_≡_, refl, sym, ap, _∙_}
 use native.Mathlib.Nat.{add-suc, suc-add, add-zero}
 use native.Mathlib.Numerals.{add-one}
 use native.Mathlib.Omega.{arith}
-use borrow.Author.Tests.{ne-eqb}
+use borrow.Author.Tests.{leb-true, ne-eqb}
 use lib.Bits.{bitOr, or-zero-r, or-add-and, and-le-l}
-use lib.Dec.{eqb}
+use lib.Dec.{leb, eqb}
 use lib.ListN.{length, getD, set, take, drop, length-drop, drop-of-length-le, take-append-drop}
 use lib.Seq.{drop-cons, take-all, take-take, take-add}
 use Rattle.answer.specs.declared.Reason.{Reason}
@@ -17,7 +17,10 @@ use Rattle.answer.specs.declared.Answer.the-variants.{Accepted, Refused}
 use Rattle.answer.specs.Refusals.{answerPlace}
 use Rattle.answer.specs.Orders.{require, movedBy}
 use Rattle.answer.proofs.Orders.{require-accepts, then-accepts, moved-then, require-place, then-place}
-use Rattle.decimal.specs.Bytes.{all, eachIs, AllJoins, AllOfPart, EachAccepts, EachRefuses, EachMoves}
+use Rattle.decimal.specs.Bytes.{within, all, eachIs, AllJoins, AllOfPart, EachAccepts, EachRefuses, EachMoves}
+
+pub within-bounds : (lo hi b : ℕ) → within lo hi b ≡ true → (lo ≤ b) × (b ≤ hi)
+within-bounds lo hi b t = let both = and-eq-true-iff (leb lo b) (leb b hi) .0 t in (leb-true lo b (both .0), leb-true b hi (both .1))
 
 pub all-joins : AllJoins
 all-joins ok [] ys = refl

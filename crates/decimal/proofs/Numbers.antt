@@ -18,7 +18,7 @@ use Rattle.answer.proofs.Steps.{passed}
 use Rattle.decimal.specs.declared.Class.the-variants.{Digit}
 use Rattle.decimal.specs.Bytes.{isOf, all}
 use Rattle.decimal.specs.Places.{putAt}
-use Rattle.decimal.proofs.Bytes.{all-joins}
+use Rattle.decimal.proofs.Bytes.{within-bounds, all-joins}
 use Rattle.decimal.proofs.Places.{put-fits}
 use Rattle.decimal.specs.Numbers.{valueOf, numberFrom, numberOf, largestNumber, capped, digitsOf, widthAnswer, putNumberAnswer, NumberOfDigits, DigitsOfNumber, DigitsFill, AcceptedIsWritten, NumberFits, NineteenFit}
 use Rattle.decimal.specs.LowHalves.{lowFrom, lowNumberOf, LowOfDigits}
@@ -36,9 +36,7 @@ value-small b = go (leb 48 b) (leb b 57) refl
 
 pub digit-range : (b : ℕ) → isOf Digit b ≡ true → (48 ≤ b) × (b ≤ 57)
 unfolding isOf
-digit-range b e =
-    let both = and-eq-true-iff (leb 48 b) (leb b 57) .0 e in
-    (leb-true 48 b (both .0), leb-true b 57 (both .1))
+digit-range b e = within-bounds 48 57 b e
 
 pub range-digit : (b : ℕ) → 48 ≤ b → b ≤ 57 → isOf Digit b ≡ true
 unfolding isOf

@@ -142,13 +142,8 @@ fn make_rows(
         let end = f.last;
         let next = at + given_width(f);
         let amount = amount_at(used, first, second);
-        let a = put_field(
-            kind,
-            &given[at..next],
-            version,
-            amount,
-            &mut made[done..end],
-        );
+        let part = &given[at..next];
+        let a = put_field(kind, part, version, amount, &mut made[done..end]);
         let Answer::Accepted = a else {
             return a.behind(done);
         };

@@ -5,8 +5,8 @@ use mathlib.Core.List.{List}
 use mathlib.Core.Logic.{⊎-elim, inl, inr}
 use mathlib.Core.Path.{_≡_, refl, sym, ap, _∙_}
 use native.Mathlib.Omega.{arith}
-use borrow.Author.Tests.{eqb-true, leb-true, le-leb}
-use lib.Dec.{eqb, leb, lit≤}
+use borrow.Author.Tests.{eqb-true, le-leb}
+use lib.Dec.{eqb, lit≤}
 use lib.ListN.{length, getD}
 use Rattle.answer.specs.declared.Reason.the-variants.{UnknownCode}
 use Rattle.answer.specs.declared.Answer.the-variants.{Accepted}
@@ -15,6 +15,7 @@ use Rattle.answer.proofs.Tests.{or-cases, unequal}
 use Rattle.decimal.specs.declared.Class.the-variants.{Digit, Text}
 use Rattle.decimal.specs.Bytes.{within, isOf, all}
 use Rattle.decimal.specs.Numbers.{valueOf, numberOf, digitsOf}
+use Rattle.decimal.proofs.Bytes.{within-bounds}
 use Rattle.decimal.proofs.Numbers.{digits-of-number}
 use Rattle.layout.specs.declared.Kind.{Kind}
 use Rattle.layout.specs.declared.Kind.the-variants as kind
@@ -25,17 +26,14 @@ is-false : (t : Bool) → (t ≡ true → ⊥) → t ≡ false
 is-false true h = absurd (h refl)
 is-false false h = refl
 
-bounds : (lo hi b : ℕ) → within lo hi b ≡ true → (lo ≤ b) × (b ≤ hi)
-bounds lo hi b t = let both = and-eq-true-iff (leb lo b) (leb b hi) .0 t in (leb-true lo b (both .0), leb-true b hi (both .1))
-
 -- a byte within bounds is within wider ones, and within those of text
 wider : (lo hi top b : ℕ) → hi ≤ top → within lo hi b ≡ true → within lo top b ≡ true
-wider lo hi top b h t = let in-it = bounds lo hi b t in rw (le-leb lo b (in-it .0), le-leb b top (omega (arith, in-it .1)))
+wider lo hi top b h t = let in-it = within-bounds lo hi b t in rw (le-leb lo b (in-it .0), le-leb b top (omega (arith, in-it .1)))
 
 text-byte : (lo hi b : ℕ) → 32 ≤ lo → hi ≤ 126 → within lo hi b ≡ true → isOf Text b ≡ true
 unfolding isOf
 text-byte lo hi b h k t =
-    let in-it = bounds lo hi b t in
+    let in-it = within-bounds lo hi b t in
     rw (le-leb 32 b (omega (arith, in-it .0)), le-leb b 126 (omega (arith, in-it .1)))
 
 few-captures : (v : ℕ) → capturesOf v ≤ 9
@@ -47,9 +45,9 @@ few-captures v = go (eqb v version04) (eqb v version06)
     go false false = lit≤ tt
 
 -- a capture of any version is text
-pub captured : (v b : ℕ) → isCapture v b ≡ true → isOf Text b ≡ true
+pub capture-is-text : (v b : ℕ) → isCapture v b ≡ true → isOf Text b ≡ true
 unfolding isCapture
-captured v b t =
+capture-is-text v b t =
     let few = few-captures v in
     ⊎-elim
     (text-byte 49 (48 + capturesOf v) b (omega arith) (omega (arith, few)))
@@ -58,15 +56,15 @@ captured v b t =
 
 -- what is no version has no codes
 pub no-capture : (b : ℕ) → isCaptureAmong 0 b ≡ false
-no-capture b = is-false (isCaptureAmong 0 b) (λ t. ⊎-elim (λ e. omega (arith, bounds 49 48 b e)) (λ e. omega (arith, bounds 97 96 b e)) (or-cases (within 49 48 b) (within 97 96 b) t))
+no-capture b = is-false (isCaptureAmong 0 b) (λ t. ⊎-elim (λ e. omega (arith, within-bounds 49 48 b e)) (λ e. omega (arith, within-bounds 97 96 b e)) (or-cases (within 49 48 b) (within 97 96 b) t))
 
 pub no-form : (b : ℕ) → within 49 48 b ≡ false
-no-form b = is-false (within 49 48 b) (λ t. omega (arith, bounds 49 48 b t))
+no-form b = is-false (within 49 48 b) (λ t. omega (arith, within-bounds 49 48 b t))
 
 -- so what has a capture is a version
-pub versioned : (v b : ℕ) → isCapture v b ≡ true → isVersion v ≡ true
+pub capture-has-version : (v b : ℕ) → isCapture v b ≡ true → isVersion v ≡ true
 unfolding isCapture
-versioned v b t = go (eqb v version04) (eqb v version06) t
+capture-has-version v b t = go (eqb v version04) (eqb v version06) t
   where
     go : (four six : Bool) → isCaptureAmong (cond four 6 (cond six 9 0)) b ≡ true → (four || six) ≡ true
     go true six t = refl

@@ -21,8 +21,8 @@ version06 = 6
 abbrev pub isVersion : ℕ → Bool
 isVersion version = eqb version version04 || eqb version version06
 
--- how many captures a version has, with the customer's bill and as many without it, and how many payment forms; any
--- other number has none
+-- how many captures a version has with the customer's bill, and as many again without it, and how many payment forms; a
+-- number that is no version has none of either
 abbrev pub capturesOf : ℕ → ℕ
 capturesOf version = cond (eqb version version04) 6 (cond (eqb version version06) 9 0)
 

@@ -34,7 +34,7 @@ use Rattle.layout.specs.declared.Record.the-variants.{Header, Payment, Trailer}
 use Rattle.layout.specs.Layouts.{recordLength, namedBy, layoutOf, rowAt, table, accountRow, barcodeRow, receivedRow, numberRow, branchRow, captureRow, authenticationRow, formRow, paymentBlankRow, paidRow, creditedRow, tariffRow}
 use Rattle.kinds.specs.Terms.{Terms}
 use Rattle.kinds.specs.Kinds.{isCapture, isForm}
-use Rattle.kinds.proofs.VersionLaws.{captured}
+use Rattle.kinds.proofs.VersionLaws.{capture-is-text}
 use Rattle.record.specs.declared.Decoded.{Decoded}
 use Rattle.record.specs.declared.Decoded.the-variants as decoded
 use Rattle.record.specs.declared.Payment.{Payment as Shows}
@@ -120,7 +120,7 @@ module _ (t : Terms) (rec : List ℕ) where
         let authentication = text t _ .0 (each .1 .1 .1 .1 .1 .1 .1 .1 .1 .1 .0) in
         let form = form t _ .0 (each .1 .1 .1 .1 .1 .1 .1 .1 .1 .1 .1 .0) in
         let rest = blank t _ .0 (each .1 .1 .1 .1 .1 .1 .1 .1 .1 .1 .1 .1 .0) in
-        let between = one-byte (take 1 (drop 116 rec)) (places-length rec n 117 117 (omega arith)) (captured _ _ taken) in
+        let between = one-byte (take 1 (drop 116 rec)) (places-length rec n 117 117 (omega arith)) (capture-is-text _ _ taken) in
         let texts = all-side-by-side (isOf Text) rec 108 9 23 (all-side-by-side (isOf Text) rec 108 8 1 branch between) authentication in
         let numbers = all-side-by-side (isOf Digit) rec 81 19 8 (all-side-by-side (isOf Digit) rec 81 12 7 received tariff) number in
         (plain .1 (account, texts, numbers, rest), coded .1 (taken, form), dated .1 (paid, credited), code)

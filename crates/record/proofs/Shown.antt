@@ -24,7 +24,7 @@ use Rattle.layout.specs.Layouts.{recordLength, namedBy, layoutOf, table, noFiel
 use Rattle.layout.proofs.Layouts.{row-lies}
 use Rattle.kinds.specs.Terms.{Terms, told, version04, version06, termsAnswer}
 use Rattle.kinds.specs.Kinds.{kindAnswer}
-use Rattle.kinds.proofs.VersionLaws.{versioned, more-codes}
+use Rattle.kinds.proofs.VersionLaws.{capture-has-version, more-codes}
 use Rattle.record.specs.Records.{fieldBytes, fieldAnswer, layoutAnswer, namedAnswer, recordAnswer, isPayment, isTrailer}
 use Rattle.record.proofs.KindRules.{digits, money, capture, version}
 use Rattle.record.proofs.FieldBytes.{number-read}
@@ -98,7 +98,7 @@ layout-terms t Header rec a = refl
 layout-terms t Payment rec a =
     let each = layout-accepts t Payment rec .0 a in
     let taken = capture t _ .0 (each .1 .1 .1 .1 .1 .1 .1 .1 .1 .0) in
-    require-accepts _ _ _ .1 (versioned (t .version) _ taken)
+    require-accepts _ _ _ .1 (capture-has-version (t .version) _ taken)
 layout-terms t Trailer rec a = refl
 
 pub right-fields-are-accepted : RightFieldsAreAccepted

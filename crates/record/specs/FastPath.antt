@@ -58,7 +58,7 @@ isPlain rec =
     (spanOf (rowAt receivedRow) (rowAt numberRow) rec)
     && all (isOf Blank) (fieldBytes (rowAt paymentBlankRow) rec)
 
--- capture and payment form are codes of the version; a number that is none has no codes
+-- capture and payment form are codes of the version; a number that is no version has no codes
 unfoldable pub isCoded : Terms → List ℕ → Bool
 isCoded t rec =
     isCapture (t .version) (getD (fieldBytes (rowAt captureRow) rec) 0 0)

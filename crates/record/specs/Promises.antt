@@ -19,8 +19,8 @@ use Rattle.layout.specs.Layouts.{recordLength, layoutOf, rowAt, namedBy, versio
 use Rattle.record.specs.Records.{fieldBytes, recordAnswer, isPayment}
 use Rattle.record.specs.Values.{versionIn, answerOfRecord, decodedRecord, hasRow, shownField}
 
--- 150 bytes that their first one names are accepted exactly when each field of that layout is right by its kind. Under
--- what is no version there are no codes, and so no right G.
+-- 150 bytes that their first one names are accepted exactly when each field of that layout is right by its kind. A
+-- number that is no version has no codes, so no G is right under it.
 abbrev pub RightFieldsAreAccepted : Type 0
 RightFieldsAreAccepted =
     (t : Terms) (r : Record) (rec : List ℕ) → length rec ≡ recordLength → namedBy (getD rec 0 0) ≡ Is r

@@ -30,7 +30,7 @@ fieldAnswer t rec f = movedBy (behind (f .first - 1)) (kindAnswer t (f .kind) (f
 abbrev pub layoutAnswer : Terms → Record → List ℕ → Answer
 layoutAnswer t r rec = firstRefusal (fieldAnswer t rec) (layoutOf r)
 
--- the layout of the record that a first byte names, behind what it needs of its terms; 9 where it names none
+-- the record that a first byte names: its terms are checked, then its layout; 9 where the byte names no record
 abbrev pub namedAnswer : Terms → MaybeRecord → List ℕ → Answer
 namedAnswer t (Is r) rec = termsAnswer t r then layoutAnswer t r rec
 namedAnswer t Other rec = answer.Refused NotExpected 1

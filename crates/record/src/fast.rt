@@ -8,7 +8,8 @@
 //   specs/FastPath.antt, and the places in proofs/Exact.antt (`holds`, `seen`). A span keeps from 16 to 32 bytes.
 // - A kind gets another rule (kinds::check): what checks that kind here, and its law in proofs/KindRules.antt. The
 //   capture is checked as text too, since it is inside the span from branch to authentication: each code must be text
-//   (`captured`). That the version is one is not checked by itself: what is none has no captures (`versioned`).
+//   (`capture-is-text`). The version itself is not checked: a number that is no version has no captures
+//   (`capture-has-version`).
 // The proof that ties the two is proofs/Exact.antt: `accepted_payment` is `paymentDueOf (decodedRecord t rec)` and
 // `decode_payment` is `fastDecodedOf (decodedRecord t rec)`, where `decodedRecord` is defined by the walk's answer.
 ghost use Prim.Native.Nat.{_-_, _≤_};
@@ -120,7 +121,8 @@ fn is_plain(rec: &[u8]) -> bool
     decimal::all_of(Class::Blank, parts::field_bytes(rec, g::BLANK))
 }
 
-// Capture and payment form are codes of the version. What is no version has none, so this tests the version too.
+// Capture and payment form are codes of the version. A number that is no version has no codes, so this tests the version
+// too.
 fn is_coded(rec: &[u8], version: u64) -> bool
     requires { ⌜ length (now rec) ≡ recordLength ⌝ }
     ensures { λ r. ⌜ r ≡ isCoded (told version) (now (rec .entry)) ⌝ }

@@ -93,7 +93,7 @@ fn is_trailer(mark: u8) -> bool
     }
 }
 
-// What an accepted record shows that is no G, and so an A or a Z, whatever its terms.
+// What an accepted A or Z shows; it is accepted under any terms.
 fn header_or_trailer(rec: &[u8]) -> Decoded
     requires { ⌜ ((t : Terms) → recordAnswer t (now rec) ≡ answers.Accepted) ⌝ }
     requires { ⌜ isPayment (namedBy (getD (now rec) 0 0)) ≡ false ⌝ }

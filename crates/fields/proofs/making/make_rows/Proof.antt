@@ -59,32 +59,32 @@ add-next c =
 amount-at-requires : tie.Need-amount-at-requires Inv-loop μ-loop
 amount-at-requires c κs = search needs
 
-sub-put-field : tie.Need-sub-put-field Inv-loop μ-loop
-sub-put-field c = search needs
+sub-part : tie.Need-sub-part Inv-loop μ-loop
+sub-part c = search needs
 
-part-put-field-start : tie.Need-part-put-field-start Inv-loop μ-loop
-part-put-field-start c = search needs
+part-part-start : tie.Need-part-part-start Inv-loop μ-loop
+part-part-start c = search needs
 
-part-put-field-end : tie.Need-part-put-field-end Inv-loop μ-loop
-part-put-field-end c =
+part-part-end : tie.Need-part-part-end Inv-loop μ-loop
+part-part-end c =
     let turn = c .before .before .before in
     let here = at-row _ (turn .before .before .before .table .ensures) (turn .before .before .rows-of .ensures) (turn .loop-test .taken) (turn .before .loop .inv .1) in
     in-given here (c .before .given-width .ensures)
 
-sub-put-field-2 : tie.Need-sub-put-field-2 Inv-loop μ-loop
-sub-put-field-2 c =
+sub-put-field : tie.Need-sub-put-field Inv-loop μ-loop
+sub-put-field c =
     let turn = c .before .before .before .before in
     let here = at-row _ (turn .before .before .before .table .ensures) (turn .before .before .rows-of .ensures) (turn .loop-test .taken) (turn .before .loop .inv .1) in
     ends here .0
 
-part-put-field-start-2 : tie.Need-part-put-field-start-2 Inv-loop μ-loop
-part-put-field-start-2 c =
+part-put-field-start : tie.Need-part-put-field-start Inv-loop μ-loop
+part-put-field-start c =
     let turn = c .before .before .before .before in
     let here = at-row _ (turn .before .before .before .table .ensures) (turn .before .before .rows-of .ensures) (turn .loop-test .taken) (turn .before .loop .inv .1) in
     ends here .0
 
-part-put-field-end-2 : tie.Need-part-put-field-end-2 Inv-loop μ-loop
-part-put-field-end-2 c =
+part-put-field-end : tie.Need-part-put-field-end Inv-loop μ-loop
+part-put-field-end c =
     let turn = c .before .before .before .before in
     let here = at-row _ (turn .before .before .before .table .ensures) (turn .before .before .rows-of .ensures) (turn .loop-test .taken) (turn .before .loop .inv .1) in
     omega (arith, ends here .1, here .size)
@@ -169,12 +169,12 @@ make-rows-spec =
     given-width-requires
     add-next
     amount-at-requires
+    sub-part
+    part-part-start
+    part-part-end
     sub-put-field
     part-put-field-start
     part-put-field-end
-    sub-put-field-2
-    part-put-field-start-2
-    part-put-field-end-2
     put-field-requires
     enum-told
     enum-told-2
