@@ -64,7 +64,7 @@ enum {
     HOLLYTROT_WRONG_GENERAL_CHECK = 7, /* the general check is wrong */
     HOLLYTROT_NO_TEXT = 8,             /* a byte is not a text byte */
     HOLLYTROT_NOT_EXPECTED = 9,        /* no such record, or no such call of a writer, is expected now */
-    HOLLYTROT_FIXED_DIFFERS = 10,      /* a fixed field has other bytes */
+    HOLLYTROT_FIXED_DIFFERS = 10,      /* a fixed field or the version has other bytes */
     HOLLYTROT_NO_DATE = 11,            /* eight digits are not a date */
     HOLLYTROT_UNKNOWN_CODE = 12,       /* unknown capture or payment form */
     HOLLYTROT_COUNT_DIFFERS = 13,      /* the trailer's count is not the file's */

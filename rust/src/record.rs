@@ -37,7 +37,7 @@ pub struct Header {
     pub bank: u64,
     pub date: Date,
     pub sequence: u64,
-    /// The version of the file: what the functions here are told for each record of it.
+    /// The version of the file: pass it to the functions here with each payment of the file.
     pub version: Version,
 }
 

@@ -39,7 +39,7 @@ reasons! {
     WrongGeneralCheck = 7, "the general check is wrong";
     NoText = 8, "a byte is not a text byte";
     NotExpected = 9, "the first byte names no record expected now";
-    FixedDiffers = 10, "a fixed field has other bytes";
+    FixedDiffers = 10, "a fixed field or the version has other bytes";
     NoDate = 11, "eight digits are not a date";
     UnknownCode = 12, "the capture or the payment form is unknown";
     CountDiffers = 13, "the trailer's count is not the file's";
