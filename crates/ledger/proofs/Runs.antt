@@ -37,16 +37,16 @@ pub record RunOn (s : Session) (k : Ledger) (recs : List (List ℕ)) (r : RunRes
   pub whole : r .answer ≡ Accepted → r .records ≡ length recs
 
 -- an accepted Z adds a file to the ledger, and no other record does
-files-after : (files : List Filed) (o : Option Opened) (n : MaybeRecord) (lined : Bool) (rec : List ℕ) → ledgerExpects o n ≡ true
-    → length (withRecord files o n lined rec .accepted) ≡ length files + filesClosed n
-files-after files none (Is Header) lined rec e = omega arith
-files-after files none (Is Payment) lined rec e = absurd (false≢true e)
-files-after files none (Is Trailer) lined rec e = absurd (false≢true e)
-files-after files none Other lined rec e = absurd (false≢true e)
-files-after files (some f) (Is Header) lined rec e = absurd (false≢true e)
-files-after files (some f) (Is Payment) lined rec e = omega arith
-files-after files (some f) (Is Trailer) lined rec e = length-append files (filedWith f rec ∷ [])
-files-after files (some f) Other lined rec e = absurd (false≢true e)
+files-after : (files : List Filed) (o : Option Opened) (n : MaybeRecord) (ended : Bool) (rec : List ℕ) → ledgerExpects o n ≡ true
+    → length (withRecord files o n ended rec .accepted) ≡ length files + filesClosed n
+files-after files none (Is Header) ended rec e = omega arith
+files-after files none (Is Payment) ended rec e = absurd (false≢true e)
+files-after files none (Is Trailer) ended rec e = absurd (false≢true e)
+files-after files none Other ended rec e = absurd (false≢true e)
+files-after files (some f) (Is Header) ended rec e = absurd (false≢true e)
+files-after files (some f) (Is Payment) ended rec e = omega arith
+files-after files (some f) (Is Trailer) ended rec e = length-append files (filedWith f rec ∷ [])
+files-after files (some f) Other ended rec e = absurd (false≢true e)
 
 -- one more record in front
 module _ (rec : List ℕ) (recs : List (List ℕ)) (s next : Session) (k after : Ledger) (c : ℕ) (r : RunResult) where

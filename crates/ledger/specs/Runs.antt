@@ -73,8 +73,8 @@ FileBytesRun =
     }
 
 -- whatever the bytes, and whether more are to follow or not, a run from a fresh session takes records that the ledger
--- accepts, and stops with the ledger's answer to the next; its session is the one that they reach, its files are the
--- ledger's, and they are the first `bytes` of the input. If it is accepted, no record is left.
+-- accepts, which are the first `bytes` of the input, and stops with the ledger's answer to the next; its session is the
+-- one that they reach, and its files are the ledger's. If it is accepted, no record is left.
 abbrev pub RunIsTheLedgers : Type 0
 RunIsTheLedgers =
     (more : Bool) (bytes : List ℕ)

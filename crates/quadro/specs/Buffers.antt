@@ -19,7 +19,7 @@ EndsBelow n Full = Unit {0}
 EndsBelow n (Ended k) = k < n
 EndsBelow n Failed = Unit {0}
 
--- an input is read to its end, unless it has at least so many bytes
+-- an input of fewer bytes is read to its end, unless a record is refused
 abbrev pub inputLimit : ℕ
 inputLimit = 2 ^ 60
 
