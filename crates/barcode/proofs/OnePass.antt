@@ -1,5 +1,5 @@
 -- Laws of the fast path: what its checks show of a barcode's digits, and the answer from them. Assumes nothing.
-use Prim.Native.Nat.{ℕ, _+_, _-_, _%_, _≤_}
+use Prim.Native.Nat.{ℕ, _+_, _-_, _%_}
 use mathlib.Core.Bool.{Bool, true, false}
 use mathlib.Core.List.{List, [], _∷_}
 use mathlib.Core.Logic.{_↔_}
@@ -15,19 +15,20 @@ use Rattle.answer.specs.declared.Answer.the-variants.{Accepted, Refused}
 use Rattle.decimal.specs.declared.Class.the-variants.{Digit}
 use Rattle.decimal.specs.Bytes.{isOf, all}
 use Rattle.decimal.specs.Numbers.{valueOf}
+use Rattle.decimal.specs.Places.{gather}
 use Rattle.decimal.proofs.Bytes.{all-of-part}
-use Rattle.decimal.proofs.Numbers.{value-other, range-digit}
+use Rattle.decimal.proofs.Numbers.{value-other}
 use Rattle.modulus.specs.declared.Modulus.{Modulus}
 use Rattle.modulus.specs.declared.MaybeSums.the-variants.{NoSum}
 use Rattle.modulus.specs.Checks.{bothSums, weightedSum, sizeOf, digitOfRemainder}
 use Rattle.modulus.proofs.Columns.{no-sum-tells}
-use Rattle.modulus.proofs.Sums.{rule-small}
+use Rattle.modulus.proofs.Sums.{check-is-a-digit}
 use Rattle.barcode.specs.declared.Decoded.the-variants.{Read}
 use Rattle.barcode.specs.declared.Fields.{Fields}
 use Rattle.barcode.specs.declared.Issuer.{Issuer}
 use Rattle.barcode.specs.declared.MaybeIssuer.the-variants.{Is, NoIssuer}
 use Rattle.barcode.proofs.Codes.{general-as, first-three-accepts, good, accepted}
-use Rattle.barcode.specs.Codes.{digitAt, product, isSegment, isKind, modulusOf, firstThreeAnswer, generalCheck, generalRight, barcodeAnswer, issuerOf, issuerIfAccepted, acceptedIssuer, fieldsOf, decoded, decodedBarcode}
+use Rattle.barcode.specs.Codes.{digitAt, product, isSegment, isKind, modulusOf, checked, firstThreeAnswer, generalCheck, generalRight, barcodeAnswer, issuerOf, issuerIfAccepted, acceptedIssuer, fieldsOf, decoded, decodedBarcode}
 
 -- a byte whose value passes a test that 0 fails is a digit
 shows : (ok : ℕ → Bool) → ok 0 ≡ false → (b : ℕ) → ok (valueOf b) ≡ true → isOf Digit b ≡ true
@@ -48,10 +49,8 @@ first-three-shows l e =
 check-shows : (code : List ℕ) → generalRight code ≡ true → isOf Digit (getD code 3 0) ≡ true
 unfolding generalRight
 check-shows code e =
-    let m = modulusOf (digitAt 3 code) in
-    let small : generalCheck code ≤ 9 = rule-small m _ in
-    let f = eqb-true (getD code 3 0) (48 + generalCheck code) e in
-    range-digit (getD code 3 0) (omega arith) (omega arith)
+    let written = eqb-true (getD code 3 0) (48 + generalCheck code) e in
+    rw written (check-is-a-digit (modulusOf (digitAt 3 code)) (gather checked code))
 
 right-digits : (code : List ℕ) → length code ≡ 44 → firstThreeAnswer code ≡ Accepted → generalRight code ≡ true
     → all (isOf Digit) (take 40 (drop 4 code)) ≡ true → all (isOf Digit) code ≡ true

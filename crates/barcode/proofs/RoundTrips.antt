@@ -18,7 +18,7 @@ use Rattle.decimal.proofs.Bytes.{all-at, all-joins, all-of-part}
 use Rattle.decimal.proofs.Places.{joins}
 use Rattle.decimal.proofs.Numbers.{digit-range, value-digit, digit-back, digits-fill, number-of-digits, digits-of-number, number-fits}
 use Rattle.modulus.specs.Checks.{checkOf}
-use Rattle.modulus.proofs.Sums.{check-is-one-digit}
+use Rattle.modulus.proofs.Sums.{check-is-a-digit}
 use Rattle.barcode.specs.declared.Issuer.{Issuer}
 use Rattle.barcode.specs.Codes.{digitAt, product, modulusOf, checked, value, issuerEnd, issuer, free, issuerOf, freeOf, fieldsOf, generalCheck, generalRight, barcodeAnswer, decoded}
 use Rattle.barcode.specs.Building.{headOf, tailOf, checkFor, builtOf, buildAnswer}
@@ -150,8 +150,8 @@ module _ (i : Issuer) (kind amount : ℕ) (rest : List ℕ) (fit : WithinRanges 
 
   built-digits : all (isOf Digit) (builtOf i kind amount rest) ≡ true
   built-digits =
-      let one = check-is-one-digit (modulusOf kind) (headOf (i .segment) kind ++ tailOf i amount rest) in
-      rw (digit-back 8 (omega arith) .0, digit-back (i .segment) (segment-small (i .segment) (fit .segment)) .0, digit-back kind (kind-small kind (fit .kinds)) .0, digit-back (checkFor i kind amount rest) one .0, tail-digits)
+      let check = check-is-a-digit (modulusOf kind) (headOf (i .segment) kind ++ tailOf i amount rest) in
+      rw (digit-back 8 (omega arith) .0, digit-back (i .segment) (segment-small (i .segment) (fit .segment)) .0, digit-back kind (kind-small kind (fit .kinds)) .0, check, tail-digits)
 
   built-good : Good (builtOf i kind amount rest)
   unfolding generalRight

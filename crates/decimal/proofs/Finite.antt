@@ -4,7 +4,7 @@ use mathlib.Core.Bool.{Bool, true, false, cond, not, _&&_, and-eq-true-iff}
 use mathlib.Core.Logic.{⊎-elim}
 use mathlib.Core.Path.{_≡_, refl, sym}
 use native.Mathlib.Nat.{not-suc-le-zero, le-of-suc-le-suc, eq-or-lt-of-le}
-pub use Rattle.answer.proofs.Tests.{never, or-cases, lt-or-le}
+pub use Rattle.answer.proofs.Tests.{never, or-cases, lt-or-le, split}
 
 abbrev pub below : ℕ → (ℕ → Bool) → Bool
 below zero test = true

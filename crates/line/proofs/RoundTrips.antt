@@ -20,10 +20,9 @@ use Rattle.decimal.specs.Numbers.{valueOf}
 use Rattle.decimal.specs.Places.{Stretch, partAt, gather}
 use Rattle.decimal.proofs.Places.{joins, all-gathered}
 use Rattle.decimal.proofs.Bytes.{all-joins}
-use Rattle.decimal.proofs.Numbers.{digit-back}
 use Rattle.modulus.specs.declared.Modulus.{Modulus}
 use Rattle.modulus.specs.Checks.{checkOf}
-use Rattle.modulus.proofs.Sums.{check-is-one-digit}
+use Rattle.modulus.proofs.Sums.{check-is-a-digit}
 use Rattle.barcode.specs.Codes.{digitAt, modulusOf, firstThreeAnswer, prefixAnswer, generalRight, fullLengthAnswer, barcodeAnswer, fieldsOf, decoded, decodedBarcode}
 use Rattle.barcode.proofs.Building.{fields-within-ranges-build}
 use Rattle.barcode.proofs.RoundTrips.{decoded-answers, code-is-its-fields, built-is-read}
@@ -104,7 +103,7 @@ right-twelve m line from h e = rw (← e) (sym (twelve line from h))
 
 checked-digits : (m : Modulus) (a : List ℕ) → all (isOf Digit) a ≡ true → all (isOf Digit) (checkedBox m a) ≡ true
 checked-digits m a h =
-    all-joins (isOf Digit) a ((48 + checkOf m a) ∷ []) ∙ rw (h, digit-back (checkOf m a) (check-is-one-digit m a) .0)
+    all-joins (isOf Digit) a ((48 + checkOf m a) ∷ []) ∙ rw (h, check-is-a-digit m a)
 
 -- a sound line is its boxes with their checks
 sound-boxes : (line : List ℕ) → SoundLine line → withChecks (modulusOf (digitAt 3 line)) boxes line ≡ line

@@ -1,6 +1,5 @@
 -- Laws of the sums, over the modulus and over any list. Assumes nothing.
 use Prim.Native.Nat.{ℕ, suc, _+_, _-_, _*_, _%_, _≤_, _<_}
-use mathlib.Core.Bool.{Bool, true, false, cond}
 use mathlib.Core.List.{List, [], _∷_, _++_}
 use mathlib.Core.Path.{_≡_, refl, ap, _∙_}
 use native.Mathlib.Nat.{zero-mod, mod-add-mod, mul-le-mul, le-trans, add-zero}
@@ -11,10 +10,11 @@ use lib.Dec.{leb, eqb}
 use lib.ListN.{length, getD, take, drop, length-drop, length-append, drop-of-length-le, take-append-drop}
 use lib.Seq.{drop-cons, drop-length, drop-drop}
 use Rattle.decimal.specs.Numbers.{valueOf}
-use Rattle.decimal.proofs.Numbers.{value-small}
+use Rattle.decimal.proofs.Finite.{split}
+use Rattle.decimal.proofs.Numbers.{value-small, digit-back}
 use Rattle.modulus.specs.declared.Modulus.{Modulus}
 use Rattle.modulus.specs.declared.Modulus.the-variants.{Ten, Eleven}
-use Rattle.modulus.specs.Checks.{sizeOf, weightOf, productPart, addedBy, termOf, weightedSum, digitOfRemainder, CheckIsOneDigit, PartsCompose}
+use Rattle.modulus.specs.Checks.{sizeOf, weightOf, productPart, addedBy, termOf, weightedSum, remainderOf, digitOfRemainder, checkOf, RuleIsOneDigit, CheckIsOneDigit, CheckIsADigit, PartsCompose}
 use Rattle.modulus.proofs.Terms.{period}
 
 pub weight-small : (m : Modulus) (k : ℕ) → weightOf m k ≤ 9
@@ -29,21 +29,17 @@ pub remainder-small : (m : Modulus) (n : ℕ) → n % sizeOf m ≤ 10
 remainder-small Ten n = omega arith
 remainder-small Eleven n = omega arith
 
-pub rule-small : (m : Modulus) (r : ℕ) → digitOfRemainder m r ≤ 9
+-- each rule gives 0 where 10 or 11 less the remainder would be more than 9
+pub rule-is-one-digit : RuleIsOneDigit
 unfolding digitOfRemainder
-rule-small Ten r = go (eqb r 0) refl
-  where
-    go : (t : Bool) → eqb r 0 ≡ t → cond t 0 (10 - r) ≤ 9
-    go true e = omega arith
-    go false e = omega (arith, eqb-false r 0 e)
-rule-small Eleven r = go (leb r 1) refl
-  where
-    go : (t : Bool) → leb r 1 ≡ t → cond t 0 (11 - r) ≤ 9
-    go true e = omega arith
-    go false e = omega (arith, leb-false r 1 e)
+rule-is-one-digit Ten r = split (λ (d : ℕ). d ≤ 9) (eqb r 0) (λ e. omega arith) (λ e. omega (arith, eqb-false r 0 e))
+rule-is-one-digit Eleven r = split (λ (d : ℕ). d ≤ 9) (leb r 1) (λ e. omega arith) (λ e. omega (arith, leb-false r 1 e))
 
 pub check-is-one-digit : CheckIsOneDigit
-check-is-one-digit m bs = rule-small m (weightedSum m 0 bs % sizeOf m)
+check-is-one-digit m bs = rule-is-one-digit m (remainderOf m bs)
+
+pub check-is-a-digit : CheckIsADigit
+check-is-a-digit m bs = digit-back (checkOf m bs) (check-is-one-digit m bs) .0
 
 pub parts-compose : PartsCompose
 parts-compose m k [] right = omega arith

@@ -59,9 +59,17 @@ bothSums bs =
 
 -- Promises, over the modulus and over any list.
 
--- a check is always one digit
+-- either rule gives one digit, for any number as the remainder
+abbrev pub RuleIsOneDigit : Type 0
+RuleIsOneDigit = (m : Modulus) (rest : ℕ) → digitOfRemainder m rest ≤ 9
+
+-- so a check is one digit
 abbrev pub CheckIsOneDigit : Type 0
 CheckIsOneDigit = (m : Modulus) (bs : List ℕ) → checkOf m bs ≤ 9
+
+-- and the byte that is written for it is a digit
+abbrev pub CheckIsADigit : Type 0
+CheckIsADigit = (m : Modulus) (bs : List ℕ) → isOf Digit (48 + checkOf m bs) ≡ true
 
 -- the sum of two parts: the left one has the right one's digits to its right too
 abbrev pub PartsCompose : Type 0

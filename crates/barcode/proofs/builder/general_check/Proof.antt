@@ -3,7 +3,7 @@ use native.Mathlib.Omega.{arith}
 use borrow.Author.Needs.{needs}
 use lib.ListN.{take, drop}
 use Rattle.barcode.proofs.Codes.{general-as}
-use Rattle.modulus.proofs.Sums.{remainder-small, rule-small}
+use Rattle.modulus.proofs.Sums.{remainder-small, rule-is-one-digit}
 use Rattle.modulus.specs.Checks.{weightedSum}
 use Rattle.barcode.proofs.builder.general_check.Statement.{statement}
 use Rattle.barcode.proofs.builder.general_check.Tie as tie
@@ -59,7 +59,7 @@ returns c =
     let start = named .before .before .before in (
       general-as (start .args .code .now) (start .pre) (named .before .digit .ensures) (named .modulus-of-kind .ensures)
           (first .weighted-remainder .ensures) (rest .weighted-remainder2 .ensures) (c .before .remainder .ensures) (c .digit-of-remainder .ensures),
-      rw (c .digit-of-remainder .ensures) (rule-small (named .modulus-of-kind .result) (c .before .remainder .result)),
+      rw (c .digit-of-remainder .ensures) (rule-is-one-digit (named .modulus-of-kind .result) (c .before .remainder .result)),
     )
 
 pub general-check-spec : {M : Type 1} → statement M

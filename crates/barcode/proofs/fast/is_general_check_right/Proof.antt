@@ -5,7 +5,7 @@ use native.Mathlib.Omega.{arith}
 use lib.ListN.{length, take, drop, length-drop}
 use lib.Seq.{length-take-le}
 use Rattle.modulus.specs.Checks.{weightedSum}
-use Rattle.modulus.proofs.Sums.{remainder-small, rule-small, sum-small}
+use Rattle.modulus.proofs.Sums.{remainder-small, rule-is-one-digit, sum-small}
 use Rattle.barcode.proofs.OnePass.{right-as}
 use Rattle.barcode.proofs.fast.is_general_check_right.Statement.{statement}
 use Rattle.barcode.proofs.fast.is_general_check_right.Tie as tie
@@ -45,7 +45,7 @@ digit-of-remainder-requires c κs = search needs
 
 add-result : tie.Need-add-result
 add-result c =
-    let small = rule-small (c .before .before .before .before .before .before .before .args .m) (c .before .remainder .result) in
+    let small = rule-is-one-digit (c .before .before .before .before .before .before .before .args .m) (c .before .remainder .result) in
     record { fits = rw (c .digit-of-remainder .ensures) (omega arith) }
 
 returns : tie.Need-returns
