@@ -5,15 +5,15 @@ use mathlib.Core.Logic.{⊎-elim}
 use mathlib.Core.List.{List, [], _∷_, _++_, append-assoc, append-nil}
 use mathlib.Core.Path.{_≡_, refl, sym, ap, _∙_}
 use native.Mathlib.Omega.{arith}
-use borrow.Author.Tests.{lt-ltb, ltb-true, eqb-true, eq-eqb, ne-eqb, le-leb}
-use lib.Dec.{leb, ltb, eqb}
+use borrow.Author.Tests.{lt-ltb, ltb-true, eqb-true, eq-eqb, ne-eqb}
+use lib.Dec.{ltb, eqb}
 use lib.ListN.{length, set, take, drop, length-append, length-drop, drop-of-length-le}
 use lib.Seq.{take-all}
 use Rattle.answer.specs.declared.Answer.{Answer}
-use Rattle.answer.specs.declared.Answer.the-variants.{Accepted, Refused}
-use Rattle.answer.specs.declared.Reason.the-variants.{WrongLength, NoDigit, UnknownSegment, UnknownKind, CheckTwoPlaces, TooWide}
-use Rattle.answer.specs.Orders.{require, _then_, behind, movedBy, ifAccepted}
-use Rattle.answer.proofs.Orders.{then-accepts, moved-accepts}
+use Rattle.answer.specs.declared.Answer.the-variants.{Accepted}
+use Rattle.answer.specs.declared.Reason.the-variants.{WrongLength, NoDigit, UnknownSegment, UnknownKind, TooWide}
+use Rattle.answer.specs.Orders.{behind, ifAccepted}
+use Rattle.answer.proofs.Orders.{moved-accepts}
 use Rattle.answer.proofs.Steps.{passed}
 use Rattle.decimal.specs.declared.Class.the-variants.{Digit}
 use Rattle.decimal.specs.Bytes.{within, isOf, all, eachIs}
@@ -24,8 +24,7 @@ use Rattle.decimal.proofs.Bytes.{within-bounds, each-accepts}
 use Rattle.decimal.proofs.Finite.{or-cases}
 use Rattle.decimal.proofs.Places.{put-next, put-whole}
 use Rattle.barcode.specs.declared.Issuer.{Issuer}
-use Rattle.modulus.proofs.Sums.{check-is-one-digit}
-use Rattle.barcode.specs.Codes.{codeLength, isSegment, isKind, modulusOf, value, issuerEnd, issuer, free, generalCheck}
+use Rattle.barcode.specs.Codes.{codeLength, isSegment, isKind, value, issuerEnd, issuer, free, generalCheck}
 use Rattle.barcode.specs.Building.{headOf, tailOf, checkFor, codeWith, builtOf, buildAnswer}
 use Rattle.barcode.specs.RoundTrips.{WithinRanges, FieldsWithinRangesBuild}
 use Rattle.barcode.proofs.Codes.{issuer-end-range}
@@ -36,10 +35,6 @@ four-set (p ∷ []) a b c d h = absurd (omega arith)
 four-set (p ∷ q ∷ []) a b c d h = absurd (omega arith)
 four-set (p ∷ q ∷ r ∷ []) a b c d h = absurd (omega arith)
 four-set (p ∷ q ∷ r ∷ s ∷ l) a b c d h = refl
-
--- no check needs two places
-one-place : (i : Issuer) (kind amount : ℕ) (rest : List ℕ) → leb (checkFor i kind amount rest) 9 ≡ true
-one-place i kind amount rest = le-leb _ _ (check-is-one-digit (modulusOf kind) (headOf (i .segment) kind ++ tailOf i amount rest))
 
 pub fields-within-ranges-build : FieldsWithinRangesBuild
 unfolding buildAnswer
@@ -53,18 +48,17 @@ fields-within-ranges-build i kind amount rest =
           let r = passed (eqb (length rest) (widthOf (free (i .segment)))) WrongLength 0 (k .1) in
           let a = passed (ltb amount (10 ^ widthOf value)) TooWide 5 (r .1) in
           let n = passed (ltb (i .number) (10 ^ widthOf (issuer (i .segment)))) TooWide 16 (a .1) in
-          let d = then-accepts (movedBy (behind end) (eachIs (isOf Digit) NoDigit 1 rest)) (require (leb (checkFor i kind amount rest) 9) CheckTwoPlaces 4) .0 (n .1) .0 in
           record {
             segment = s .0;
             kinds = k .0;
             amounts = ltb-true _ _ (a .0);
             number = ltb-true _ _ (n .0);
             long = eqb-true _ _ (r .0);
-            digits = free-digits .0 (moved .0 d);
+            digits = free-digits .0 (moved .0 (n .1));
           },
       λ w.
           let digits = moved .1 (free-digits .1 (w .digits)) in
-          rw (w .segment, w .kinds, eq-eqb _ _ (w .long), lt-ltb _ _ (w .amounts), lt-ltb _ _ (w .number), digits, one-place i kind amount rest),
+          rw (w .segment, w .kinds, eq-eqb _ _ (w .long), lt-ltb _ _ (w .amounts), lt-ltb _ _ (w .number), digits),
     )
 
 pub ranges-of : (i : Issuer) (kind amount : ℕ) (rest : List ℕ) → buildAnswer codeLength i kind amount rest ≡ Accepted → WithinRanges i kind amount rest
@@ -127,11 +121,6 @@ module _ (s : ℕ) (rest : List ℕ) {e : ℕ} (ee : e ≡ issuerEnd s) where
 
   pub free-right : length rest ≡ 44 - e → eqb (length rest) (widthOf (free s)) ≡ true
   free-right h = eq-eqb _ _ (h ∙ sym free-width)
-
--- the last question of the order holds, and changes nothing
-pub one-place-last : (i : Issuer) (kind amount : ℕ) (rest : List ℕ) (a : Answer) → a ≡ a then require (leb (checkFor i kind amount rest) 9) CheckTwoPlaces 4
-one-place-last i kind amount rest Accepted = rw (one-place i kind amount rest)
-one-place-last i kind amount rest (Refused why p) = refl
 
 -- The code that was written.
 module _ (i : Issuer) (kind amount : ℕ) (rest : List ℕ) (fit : WithinRanges i kind amount rest) where

@@ -1,10 +1,9 @@
 -- A barcode built from its fields: issuer, kind, value and free field (SPEC.md, "Builder"). Assumes nothing.
 use Prim.Native.Nat.{ℕ, _+_, _^_}
 use mathlib.Core.List.{List, [], _∷_, _++_}
-use lib.Dec.{leb, ltb, eqb}
+use lib.Dec.{ltb, eqb}
 use lib.ListN.{length}
-use Rattle.answer.specs.declared.Reason.the-variants.{WrongLength, NoDigit, UnknownSegment, UnknownKind}
-use Rattle.answer.specs.declared.Reason.the-variants.{CheckTwoPlaces, TooWide}
+use Rattle.answer.specs.declared.Reason.the-variants.{WrongLength, NoDigit, UnknownSegment, UnknownKind, TooWide}
 use Rattle.answer.specs.declared.Answer.{Answer}
 use Rattle.answer.specs.Orders.{require, _then_, behind, movedBy, ifAccepted}
 use Rattle.decimal.specs.declared.Class.the-variants.{Digit}
@@ -31,7 +30,7 @@ codeWith check i kind amount rest = headOf (i .segment) kind ++ (48 + check) ∷
 abbrev pub builtOf : Issuer → ℕ → ℕ → List ℕ → List ℕ
 builtOf i kind amount rest = codeWith (checkFor i kind amount rest) i kind amount rest
 
--- builder: 1 for the caller's 44 bytes, 4, 5, 1 for the free field, 21 value, 21 issuer, 2, 20;
+-- builder: 1 for the caller's 44 bytes, 4, 5, 1 for the free field, 21 value, 21 issuer, 2;
 -- every place but 0 is a place in the barcode
 unfoldable pub buildAnswer : ℕ → Issuer → ℕ → ℕ → List ℕ → Answer
 buildAnswer size i kind amount rest =
@@ -42,7 +41,6 @@ buildAnswer size i kind amount rest =
     then require (ltb amount (10 ^ widthOf value)) TooWide (value .first)
     then require (ltb (i .number) (10 ^ widthOf (issuer (i .segment)))) TooWide ((issuer (i .segment)) .first)
     then movedBy (behind (issuerEnd (i .segment))) (eachIs (isOf Digit) NoDigit 1 rest)
-    then require (leb (checkFor i kind amount rest) 9) CheckTwoPlaces 4
 
 -- the caller's buffer after it: the barcode, or what it held before if the answer is a refusal
 abbrev pub builtInto : Answer → Issuer → ℕ → ℕ → List ℕ → List ℕ → List ℕ

@@ -12,8 +12,7 @@ use answer::Answer;
 use answer::Reason;
 use decimal::Class;
 
-// The builder's order between the length of the caller's buffer and 20, which no fields are refused for. Places are
-// those in the barcode.
+// The builder's checks after that of the buffer's length, in their order. Places are those in the barcode.
 fn check_fields(issuer: Issuer, kind: u64, value: u64, free: &[u8]) -> Answer
     ensures { λ r. ⌜ r ≡ buildAnswer codeLength issuer kind value (now (free .entry)) ⌝ }
 {
@@ -73,23 +72,17 @@ fn general_check(code: &[u8]) -> u64
     modulus::digit_of_remainder(m, modulus::remainder(m, left + right))
 }
 
-// The barcode with its check, put into the caller's buffer once the check is known. A check has one digit, so 20 is
-// never given; it keeps its place in the order.
-fn finish(issuer: Issuer, kind: u64, value: u64, free: &[u8], out: &mut [u8]) -> Answer
+// The barcode with its check, put into the caller's buffer.
+fn finish(issuer: Issuer, kind: u64, value: u64, free: &[u8], out: &mut [u8])
     requires { ⌜ length (now out) ≡ codeLength ⌝ }
     requires { ⌜ buildAnswer codeLength issuer kind value (now free) ≡ answers.Accepted ⌝ }
-    ensures answer { λ r. ⌜ r ≡ answers.Accepted ⌝ }
-    ensures bytes { λ _. ⌜ now (out .exit) ≡ builtOf issuer kind value (now (free .entry)) ⌝ }
+    ensures { λ _. ⌜ now (out .exit) ≡ builtOf issuer kind value (now (free .entry)) ⌝ }
 {
     let mut code = [48u8; parts::LENGTH];
     put_fields(issuer, kind, value, free, &mut code);
     let check = general_check(&code);
-    if 9 < check {
-        return Answer::Refused(Reason::CheckTwoPlaces, 4);
-    }
     code[3] = (48 + check) as u8;
     decimal::put(&code, out, 0);
-    Answer::Accepted
 }
 
 // Builds the barcode with its general check into the caller's buffer of 44 bytes. A refusal leaves the buffer as it
@@ -104,6 +97,9 @@ pub fn build(issuer: Issuer, kind: u64, value: u64, free: &[u8], out: &mut [u8])
     let checked = check_fields(issuer, kind, value, free);
     match checked {
         Answer::Refused(_, _) => checked,
-        Answer::Accepted => finish(issuer, kind, value, free, out),
+        Answer::Accepted => {
+            finish(issuer, kind, value, free, out);
+            Answer::Accepted
+        }
     }
 }

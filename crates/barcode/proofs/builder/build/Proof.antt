@@ -31,11 +31,10 @@ same-length c = search needs
 
 returns-3 : tie.Need-returns-3
 returns-3 c =
-    let finish = c .before .before .finish .ensures in
     let told = c .before .before .before .before in
     let checked = told .before .before in
-    let accepted = sym (checked .check-fields .ensures) ∙ told .enum-told2 .given .1 in
-    (rw (checked .before .if1 .left) (finish .0 ∙ sym accepted), rw (finish .0) (finish .1))
+    let accepted = sym (told .enum-told2 .given .1) ∙ checked .check-fields .ensures in
+    (rw (checked .before .if1 .left) accepted, c .before .before .finish .ensures)
 
 pub build-spec : {M : Type 1} → statement M
 build-spec =

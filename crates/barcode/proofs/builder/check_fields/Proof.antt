@@ -13,7 +13,7 @@ use Rattle.decimal.specs.declared.Class.the-variants.{Digit}
 use Rattle.decimal.specs.Bytes.{isOf, eachIs}
 use Rattle.decimal.proofs.Bytes.{each-place}
 use Rattle.barcode.specs.Building.{buildAnswer}
-use Rattle.barcode.proofs.Building.{free-wrong, free-right, one-place-last}
+use Rattle.barcode.proofs.Building.{free-wrong, free-right}
 use Rattle.barcode.proofs.builder.check_fields.Statement.{statement}
 use Rattle.barcode.proofs.builder.check_fields.Tie as tie
 
@@ -123,8 +123,7 @@ returns-6 c =
     let held = behind-is-exact (end .issuer-end .result) (eachIs (isOf Digit) NoDigit 1 free) (omega (arith, near, sized .if3 .left)) in
     let place = ap (λ (e : ℕ). movedBy (behind e) (eachIs (isOf Digit) NoDigit 1 free)) told in
     let digits = c .behind .ensures ∙ ap (movedBy (cappedBehind (end .issuer-end .result))) (c .before .require-class .ensures) ∙ held ∙ place in
-    let last = digits ∙ one-place-last (a .issuer) (a .kind) (a .value) free _ in
-    goes _ _ _ segment (goes _ _ _ kind (goes _ _ _ length (goes _ _ _ value (goes _ _ _ number last))))
+    goes _ _ _ segment (goes _ _ _ kind (goes _ _ _ length (goes _ _ _ value (goes _ _ _ number digits))))
 
 pub check-fields-spec : {M : Type 1} → statement M
 check-fields-spec =

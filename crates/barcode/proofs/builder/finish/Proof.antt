@@ -1,6 +1,4 @@
 -- `barcode::builder::finish` meets its contract. Assumes nothing.
-use mathlib.Core.Path.{refl}
-use native.Mathlib.Omega.{arith}
 use borrow.Author.Needs.{needs}
 use Rattle.barcode.proofs.Building.{ranges-of, finished}
 use Rattle.barcode.proofs.builder.finish.Statement.{statement}
@@ -17,9 +15,6 @@ slice-aggregate-general-check c = search needs
 
 general-check-requires : tie.Need-general-check-requires
 general-check-requires c κs = search needs
-
-returns : tie.Need-returns
-returns c = let small = c .before .general-check .ensures .1 in absurd (omega arith)
 
 add-code : tie.Need-add-code
 add-code c = search needs
@@ -39,17 +34,15 @@ put-requires c κs = search needs
 same-length : tie.Need-same-length
 same-length c = search needs
 
-returns-2 : tie.Need-returns-2
-returns-2 c =
-    let checked = c .before .before .before .before .before .before in
+returns : tie.Need-returns
+returns c =
+    let checked = c .before .before .before .before .before in
     let put = checked .before .before .before in
     let start = put .before .before .before .before in
     let a = start .args in
-    let fit = ranges-of _ _ _ _ (start .pre .1) in (
-      refl,
-      finished (a .issuer) (a .kind) (a .value) (a .free .now) fit (a .out .now) (start .pre .0)
-          (put .put-fields .ensures) (checked .general-check .ensures .0) (c .before .before .put .ensures),
-    )
+    let fit = ranges-of _ _ _ _ (start .pre .1) in
+    finished (a .issuer) (a .kind) (a .value) (a .free .now) fit (a .out .now) (start .pre .0)
+    (put .put-fields .ensures) (checked .general-check .ensures .0) (c .before .before .put .ensures)
 
 pub finish-spec : {M : Type 1} → statement M
 finish-spec =
@@ -59,11 +52,10 @@ finish-spec =
     put-fields-requires
     slice-aggregate-general-check
     general-check-requires
-    returns
     add-code
     cast-code
     array-write-code
     slice-aggregate-put
     put-requires
     same-length
-    returns-2)
+    returns)
