@@ -32,7 +32,7 @@ extern "C" {
 #endif
 
 /* The version of this header and of its library. */
-#define HOLLYTROT_VERSION "0.3.0"
+#define HOLLYTROT_VERSION "0.4.0"
 
 /* The lengths that buffers must have, exactly ("Limits"). */
 #define HOLLYTROT_BARCODE 44
@@ -52,7 +52,8 @@ typedef struct hollytrot_answer {
     size_t place;
 } hollytrot_answer;
 
-/* The numbers of answers. Later versions may add numbers, in any order and with gaps. */
+/* The numbers of answers. Later versions may add numbers, in any order and with gaps; one that was taken out is not used
+ * again. */
 enum {
     HOLLYTROT_ACCEPTED = 0,
     HOLLYTROT_WRONG_LENGTH = 1,        /* a length is not the required one */
@@ -74,7 +75,7 @@ enum {
     HOLLYTROT_BOARD_FULL = 17,         /* a new issuer when all 64 lanes are in use */
     HOLLYTROT_BOARD_TOTAL_PASSED = 18, /* a total of the board would pass 10^18 */
     HOLLYTROT_FILE_OPEN = 19,          /* the end of the input while a file is open */
-    HOLLYTROT_CHECK_TWO_PLACES = 20,   /* a computed check digit needs two places */
+    /* 20 is retired and is not used again */
     HOLLYTROT_TOO_WIDE = 21,           /* a number is too wide for its field */
     HOLLYTROT_NO_LINE_END = 22         /* a record of a lined file without CR and LF behind it */
 };

@@ -8,7 +8,7 @@ use crate::raw;
 /// consecutive, and nothing depends on the order.
 macro_rules! reasons {
     ($($name:ident = $number:literal, $words:literal;)*) => {
-        /// Why something was refused. Later versions of the specification may add reasons.
+        /// Why something was refused. Later versions of the specification may add and retire reasons.
         #[derive(Clone, Copy, Debug, PartialEq, Eq, Hash)]
         #[non_exhaustive]
         pub enum Reason {
@@ -49,7 +49,7 @@ reasons! {
     BoardFull = 17, "a new issuer when all lanes are in use";
     BoardTotalPassed = 18, "a total of the board would pass its limit";
     FileOpen = 19, "the end of the input while a file is open";
-    CheckTwoPlaces = 20, "a computed check digit needs two places";
+    // 20 is retired and is not used again.
     TooWide = 21, "a number is too wide for its field";
     NoLineEnd = 22, "a record of a lined file without CR and LF behind it";
 }
@@ -137,8 +137,9 @@ mod tests {
                 Err(Refusal { reason, place: 5 })
             );
         }
-        assert_eq!(Reason::from_number(0), None);
-        assert_eq!(Reason::from_number(u64::MAX), None);
+        for number in [0, 20, u64::MAX] {
+            assert_eq!(Reason::from_number(number), None);
+        }
     }
 
     #[test]

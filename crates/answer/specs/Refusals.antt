@@ -28,7 +28,6 @@ reasonNumber reason.FileTotalPassed = 16  -- a payment takes the file's total pa
 reasonNumber reason.BoardFull = 17  -- new issuer, all lanes taken
 reasonNumber reason.BoardTotalPassed = 18  -- a payment takes a board total past its limit
 reasonNumber reason.FileOpen = 19  -- end with a file open
-reasonNumber reason.CheckTwoPlaces = 20  -- a computed check needs two places
 reasonNumber reason.TooWide = 21  -- builder's or writer's number too wide
 reasonNumber reason.NoLineEnd = 22  -- a later record of a lined file, not followed by CR and LF
 
@@ -54,6 +53,10 @@ issuerPlace = 53
 -- a number names one reason
 abbrev pub NumbersDiffer : Type 0
 NumbersDiffer = (a b : Reason) → reasonNumber a ≡ reasonNumber b → a ≡ b
+
+-- 20 is retired: no reason has it
+abbrev pub TwentyIsRetired : Type 0
+TwentyIsRetired = (why : Reason) → reasonNumber why ≡ 20 → ⊥
 
 -- 0 names acceptance alone
 abbrev pub ZeroIsAccepted : Type 0

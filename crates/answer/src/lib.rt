@@ -28,7 +28,6 @@ pub enum Reason {
     BoardFull,
     BoardTotalPassed,
     FileOpen,
-    CheckTwoPlaces,
     TooWide,
     NoLineEnd,
 }
@@ -46,7 +45,7 @@ pub enum Answer {
 }
 
 impl Reason {
-    // The refusal's number in SPEC.md, "Refusals". No two reasons have the same, and none has 0.
+    // The refusal's number in SPEC.md, "Refusals". No two reasons have the same, and none has 0. 20 is retired.
     pub fn number(self) -> u8
         ensures { λ r. ⌜ r ≡ reasonNumber self ⌝ }
     {
@@ -70,7 +69,6 @@ impl Reason {
             Reason::BoardFull => 17,
             Reason::BoardTotalPassed => 18,
             Reason::FileOpen => 19,
-            Reason::CheckTwoPlaces => 20,
             Reason::TooWide => 21,
             Reason::NoLineEnd => 22,
         }

@@ -16,9 +16,6 @@ use reference::Reason;
 /// Fewer inputs than this are a failure.
 const LEAST_INPUTS: u64 = 5_000_000;
 
-/// The reason that never occurs: no computed check needs two places.
-const NEVER: Reason = Reason::WideCheck;
-
 /// A number of the environment, or the default if it is not set.
 fn variable(name: &str, default: u64) -> u64 {
     match env::var(name) {
@@ -69,8 +66,7 @@ fn missing(counts: &Counts) -> Option<String> {
     if counts.inputs < LEAST_INPUTS {
         return Some(format!("only {} inputs", counts.inputs));
     }
-    let expected = Reason::ALL.iter().filter(|&&reason| reason != NEVER);
-    let mut numbers = expected.map(|reason| reason.number()).chain([0]);
+    let mut numbers = Reason::ALL.iter().map(|reason| reason.number()).chain([0]);
     let unseen = numbers.find(|number| !counts.answers.contains_key(number))?;
     Some(format!("no input was answered {unseen}"))
 }

@@ -87,7 +87,7 @@ pub fn free_field(barcode: &[u8]) -> &[u8] {
 }
 
 /// Builds a barcode from its fields. Order: 1 for `out`, 4, 5, 1 for the free field, 21 for the value, 21 for the
-/// issuer, 2, 20. A refusal does not change `out`.
+/// issuer, 2. A refusal does not change `out`.
 pub fn build(
     segment: u64,
     kind: u64,
@@ -116,11 +116,8 @@ pub fn build(
     }
     built[first_free - 1..].copy_from_slice(free);
     check_digits(&built, 0)?;
-    let check = modulus.general_check(&built);
-    if check > 9 {
-        return Err(Reason::WideCheck.at(GENERAL_CHECK));
-    }
-    built[GENERAL_CHECK - 1] = b'0' + check as u8;
+    // A check is one digit, so the cast loses nothing.
+    built[GENERAL_CHECK - 1] = b'0' + modulus.general_check(&built) as u8;
     *out = built;
     Ok(())
 }

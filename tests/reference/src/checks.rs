@@ -71,7 +71,7 @@ impl Modulus {
     }
 
     /// The check digit of a remainder: the modulus less the remainder, but 0 for remainder 0, under modulo 11 also
-    /// for 1.
+    /// for 1. It is one digit: 10 less 1 to 9, and 11 less 2 to 10, are 9 to 1.
     #[inline]
     pub(crate) const fn check(self, remainder: u64) -> u64 {
         match (self, remainder) {

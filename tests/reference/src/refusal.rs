@@ -2,60 +2,56 @@
 
 use std::fmt;
 
-/// Why something was refused, with the numbers of docs/SPEC.md, "Refusals".
-#[derive(Clone, Copy, Debug, PartialEq, Eq, PartialOrd, Ord, Hash)]
-pub enum Reason {
-    Length = 1,
-    NoDigit = 2,
-    Product = 3,
-    Segment = 4,
-    Kind = 5,
-    BoxCheck = 6,
-    GeneralCheck = 7,
-    NoText = 8,
-    Unexpected = 9,
-    Fixed = 10,
-    NoDate = 11,
-    UnknownCode = 12,
-    TrailerCount = 13,
-    TrailerTotal = 14,
-    TooManyPayments = 15,
-    FileTotal = 16,
-    TooManyLanes = 17,
-    BoardTotal = 18,
-    FileOpen = 19,
-    WideCheck = 20,
-    WideNumber = 21,
-    NoLineEnd = 22,
+/// Defines [`Reason`], its `ALL` and its `words` from one list of rows: name, number, words.
+macro_rules! reasons {
+    ($($name:ident = $number:literal, $words:literal;)*) => {
+        /// Why something was refused, with the numbers of docs/SPEC.md, "Refusals".
+        #[derive(Clone, Copy, Debug, PartialEq, Eq, PartialOrd, Ord, Hash)]
+        pub enum Reason {
+            $($name = $number,)*
+        }
+
+        impl Reason {
+            /// Every reason, once. Nothing depends on the order.
+            pub const ALL: &'static [Reason] = &[$(Reason::$name),*];
+
+            /// What is wrong, in words.
+            pub const fn words(self) -> &'static str {
+                match self {
+                    $(Reason::$name => $words,)*
+                }
+            }
+        }
+    };
+}
+
+// docs/check-refusals reads these rows.
+reasons! {
+    Length = 1, "length is not the required one";
+    NoDigit = 2, "a byte is not a digit";
+    Product = 3, "product is not 8";
+    Segment = 4, "segment is not 1 to 7 or 9";
+    Kind = 5, "value kind is not 6 to 9";
+    BoxCheck = 6, "a box check is wrong";
+    GeneralCheck = 7, "general check is wrong";
+    NoText = 8, "a byte is not a text byte";
+    Unexpected = 9, "first byte names no record expected now";
+    Fixed = 10, "fixed field has other bytes";
+    NoDate = 11, "eight digits are not a date";
+    UnknownCode = 12, "capture or payment form unknown";
+    TrailerCount = 13, "trailer count differs";
+    TrailerTotal = 14, "trailer total differs";
+    TooManyPayments = 15, "a payment after 999,997 in the same file";
+    FileTotal = 16, "file total past its limit";
+    TooManyLanes = 17, "new issuer when all lanes are in use";
+    BoardTotal = 18, "a board total past 10^18";
+    FileOpen = 19, "end of the input while a file is open";
+    // 20 is retired: it must not be given to another reason.
+    WideNumber = 21, "number too wide for its field";
+    NoLineEnd = 22, "bytes 13 and 10 do not follow the record";
 }
 
 impl Reason {
-    /// Every reason: the numbers 1 to 22, each once. Nothing depends on the order.
-    pub const ALL: &'static [Reason] = &[
-        Reason::Length,
-        Reason::NoDigit,
-        Reason::Product,
-        Reason::Segment,
-        Reason::Kind,
-        Reason::BoxCheck,
-        Reason::GeneralCheck,
-        Reason::NoText,
-        Reason::Unexpected,
-        Reason::Fixed,
-        Reason::NoDate,
-        Reason::UnknownCode,
-        Reason::TrailerCount,
-        Reason::TrailerTotal,
-        Reason::TooManyPayments,
-        Reason::FileTotal,
-        Reason::TooManyLanes,
-        Reason::BoardTotal,
-        Reason::FileOpen,
-        Reason::WideCheck,
-        Reason::WideNumber,
-        Reason::NoLineEnd,
-    ];
-
     /// The number in docs/SPEC.md, "Refusals".
     pub const fn number(self) -> u64 {
         self as u64
@@ -66,34 +62,6 @@ impl Reason {
         Refusal {
             reason: self,
             place,
-        }
-    }
-
-    /// What is wrong, in words.
-    pub const fn words(self) -> &'static str {
-        match self {
-            Reason::Length => "length is not the required one",
-            Reason::NoDigit => "a byte is not a digit",
-            Reason::Product => "product is not 8",
-            Reason::Segment => "segment is not 1 to 7 or 9",
-            Reason::Kind => "value kind is not 6 to 9",
-            Reason::BoxCheck => "a box check is wrong",
-            Reason::GeneralCheck => "general check is wrong",
-            Reason::NoText => "a byte is not a text byte",
-            Reason::Unexpected => "first byte names no record expected now",
-            Reason::Fixed => "fixed field has other bytes",
-            Reason::NoDate => "eight digits are not a date",
-            Reason::UnknownCode => "capture or payment form unknown",
-            Reason::TrailerCount => "trailer count differs",
-            Reason::TrailerTotal => "trailer total differs",
-            Reason::TooManyPayments => "a payment after 999,997 in the same file",
-            Reason::FileTotal => "file total past its limit",
-            Reason::TooManyLanes => "new issuer when all lanes are in use",
-            Reason::BoardTotal => "a board total past 10^18",
-            Reason::FileOpen => "end of the input while a file is open",
-            Reason::WideCheck => "a computed check digit needs two places",
-            Reason::WideNumber => "number too wide for its field",
-            Reason::NoLineEnd => "bytes 13 and 10 do not follow the record",
         }
     }
 }

@@ -3,9 +3,11 @@
 
 mod common;
 
-use common::{assert_answer, barcode_of_line, code_for, p4_code, with_byte, P4};
+use std::collections::BTreeSet;
+
+use common::{assert_answer, barcode_of_line, code_for, naive, p4_code, with_byte, P4};
 use reference::random::Random;
-use reference::{answer, barcode, days, line, Date, Modulus, Reason};
+use reference::{answer, barcode, days, line, Date, Modulus};
 
 fn built(free: &[u8; 25]) -> [u8; 44] {
     let mut code = [0; 44];
@@ -147,13 +149,24 @@ fn no_check_needs_two_places() {
             assert_eq!(modulus.remainder(digits), Ok(remainder));
             assert_eq!(modulus.check_digit(digits), Ok(check));
         }
+        let remainders: BTreeSet<u64> = rows.iter().map(|row| row.1).collect();
+        assert_eq!(remainders, (0..modulus.number()).collect());
     }
-    // So 20, the last of the builder's order, never occurs.
-    assert_eq!(Reason::WideCheck.number(), 20);
+}
+
+/// Valid fields build a barcode that is accepted. Its check is one digit, and each of the ten occurs in each kind.
+#[test]
+fn valid_fields_are_built() {
     let mut random = Random::new(20);
+    let mut checks = BTreeSet::new();
     for _ in 0..50_000 {
-        assert_answer(days::barcode(&mut random), 0, 0);
+        let code = days::barcode(&mut random).expect("valid fields");
+        let decoded = barcode::decode(&code).expect("accepted");
+        assert_eq!(naive::barcode(&code), Ok(()));
+        checks.insert((decoded.kind, code[3]));
     }
+    let expected = (6..=9).flat_map(|kind| (b'0'..=b'9').map(move |check| (kind, check)));
+    assert_eq!(checks, expected.collect());
 }
 
 #[test]

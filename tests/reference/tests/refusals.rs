@@ -4,9 +4,7 @@ mod common;
 
 use std::collections::BTreeSet;
 
-use common::{
-    a, assert_answer, code_for, decode, followed, g, p4_code, with_byte, with_bytes, z, P4,
-};
+use common::{a, assert_answer, decode, followed, g, p4_code, with_byte, with_bytes, z, P4};
 use reference::{answer, barcode, line, records, Board, Date, Modulus, Reason, Refusal, Session};
 
 /// A session with an open file that has these figures.
@@ -19,57 +17,6 @@ fn session(taken: u64, total: u64, change: impl Fn(&mut Board)) -> Session {
     session
 }
 
-/// The table of docs/SPEC.md, "Refusals".
-const NUMBERS: [(Reason, u64); 22] = [
-    (Reason::Length, 1),
-    (Reason::NoDigit, 2),
-    (Reason::Product, 3),
-    (Reason::Segment, 4),
-    (Reason::Kind, 5),
-    (Reason::BoxCheck, 6),
-    (Reason::GeneralCheck, 7),
-    (Reason::NoText, 8),
-    (Reason::Unexpected, 9),
-    (Reason::Fixed, 10),
-    (Reason::NoDate, 11),
-    (Reason::UnknownCode, 12),
-    (Reason::TrailerCount, 13),
-    (Reason::TrailerTotal, 14),
-    (Reason::TooManyPayments, 15),
-    (Reason::FileTotal, 16),
-    (Reason::TooManyLanes, 17),
-    (Reason::BoardTotal, 18),
-    (Reason::FileOpen, 19),
-    (Reason::WideCheck, 20),
-    (Reason::WideNumber, 21),
-    (Reason::NoLineEnd, 22),
-];
-
-#[test]
-fn each_reason_has_its_number() {
-    for (reason, number) in NUMBERS {
-        assert_eq!(reason.number(), number, "{reason:?}");
-        assert_eq!(answer::<()>(&Err(reason.at(7))), (number, 7));
-    }
-    let mut all: Vec<u64> = Reason::ALL.iter().map(|reason| reason.number()).collect();
-    all.sort_unstable();
-    assert_eq!(all, (1..=22).collect::<Vec<u64>>());
-}
-
-#[test]
-fn no_two_reasons_share_words() {
-    let words: BTreeSet<&str> = Reason::ALL.iter().map(|reason| reason.words()).collect();
-    assert_eq!(words.len(), 22);
-}
-
-#[test]
-fn a_refusal_shows_number_place_and_reason() {
-    let refusal = Reason::GeneralCheck.at(41);
-    assert_eq!(refusal.to_string(), "7 at 41: general check is wrong");
-    assert_eq!(answer::<()>(&Err(refusal)), (7, 41));
-    assert_eq!(answer(&Ok(5)), (0, 0));
-}
-
 #[test]
 fn each_number_with_its_place() {
     let code = p4_code();
@@ -77,7 +24,7 @@ fn each_number_with_its_place() {
     let mut seen = BTreeSet::new();
     let mut assert_seen = |outcome: Result<(), Refusal>, number: u64, place: usize| {
         assert_eq!(answer(&outcome), (number, place));
-        seen.insert(number);
+        seen.extend(outcome.err().map(|refusal| refusal.reason));
     };
     let check_barcode = |bytes: &[u8]| barcode::decode(bytes).map(|_| ());
     let check_line = |bytes: &[u8]| line::decode(bytes).map(|_| ());
@@ -194,8 +141,7 @@ fn each_number_with_its_place() {
         16,
     );
     assert_eq!(out, [0; 44]);
-    // All but 20: no computed check needs two places.
-    assert_eq!(seen, (1..=22).filter(|&number| number != 20).collect());
+    assert_eq!(seen, Reason::ALL.iter().copied().collect());
 }
 
 #[test]
@@ -334,22 +280,4 @@ fn every_date_of_the_calendar() {
     }
     // 300 years, with 73 leap years: every fourth, without 1900 and 2100.
     assert_eq!(real, 300 * 365 + 73);
-}
-
-#[test]
-fn issuers_differ_by_segment() {
-    let mut session = Session::new();
-    for record in [
-        a(),
-        g(&code_for(1, 3659), 1),
-        g(&code_for(2, 3659), 2),
-        g(&code_for(1, 3659), 4),
-        z(5, 7),
-    ] {
-        assert_answer(session.take(&record), 0, 0);
-    }
-    let lanes = session.board().in_use();
-    assert_eq!(lanes.len(), 2);
-    assert_eq!((lanes[0].payments, lanes[0].centavos), (2, 5));
-    assert_eq!((lanes[1].payments, lanes[1].centavos), (1, 2));
 }

@@ -209,3 +209,21 @@ fn run_takes_records_up_to_a_refusal() {
     assert_eq!((run.records, run.bytes), (1, 150));
     assert_answer(run.answer, 13, 2);
 }
+
+#[test]
+fn issuers_differ_by_segment() {
+    let mut session = Session::new();
+    for record in [
+        a(),
+        g(&code_for(1, 3659), 1),
+        g(&code_for(2, 3659), 2),
+        g(&code_for(1, 3659), 4),
+        z(5, 7),
+    ] {
+        assert_answer(session.take(&record), 0, 0);
+    }
+    let lanes = session.board().in_use();
+    assert_eq!(lanes.len(), 2);
+    assert_eq!((lanes[0].payments, lanes[0].centavos), (2, 5));
+    assert_eq!((lanes[1].payments, lanes[1].centavos), (1, 2));
+}
