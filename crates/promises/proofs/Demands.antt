@@ -1,7 +1,8 @@
 -- The three demands, from the crates' proofs. Assumes nothing.
-use Rattle.answer.proofs.Refusals.{numbers-differ, zero-is-accepted}
+use Rattle.answer.proofs.Refusals.{numbers-differ, twenty-is-retired, zero-is-accepted}
 use Rattle.answer.proofs.Orders.{then-refuses, first-refuses}
 use Rattle.decimal.proofs.Bytes.{each-refuses}
+use Rattle.modulus.proofs.Sums.{rule-is-one-digit, check-is-one-digit, check-is-a-digit}
 use Rattle.barcode.proofs.RoundTrips.{decoded-answers, fields-are-its-places, built-is-read}
 use Rattle.barcode.proofs.RoundTrips.{code-is-its-fields}
 use Rattle.barcode.proofs.Building.{fields-within-ranges-build}
@@ -66,6 +67,8 @@ demand-1 =
       numbered = numbers-differ;
       accepted = zero-is-accepted;
       places = refusals-point-at-places;
+      checks = (rule-is-one-digit, check-is-one-digit, check-is-a-digit);
+      retired = twenty-is-retired;
       order = then-refuses;
       row = first-refuses;
       boxes = first-refuses;

@@ -1,9 +1,10 @@
 -- The three demands, each as one statement that gathers the promises of the crates in the demand's own order. Words in
 -- quotation marks are the demand's. Assumes nothing.
-use Rattle.answer.specs.Refusals.{NumbersDiffer, ZeroIsAccepted}
+use Rattle.answer.specs.Refusals.{NumbersDiffer, TwentyIsRetired, ZeroIsAccepted}
 use Rattle.answer.specs.Orders.{ThenRefuses, FirstRefuses}
 use Rattle.decimal.specs.Bytes.{EachRefuses}
 use Rattle.decimal.specs.Places.{Stretch}
+use Rattle.modulus.specs.Checks.{RuleIsOneDigit, CheckIsOneDigit, CheckIsADigit}
 use Rattle.barcode.specs.RoundTrips.{DecodedAnswers, FieldsAreItsPlaces, BuiltIsRead}
 use Rattle.barcode.specs.RoundTrips.{FieldsWithinRangesBuild, CodeIsItsFields}
 use Rattle.line.specs.RoundTrips.{LineIsBoxesAndCode, FieldsGiveALine}
@@ -60,6 +61,9 @@ pub record Demand1 : Type 2 where
   pub numbered : NumbersDiffer
   pub accepted : ZeroIsAccepted
   pub places : RefusalsPointAtPlaces
+  -- under either rule a check is one digit, so no refusal has number 20, which stood for a check of two
+  pub checks : RuleIsOneDigit × CheckIsOneDigit × CheckIsADigit
+  pub retired : TwentyIsRetired
   -- "by a fixed order": the first refusal of two checks, of a row of fields, of the boxes from the first on, and of
   -- bytes from left to right
   pub order : ThenRefuses
