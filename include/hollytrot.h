@@ -52,8 +52,7 @@ typedef struct hollytrot_answer {
     size_t place;
 } hollytrot_answer;
 
-/* The numbers of answers. Later versions may add numbers, in any order and with gaps; one that was taken out is not used
- * again. */
+/* The numbers of answers. Later versions may add numbers, in any order and with gaps. */
 enum {
     HOLLYTROT_ACCEPTED = 0,
     HOLLYTROT_WRONG_LENGTH = 1,        /* a length is not the required one */
