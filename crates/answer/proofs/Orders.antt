@@ -10,7 +10,7 @@ use Rattle.answer.specs.declared.Reason.{Reason}
 use Rattle.answer.specs.declared.Answer.{Answer}
 use Rattle.answer.specs.declared.Answer.the-variants.{Accepted, Refused}
 use Rattle.answer.specs.Limits.{capped}
-use Rattle.answer.specs.Refusals.{answerPlace}
+use Rattle.answer.specs.Refusals.{reasonNumber, answerNumber, answerPlace}
 use Rattle.answer.specs.Orders.{require, _then_, firstRefusal, Each, StopsAt, RequireAccepts, ThenAccepts, ThenRefuses, ThenGroups, FirstAccepts, FirstRefuses, FirstJoins, MovedNumber, MovedAccepts, MovedThen, MovedTwice, BehindIsExact, RefusalKeeps, AcceptedTakes, SeenIfAccepted}
 
 -- an answer is accepted or refused, not both
@@ -125,3 +125,12 @@ require-place n false why p h = h
 pub then-place : (n : ℕ) (a b : Answer) → answerPlace a ≤ n → answerPlace b ≤ n → answerPlace (a then b) ≤ n
 then-place n Accepted b h k = k
 then-place n (Refused why p) b h k = h
+
+-- no number is past n where no single test has one past n
+pub require-number : (n : ℕ) (t : Bool) (why : Reason) (p : ℕ) → reasonNumber why ≤ n → answerNumber (require t why p) ≤ n
+require-number n true why p h = omega arith
+require-number n false why p h = h
+
+pub then-number : (n : ℕ) (a b : Answer) → answerNumber a ≤ n → answerNumber b ≤ n → answerNumber (a then b) ≤ n
+then-number n Accepted b h k = k
+then-number n (Refused why p) b h k = h

@@ -30,6 +30,7 @@ reasonNumber reason.BoardTotalPassed = 18  -- a payment takes a board total past
 reasonNumber reason.FileOpen = 19  -- end with a file open
 reasonNumber reason.TooWide = 21  -- builder's or writer's number too wide
 reasonNumber reason.NoLineEnd = 22  -- a later record of a lined file, not followed by CR and LF
+reasonNumber reason.WrongList = 25  -- list of agreed issuers too long, an entry that names none, or one twice
 
 -- accepted is 0, with place 0
 abbrev pub answerNumber : Answer → ℕ

@@ -30,6 +30,7 @@ pub enum Reason {
     FileOpen,
     TooWide,
     NoLineEnd,
+    WrongList,
 }
 
 // The places of a payment record, G, that refusals 16 to 18 point at: its received centavos, and the issuer in its
@@ -71,6 +72,7 @@ impl Reason {
             Reason::FileOpen => 19,
             Reason::TooWide => 21,
             Reason::NoLineEnd => 22,
+            Reason::WrongList => 25,
         }
     }
 }

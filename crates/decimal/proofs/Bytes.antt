@@ -14,9 +14,9 @@ use lib.Seq.{drop-cons, take-all, take-take, take-add}
 use Rattle.answer.specs.declared.Reason.{Reason}
 use Rattle.answer.specs.declared.Answer.{Answer}
 use Rattle.answer.specs.declared.Answer.the-variants.{Accepted, Refused}
-use Rattle.answer.specs.Refusals.{answerPlace}
+use Rattle.answer.specs.Refusals.{reasonNumber, answerNumber, answerPlace}
 use Rattle.answer.specs.Orders.{require, movedBy}
-use Rattle.answer.proofs.Orders.{require-accepts, then-accepts, moved-then, require-place, then-place}
+use Rattle.answer.proofs.Orders.{require-accepts, then-accepts, moved-then, require-place, then-place, require-number, then-number}
 use Rattle.decimal.specs.Bytes.{within, all, eachIs, AllJoins, AllOfPart, EachAccepts, EachRefuses, EachMoves}
 
 pub within-bounds : (lo hi b : ℕ) → within lo hi b ≡ true → (lo ≤ b) × (b ≤ hi)
@@ -76,6 +76,11 @@ each-place ok why p [] = omega arith
 each-place ok why p (b ∷ bs) =
     then-place (p + suc (length bs)) (require (ok b) why p) (eachIs ok why (suc p) bs) (require-place (p + suc (length bs)) (ok b) why p (omega arith))
     (omega (arith, each-place ok why (suc p) bs))
+
+pub each-number : (n : ℕ) (ok : ℕ → Bool) (why : Reason) (p : ℕ) (bs : List ℕ) → reasonNumber why ≤ n → answerNumber (eachIs ok why p bs) ≤ n
+each-number n ok why p [] h = omega arith
+each-number n ok why p (b ∷ bs) h =
+    then-number n (require (ok b) why p) (eachIs ok why (suc p) bs) (require-number n (ok b) why p h) (each-number n ok why (suc p) bs h)
 
 -- A loop at byte i, by what is known of the bytes from i on: the byte passes, it fails, there is none.
 module _ (ok : ℕ → Bool) (why : Reason) (bs : List ℕ) (i : ℕ) where
