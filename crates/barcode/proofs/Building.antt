@@ -1,7 +1,7 @@
 -- Laws of the builder: the pieces it writes, and what its answer tells. Assumes nothing.
 use Prim.Native.Nat.{ℕ, _+_, _-_, _^_, _≤_, _<_}
 use mathlib.Core.Bool.{true, false}
-use mathlib.Core.Logic.{⊎-elim}
+use mathlib.Core.Logic.{_↔_}
 use mathlib.Core.List.{List, [], _∷_, _++_, append-assoc, append-nil}
 use mathlib.Core.Path.{_≡_, refl, sym, ap, _∙_}
 use native.Mathlib.Omega.{arith}
@@ -16,18 +16,17 @@ use Rattle.answer.specs.Orders.{behind, ifAccepted}
 use Rattle.answer.proofs.Orders.{moved-accepts}
 use Rattle.answer.proofs.Steps.{passed}
 use Rattle.decimal.specs.declared.Class.the-variants.{Digit}
-use Rattle.decimal.specs.Bytes.{within, isOf, all, eachIs}
+use Rattle.decimal.specs.Bytes.{isOf, all, eachIs}
 use Rattle.decimal.specs.Numbers.{digitsOf, putNumberAnswer}
 use Rattle.decimal.specs.Places.{widthOf, putAt}
 use Rattle.decimal.proofs.Numbers.{digits-fill, digit-back, number-put}
-use Rattle.decimal.proofs.Bytes.{within-bounds, each-accepts}
-use Rattle.decimal.proofs.Finite.{or-cases}
+use Rattle.decimal.proofs.Bytes.{each-accepts}
 use Rattle.decimal.proofs.Places.{put-next, put-whole}
 use Rattle.barcode.specs.declared.Issuer.{Issuer}
 use Rattle.barcode.specs.Codes.{codeLength, isSegment, isKind, value, issuerEnd, issuer, free, generalCheck}
 use Rattle.barcode.specs.Building.{headOf, tailOf, checkFor, codeWith, builtOf, buildAnswer}
-use Rattle.barcode.specs.RoundTrips.{WithinRanges, FieldsWithinRangesBuild}
-use Rattle.barcode.proofs.Codes.{issuer-end-range}
+use Rattle.barcode.specs.RoundTrips.{WithinRanges}
+use Rattle.barcode.proofs.Codes.{issuer-end-range, kind-small}
 
 pub four-set : (l : List ℕ) (a b c d : ℕ) → length l ≡ 44 → set (set (set (set l 0 a) 1 b) 2 c) 3 d ≡ a ∷ b ∷ c ∷ d ∷ drop 4 l
 four-set [] a b c d h = absurd (omega arith)
@@ -36,9 +35,10 @@ four-set (p ∷ q ∷ []) a b c d h = absurd (omega arith)
 four-set (p ∷ q ∷ r ∷ []) a b c d h = absurd (omega arith)
 four-set (p ∷ q ∷ r ∷ s ∷ l) a b c d h = refl
 
-pub fields-within-ranges-build : FieldsWithinRangesBuild
+pub build-accepts : (i : Issuer) (kind amount : ℕ) (rest : List ℕ)
+    → (buildAnswer codeLength i kind amount rest ≡ Accepted) ↔ WithinRanges i kind amount rest
 unfolding buildAnswer
-fields-within-ranges-build i kind amount rest =
+build-accepts i kind amount rest =
     let end = issuerEnd (i .segment) in
     let free-digits = each-accepts (isOf Digit) NoDigit 1 rest in
     let moved = moved-accepts (behind end) (eachIs (isOf Digit) NoDigit 1 rest) in (
@@ -62,16 +62,7 @@ fields-within-ranges-build i kind amount rest =
     )
 
 pub ranges-of : (i : Issuer) (kind amount : ℕ) (rest : List ℕ) → buildAnswer codeLength i kind amount rest ≡ Accepted → WithinRanges i kind amount rest
-ranges-of i kind amount rest = fields-within-ranges-build i kind amount rest .0
-
--- segment and kind are one digit each
-pub segment-small : (s : ℕ) → isSegment s ≡ true → s ≤ 9
-segment-small s h =
-    ⊎-elim (λ e. omega (arith, within-bounds 1 7 s e .1)) (λ e. omega (arith, eqb-true s 9 e))
-    (or-cases (within 1 7 s) (eqb s 9) h)
-
-pub kind-small : (k : ℕ) → isKind k ≡ true → k ≤ 9
-kind-small k h = within-bounds 6 9 k h .1
+ranges-of i kind amount rest = build-accepts i kind amount rest .0
 
 -- The pieces, one behind the other.
 

@@ -2,38 +2,33 @@
 use Prim.Native.Nat.{ℕ, _+_, _-_, _%_, _≤_}
 use mathlib.Core.Bool.{Bool, true, false, cond}
 use mathlib.Core.List.{List, [], _++_, append-nil}
-use mathlib.Core.Logic.{_↔_}
-use mathlib.Core.Path.{_≡_, refl, sym, ap, _∙_}
+use mathlib.Core.Logic.{_↔_, ⊎-elim}
+use mathlib.Core.Path.{_≡_, refl, ap, _∙_}
 use native.Mathlib.Nat.{mod-add-mod, add-mod-mod}
 use native.Mathlib.Omega.{arith}
 use borrow.Author.Tests.{eqb-true, eq-eqb}
 use lib.Dec.{eqb}
 use lib.ListN.{length, take, drop, getD, length-drop}
-use lib.Seq.{length-take-le, take-take}
-use Rattle.answer.specs.declared.Reason.{Reason}
+use lib.Seq.{length-take-le}
 use Rattle.answer.specs.declared.Reason.the-variants.{WrongLength, NoDigit, WrongProduct, UnknownSegment, UnknownKind, WrongGeneralCheck}
-use Rattle.answer.specs.declared.Answer.{Answer}
 use Rattle.answer.specs.declared.Answer.the-variants.{Accepted, Refused}
-use Rattle.answer.specs.Refusals.{answerPlace}
-use Rattle.answer.specs.Orders.{require, _then_, ifAccepted}
-use Rattle.answer.proofs.Orders.{require-accepts, then-accepts, require-place, then-place}
+use Rattle.answer.specs.Refusals.{answerNumber, answerPlace}
+use Rattle.answer.specs.Orders.{require, _then_}
+use Rattle.answer.proofs.Orders.{require-accepts, then-accepts, require-place, then-place, require-number, then-number}
 use Rattle.answer.proofs.Steps.{passed}
+use Rattle.answer.proofs.Tests.{or-cases}
 use Rattle.decimal.specs.declared.Class.the-variants.{Digit}
-use Rattle.decimal.specs.Bytes.{isOf, all, eachIs}
+use Rattle.decimal.specs.Bytes.{within, isOf, all, eachIs}
 use Rattle.decimal.specs.Numbers.{valueOf, numberOf}
 use Rattle.decimal.specs.LowHalves.{lowNumberOf}
 use Rattle.decimal.specs.Places.{gather}
-use Rattle.decimal.proofs.Bytes.{each-place, each-accepts, all-of-part}
+use Rattle.decimal.proofs.Bytes.{within-bounds, each-place, each-number, each-accepts, all-of-part}
 use Rattle.decimal.proofs.Numbers.{low-of-digits}
-use Rattle.calendar.specs.declared.MaybeDate.{MaybeDate}
-use Rattle.calendar.specs.Dates.{dateOf}
 use Rattle.modulus.specs.declared.Modulus.{Modulus}
 use Rattle.modulus.specs.Checks.{sizeOf, weightedSum, digitOfRemainder, checkOf}
 use Rattle.modulus.proofs.Sums.{parts-compose}
-use Rattle.barcode.specs.declared.Fields.{Fields}
 use Rattle.barcode.specs.declared.Issuer.{Issuer}
-use Rattle.barcode.specs.declared.Decoded.the-variants as decoding
-use Rattle.barcode.specs.Codes.{issuerOf, digitAt, product, isSegment, isKind, modulusOf, checked, issuerEnd, firstThreeAnswer, generalCheck, generalRight, prefixAnswer, fullLengthAnswer, barcodeAnswer, freeOf, fieldsOf, decodedBarcode, shownFree}
+use Rattle.barcode.specs.Codes.{issuerOf, digitAt, product, isSegment, isKind, modulusOf, checked, issuerEnd, firstThreeAnswer, generalCheck, generalRight, prefixAnswer, fullLengthAnswer, barcodeAnswer}
 
 -- past the end
 pub no-digit : 0 ≡ valueOf 0
@@ -81,6 +76,24 @@ code-place code = go (eqb (length code) 44) refl
         then-place 45 (prefixAnswer code) (require (generalRight code) WrongGeneralCheck 4) (then-place 45 (eachIs (isOf Digit) NoDigit 1 code) (firstThreeAnswer code) (omega (arith, each-place (isOf Digit) NoDigit 1 code, eqb-true (length code) 44 e))
         (first-three-place code))
         (require-place 45 (generalRight code) WrongGeneralCheck 4 (omega arith))
+
+-- no refusal of its checks has a number past 7
+first-three-number : (l : List ℕ) → answerNumber (firstThreeAnswer l) ≤ 7
+unfolding firstThreeAnswer
+first-three-number l =
+    let a = require (eqb (digitAt 1 l) product) WrongProduct 1 in
+    let b = require (isSegment (digitAt 2 l)) UnknownSegment 2 in
+    let c = require (isKind (digitAt 3 l)) UnknownKind 3 in
+    then-number 7 a (b then c) (require-number 7 (eqb (digitAt 1 l) product) WrongProduct 1 (omega arith))
+    (then-number 7 b c (require-number 7 (isSegment (digitAt 2 l)) UnknownSegment 2 (omega arith)) (require-number 7 (isKind (digitAt 3 l)) UnknownKind 3 (omega arith)))
+
+pub prefix-number : (l : List ℕ) → answerNumber (prefixAnswer l) ≤ 7
+prefix-number l =
+    then-number 7 (eachIs (isOf Digit) NoDigit 1 l) (firstThreeAnswer l) (each-number 7 (isOf Digit) NoDigit 1 l (omega arith)) (first-three-number l)
+
+pub full-length-number : (code : List ℕ) → answerNumber (fullLengthAnswer code) ≤ 7
+full-length-number code =
+    then-number 7 (prefixAnswer code) (require (generalRight code) WrongGeneralCheck 4) (prefix-number code) (require-number 7 (generalRight code) WrongGeneralCheck 4 (omega arith))
 
 pub issuer-end-range : (s : ℕ) → (19 ≤ issuerEnd s) × (issuerEnd s ≤ 23)
 issuer-end-range s = go (eqb s 6)
@@ -134,16 +147,10 @@ accepted-length code e = good code e .long
 
 -- The fields of 44 digits, from what each part was read as.
 module _ (code : List ℕ) (n : length code ≡ 44) (a : all (isOf Digit) code ≡ true) where
-  part-number : {r : ℕ} (from count : ℕ) → count ≤ 19 → from + count ≤ 44 → r ≡ lowNumberOf (take count (drop from code)) → r ≡ numberOf (take count (drop from code))
+  pub part-number : {r : ℕ} (from count : ℕ) → count ≤ 19 → from + count ≤ 44 → r ≡ lowNumberOf (take count (drop from code)) → r ≡ numberOf (take count (drop from code))
   part-number from count small fits e =
       let l : length (take count (drop from code)) ≡ count = length-take-le count (drop from code) (omega (arith, length-drop from code)) in
       e ∙ low-of-digits (take count (drop from code)) (all-of-part (isOf Digit) from count code a) (omega arith)
-
-  due-part : (e : ℕ) → e ≤ 23 → take (e + 8 - e) (drop e code) ≡ take 8 (take (44 - (e + 1 - 1)) (drop (e + 1 - 1) code))
-  due-part e h =
-      let a : e + 8 - e ≡ 8 = omega arith in
-      let b : e + 1 - 1 ≡ e = omega arith in
-      rw (a, b) (sym (take-take 8 (44 - e) (drop e code) (omega arith)))
 
   pub as-issuer : {s e i : ℕ} → s ≡ digitAt 2 code → e ≡ issuerEnd s → i ≡ lowNumberOf (take (e - 15) (drop 15 code))
       → _≡_ {A = Issuer} (record { segment = s; number = i }) (issuerOf code)
@@ -152,16 +159,6 @@ module _ (code : List ℕ) (n : length code ≡ 44) (a : all (isOf Digit) code �
       let fi = part-number 15 (e - 15) (omega arith) (omega arith) ei in
       let f : e ≡ issuerEnd (digitAt 2 code) = ee ∙ ap issuerEnd es in
       rw (fi, f, es)
-
-  pub as-fields : {i : Issuer} {e k v : ℕ} {d : MaybeDate} → i ≡ issuerOf code → e ≡ issuerEnd (i .segment) → k ≡ digitAt 3 code
-      → v ≡ lowNumberOf (take 11 (drop 4 code)) → d ≡ dateOf (take (e + 8 - e) (drop e code))
-      → _≡_ {A = Fields} (record { kind = k; value = v; issuer = i; due = d }) (fieldsOf code)
-  as-fields {i} {e} ei ee ek ev ed =
-      let range = issuer-end-range (i .segment) in
-      let fv = part-number 4 11 (omega arith) (omega arith) ev in
-      let fd = ed ∙ ap dateOf (due-part e (omega arith)) in
-      let f : e ≡ issuerEnd (digitAt 2 code) = ee ∙ ap (λ (x : Issuer). issuerEnd (x .segment)) ei in
-      rw (ek, fv, fd, f, ei)
 
 -- 7 is what is left when nothing before it is refused
 pub general-wrong : (code : List ℕ) → length code ≡ 44 → prefixAnswer code ≡ Accepted → (barcodeAnswer code ≡ Accepted → ⊥)
@@ -172,22 +169,11 @@ general-wrong code n e h = go (generalRight code) refl
     go true g = absurd (h (rw (eq-eqb _ _ n, e, g)))
     go false g = rw (eq-eqb _ _ n, e, g)
 
--- What is shown, from the answer.
-module _ (code : List ℕ) where
-  pub as-refused : {why : Reason} {p : ℕ} → Refused why p ≡ barcodeAnswer code → decoding.Refused why p ≡ decodedBarcode code
-  as-refused e = rw (← e)
+-- segment and kind are one digit each
+pub segment-small : (s : ℕ) → isSegment s ≡ true → s ≤ 9
+segment-small s h =
+    ⊎-elim (λ e. omega (arith, within-bounds 1 7 s e .1)) (λ e. omega (arith, eqb-true s 9 e))
+    (or-cases (within 1 7 s) (eqb s 9) h)
 
-  pub as-read : {f : Fields} → barcodeAnswer code ≡ Accepted → f ≡ fieldsOf code → decoding.Read f ≡ decodedBarcode code
-  as-read e h = rw (h, e)
-
-  pub no-free : (barcodeAnswer code ≡ Accepted → ⊥) → [] ≡ shownFree code
-  no-free h = go (barcodeAnswer code) h
-    where
-      go : (a : Answer) → (a ≡ Accepted → ⊥) → [] ≡ ifAccepted a (freeOf code) []
-      go Accepted h = absurd (h refl)
-      go (Refused why p) h = refl
-
-  pub as-free : {e s : ℕ} → barcodeAnswer code ≡ Accepted → e ≡ issuerEnd s → s ≡ digitAt 2 code → take (44 - e) (drop e code) ≡ shownFree code
-  as-free {e} g h i =
-      let n : issuerEnd (digitAt 2 code) + 1 - 1 ≡ e = omega (arith, h ∙ ap issuerEnd i) in
-      rw (g, n)
+pub kind-small : (k : ℕ) → isKind k ≡ true → k ≤ 9
+kind-small k h = within-bounds 6 9 k h .1

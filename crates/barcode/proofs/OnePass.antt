@@ -10,8 +10,7 @@ use borrow.Author.Tests.{eqb-true, eq-eqb}
 use lib.Dec.{eqb}
 use lib.ListN.{length, take, drop, getD, length-drop}
 use lib.Seq.{take-all, length-take-le}
-use Rattle.answer.specs.declared.Answer.{Answer}
-use Rattle.answer.specs.declared.Answer.the-variants.{Accepted, Refused}
+use Rattle.answer.specs.declared.Answer.the-variants.{Accepted}
 use Rattle.decimal.specs.declared.Class.the-variants.{Digit}
 use Rattle.decimal.specs.Bytes.{isOf, all}
 use Rattle.decimal.specs.Numbers.{valueOf}
@@ -23,12 +22,8 @@ use Rattle.modulus.specs.declared.MaybeSums.the-variants.{NoSum}
 use Rattle.modulus.specs.Checks.{bothSums, weightedSum, sizeOf, digitOfRemainder}
 use Rattle.modulus.proofs.Columns.{no-sum-tells}
 use Rattle.modulus.proofs.Sums.{check-is-a-digit}
-use Rattle.barcode.specs.declared.Decoded.the-variants.{Read}
-use Rattle.barcode.specs.declared.Fields.{Fields}
-use Rattle.barcode.specs.declared.Issuer.{Issuer}
-use Rattle.barcode.specs.declared.MaybeIssuer.the-variants.{Is, NoIssuer}
 use Rattle.barcode.proofs.Codes.{general-as, first-three-accepts, good, accepted}
-use Rattle.barcode.specs.Codes.{digitAt, product, isSegment, isKind, modulusOf, checked, firstThreeAnswer, generalCheck, generalRight, barcodeAnswer, issuerOf, issuerIfAccepted, acceptedIssuer, fieldsOf, decoded, decodedBarcode}
+use Rattle.barcode.specs.Codes.{digitAt, product, isSegment, isKind, modulusOf, checked, firstThreeAnswer, generalCheck, generalRight, barcodeAnswer}
 
 -- a byte whose value passes a test that 0 fails is a digit
 shows : (ok : ℕ → Bool) → ok 0 ≡ false → (b : ℕ) → ok (valueOf b) ≡ true → isOf Digit b ≡ true
@@ -87,30 +82,3 @@ module _ (code : List ℕ) (n : length code ≡ 44) where
     λ t. let g = sym e ∙ t in accepted code (record { long = n; digits = right-digits code n l g h; first-three = l; general = g }),
     λ a. e ∙ good code a .general,
   )
-
--- The issuer of an accepted barcode.
-
-pub is-issuer : (code : List ℕ) {i : Issuer} → barcodeAnswer code ≡ Accepted → i ≡ issuerOf code → Is i ≡ acceptedIssuer code
-is-issuer code e f = rw (e, f)
-
-no-issuer-of : (a : Answer) (i : Issuer) → (a ≡ Accepted → ⊥) → NoIssuer ≡ issuerIfAccepted a i
-no-issuer-of Accepted i h = absurd (h refl)
-no-issuer-of (Refused why p) i h = refl
-
-pub no-issuer : (code : List ℕ) → (barcodeAnswer code ≡ Accepted → ⊥) → NoIssuer ≡ acceptedIssuer code
-no-issuer code h = no-issuer-of (barcodeAnswer code) (issuerOf code) h
-
-pub issuer-tells : (code : List ℕ) {i : Issuer} → Is i ≡ acceptedIssuer code → (barcodeAnswer code ≡ Accepted) × (i ≡ issuerOf code)
-issuer-tells code {i} e = go (barcodeAnswer code) e
-  where
-    go : (a : Answer) → Is i ≡ issuerIfAccepted a (issuerOf code) → (a ≡ Accepted) × (i ≡ issuerOf code)
-    go Accepted f = (refl, cc)
-    go (Refused why p) f = let z : _≡_ {A = ℕ} 0 1 = cc in absurd (omega arith)
-
--- a barcode that is read was accepted, and these are its fields
-pub read-tells : (code : List ℕ) {f : Fields} → Read f ≡ decodedBarcode code → (barcodeAnswer code ≡ Accepted) × (f ≡ fieldsOf code)
-read-tells code {f} e = go (barcodeAnswer code) e
-  where
-    go : (a : Answer) → Read f ≡ decoded a (fieldsOf code) → (a ≡ Accepted) × (f ≡ fieldsOf code)
-    go Accepted g = (refl, cc)
-    go (Refused why p) g = let z : _≡_ {A = ℕ} 0 1 = cc in absurd (omega arith)

@@ -5,11 +5,15 @@ use mathlib.Core.List.{List, [], _∷_, _++_, append-nil}
 use mathlib.Core.Path.{_≡_, refl, sym, ap, _∙_}
 use native.Mathlib.Omega.{arith}
 use borrow.Author.Tests.{eqb-true, eq-eqb}
+use lib.Dec.{eqb}
 use lib.ListN.{length, getD, take, drop, length-drop, take-append-drop}
 use lib.Seq.{length-take-le, take-all, take-at, drop-at, drop-drop}
 use Rattle.answer.specs.declared.Answer.{Answer}
 use Rattle.answer.specs.declared.Answer.the-variants.{Accepted, Refused}
-use Rattle.answer.proofs.Orders.{refusal-keeps}
+use Rattle.answer.specs.Orders.{_then_}
+use Rattle.answer.specs.declared.Reason.the-variants.{WrongLength}
+use Rattle.answer.proofs.Orders.{then-accepts, refusal-keeps}
+use Rattle.answer.proofs.Steps.{passed}
 use Rattle.decimal.specs.declared.Class.the-variants.{Digit}
 use Rattle.decimal.specs.Bytes.{isOf, all}
 use Rattle.decimal.specs.Numbers.{valueOf, numberOf, digitsOf}
@@ -19,22 +23,63 @@ use Rattle.decimal.proofs.Places.{joins}
 use Rattle.decimal.proofs.Numbers.{digit-range, value-digit, digit-back, digits-fill, number-of-digits, digits-of-number, number-fits}
 use Rattle.modulus.specs.Checks.{checkOf}
 use Rattle.modulus.proofs.Sums.{check-is-a-digit}
+use Rattle.barcode.specs.declared.Fields.{Fields}
 use Rattle.barcode.specs.declared.Issuer.{Issuer}
-use Rattle.barcode.specs.Codes.{digitAt, product, modulusOf, checked, value, issuerEnd, issuer, free, issuerOf, freeOf, fieldsOf, generalCheck, generalRight, barcodeAnswer, decoded}
-use Rattle.barcode.specs.Building.{headOf, tailOf, checkFor, builtOf, buildAnswer}
-use Rattle.barcode.specs.RoundTrips.{answerOfBarcode, ShowsItsPlaces, DecodedAnswers, FieldsAreItsPlaces, CodeIsItsFields, BuiltIsRead, WithinRanges, RefusedBuildKeeps}
-use Rattle.barcode.proofs.Codes.{issuer-end-range, first-three-accepts, Good, good, accepted}
-use Rattle.barcode.proofs.Building.{fields-within-ranges-build, ranges-of, segment-small, kind-small, written-check, code-length}
+use Rattle.barcode.specs.Codes.{digitAt, product, modulusOf, checked, value, issuerEnd, issuer, free, issuerOf, freeOf, generalCheck, generalRight, barcodeAnswer}
+use Rattle.barcode.specs.Agreed.{listAnswer, freeAnswer, dueAnswer, barcodeUnder, barcodeCheck}
+use Rattle.barcode.specs.Shown.{fieldsOf, decoded}
+use Rattle.barcode.specs.Building.{headOf, tailOf, checkFor, builtOf, buildAnswer, buildCheck}
+use Rattle.barcode.specs.RoundTrips.{answerOfBarcode, ShowsItsPlaces, DecodedAnswers, DueIsShown, FieldsAreItsPlaces, CodeIsItsFields, BuiltIsRead, WithinRanges, FieldsWithinRangesBuild, RefusedBuildKeeps}
+use Rattle.barcode.proofs.Codes.{issuer-end-range, first-three-accepts, Good, good, accepted, segment-small, kind-small}
+use Rattle.barcode.proofs.Lists.{free-accepts, shows-due}
+use Rattle.barcode.proofs.Building.{build-accepts, ranges-of, written-check, code-length}
+
+pub decoded-answer : (a : Answer) (f : Fields) → answerOfBarcode (decoded a f) ≡ a
+decoded-answer Accepted f = refl
+decoded-answer (Refused why p) f = refl
 
 pub decoded-answers : DecodedAnswers
-decoded-answers code = go (barcodeAnswer code)
-  where
-    go : (a : Answer) → answerOfBarcode (decoded a (fieldsOf code)) ≡ a
-    go Accepted = refl
-    go (Refused why p) = refl
+decoded-answers agreed code = decoded-answer (barcodeCheck agreed code) (fieldsOf agreed code)
 
 pub refused-build-keeps : RefusedBuildKeeps
-refused-build-keeps out i kind amount rest h = refusal-keeps (buildAnswer (length out) i kind amount rest) (builtOf i kind amount rest) out h
+refused-build-keeps agreed out i kind amount rest h =
+    refusal-keeps (buildCheck agreed (length out) i kind amount rest) (builtOf i kind amount rest) out h
+
+-- Under a list: what the public answers tell.
+
+pub check-tells : (agreed code : List ℕ) → barcodeCheck agreed code ≡ Accepted → (listAnswer agreed ≡ Accepted) × (barcodeAnswer code ≡ Accepted) × (dueAnswer agreed code ≡ Accepted)
+check-tells agreed code e =
+    let list = then-accepts (listAnswer agreed) (barcodeUnder agreed code) .0 e in
+    let code = then-accepts (barcodeAnswer code) (dueAnswer agreed code) .0 (list .1) in
+    (list .0, code .0, code .1)
+
+pub build-tells : (agreed : List ℕ) (i : Issuer) (kind amount : ℕ) (rest : List ℕ) → buildCheck agreed 44 i kind amount rest ≡ Accepted
+    → (listAnswer agreed ≡ Accepted) × (buildAnswer 44 i kind amount rest ≡ Accepted) × (freeAnswer agreed i rest ≡ Accepted)
+build-tells agreed i kind amount rest e =
+    let list = then-accepts (listAnswer agreed) (buildAnswer 44 i kind amount rest then freeAnswer agreed i rest) .0 e in
+    let fields = then-accepts (buildAnswer 44 i kind amount rest) (freeAnswer agreed i rest) .0 (list .1) in
+    (list .0, fields .0, fields .1)
+
+-- what an accepting builder knows of the buffer and of the fields
+pub build-length : (agreed : List ℕ) (size : ℕ) (i : Issuer) (kind amount : ℕ) (rest : List ℕ) → buildCheck agreed size i kind amount rest ≡ Accepted
+    → (size ≡ 44) × (buildAnswer 44 i kind amount rest ≡ Accepted)
+unfolding buildAnswer
+build-length agreed size i kind amount rest e =
+    let list = then-accepts (listAnswer agreed) (buildAnswer size i kind amount rest then freeAnswer agreed i rest) .0 e in
+    let fields = then-accepts (buildAnswer size i kind amount rest) (freeAnswer agreed i rest) .0 (list .1) .0 in
+    let same = eqb-true size 44 (passed (eqb size 44) WrongLength 0 fields .0) in
+    (same, rw same at fields)
+
+pub due-is-shown : DueIsShown
+due-is-shown agreed code e = rw e (shows-due agreed (issuerOf code) (freeOf code) (check-tells agreed code e .2))
+
+pub fields-within-ranges-build : FieldsWithinRangesBuild
+fields-within-ranges-build agreed i kind amount rest right =
+    let ranges = build-accepts i kind amount rest in
+    let due = free-accepts agreed i rest in (
+      λ e. let told = build-tells agreed i kind amount rest e in (ranges .0 (told .1), due .0 (told .2)),
+      λ h. rw (right, ranges .1 (h .0), due .1 (h .1)),
+    )
 
 -- Of an accepted barcode.
 
@@ -115,29 +160,29 @@ part-below : (code : List ℕ) (from count : ℕ) → length code ≡ 44 → fro
 part-below code from count n h = rw (part-length code from count n h) at (number-fits (take count (drop from code)))
 
 pub code-is-its-fields : CodeIsItsFields
-code-is-its-fields code e =
-    let g = good code e in
+code-is-its-fields agreed code e =
+    let told = check-tells agreed code e in
+    let g = good code (told .1) in
     let three = first-three-accepts code .0 (g .first-three) in
     let s = digitAt 2 code in
     let range = issuer-end-range s in
-    let n = g .long in (
-      fields-within-ranges-build (issuerOf code) (digitAt 3 code) (numberOf (partAt value code)) (freeOf code) .1 (record {
-        segment = three .1;
-        kinds = three .2;
-        amounts = part-below code 4 11 n (omega arith);
-        number = part-below code 15 (issuerEnd s - 15) n (omega arith);
-        long = part-length code (issuerEnd s + 1 - 1) (44 - (issuerEnd s + 1 - 1)) n (omega arith);
-        digits = all-of-part (isOf Digit) (issuerEnd s + 1 - 1) (44 - (issuerEnd s + 1 - 1)) code (g .digits);
-      }),
-      built-back code g,
-    )
+    let n = g .long in
+    let built = build-accepts (issuerOf code) (digitAt 3 code) (numberOf (partAt value code)) (freeOf code) .1 (record {
+      segment = three .1;
+      kinds = three .2;
+      amounts = part-below code 4 11 n (omega arith);
+      number = part-below code 15 (issuerEnd s - 15) n (omega arith);
+      long = part-length code (issuerEnd s + 1 - 1) (44 - (issuerEnd s + 1 - 1)) n (omega arith);
+      digits = all-of-part (isOf Digit) (issuerEnd s + 1 - 1) (44 - (issuerEnd s + 1 - 1)) code (g .digits);
+    }) in
+    (rw (told .0, built, told .2), built-back code g)
 
 pub fields-are-its-places : FieldsAreItsPlaces
-fields-are-its-places code h =
-    let e = sym (decoded-answers code) ∙ h in
-    let g = good code e in
+fields-are-its-places agreed code h =
+    let e = sym (decoded-answers agreed code) ∙ h in
+    let g = good code (check-tells agreed code e .1) in
     let range = issuer-end-range (digitAt 2 code) in
-    let shows : ShowsItsPlaces code (fieldsOf code) = record { amount = part-digits code g 4 11 (omega arith); number = part-digits code g 15 (issuerEnd (digitAt 2 code) - 15) (omega arith); rest = rw e } in
+    let shows : ShowsItsPlaces agreed code (fieldsOf agreed code) = record { amount = part-digits code g 4 11 (omega arith); number = part-digits code g 15 (issuerEnd (digitAt 2 code) - 15) (omega arith); rest = rw e } in
     rw e shows
 
 -- What was built.
@@ -192,13 +237,27 @@ module _ (i : Issuer) (kind amount : ℕ) (rest : List ℕ) (fit : WithinRanges 
       ap (λ (x : ℕ). drop x code) (sym n) ∙ sym (drop-drop w 15 code) ∙ ap (drop w) behind-amount ∙ drop-at (digitsOf w (i .number)) rest w (digits-fill w (i .number) .0) in
       rw (b, f) (take-all (44 - e) rest (omega (arith, fit .long)))
 
+-- issuer and free field are read as they were given
+module _ (i : Issuer) (kind amount : ℕ) (rest : List ℕ) (fit : WithinRanges i kind amount rest) where
+  pub issuer-read : issuerOf (builtOf i kind amount rest) ≡ i
+  issuer-read =
+      let sg = digit-back (i .segment) (segment-small (i .segment) (fit .segment)) .1 in
+      rw (sg, number-read i kind amount rest fit)
+
+  pub rest-read : freeOf (builtOf i kind amount rest) ≡ rest
+  rest-read =
+      let sg = digit-back (i .segment) (segment-small (i .segment) (fit .segment)) .1 in
+      rw sg (free-read i kind amount rest fit)
+
 pub built-is-read : BuiltIsRead
-built-is-read i kind amount rest e =
-    let fit = ranges-of i kind amount rest e in
-    let a = accepted (builtOf i kind amount rest) (built-good i kind amount rest fit) in
-    let sg = digit-back (i .segment) (segment-small (i .segment) (fit .segment)) .1 in
-    let free = free-read i kind amount rest fit in
-    let number = number-read i kind amount rest fit in
+built-is-read agreed i kind amount rest e =
+    let told = build-tells agreed i kind amount rest e in
+    let fit = ranges-of i kind amount rest (told .1) in
+    let code = builtOf i kind amount rest in
+    let issuer = issuer-read i kind amount rest fit in
+    let free = rest-read i kind amount rest fit in
+    let due : dueAnswer agreed code ≡ Accepted = rw (issuer, free) (told .2) in
+    let a : barcodeCheck agreed code ≡ Accepted = rw (told .0, accepted code (built-good i kind amount rest fit), due) in
     let amounts = amount-read i kind amount rest fit in
     let kinds = digit-back kind (kind-small kind (fit .kinds)) .1 in
-    (rw (a, kinds, amounts, sg, number, free), rw (a, sg) free)
+    (rw (a, kinds, amounts, issuer, free), rw a free)

@@ -13,6 +13,7 @@ use Rattle.decimal.specs.Places.{widthOf}
 use Rattle.modulus.specs.Checks.{checkOf}
 use Rattle.barcode.specs.declared.Issuer.{Issuer}
 use Rattle.barcode.specs.Codes.{codeLength, product, isSegment, isKind, modulusOf, value, issuerEnd, issuer, free}
+use Rattle.barcode.specs.Agreed.{listAnswer, freeAnswer}
 
 -- the places before the check, and those behind it
 abbrev pub headOf : ℕ → ℕ → List ℕ
@@ -30,8 +31,8 @@ codeWith check i kind amount rest = headOf (i .segment) kind ++ (48 + check) ∷
 abbrev pub builtOf : Issuer → ℕ → ℕ → List ℕ → List ℕ
 builtOf i kind amount rest = codeWith (checkFor i kind amount rest) i kind amount rest
 
--- builder: 1 for the caller's 44 bytes, 4, 5, 1 for the free field, 21 value, 21 issuer, 2;
--- every place but 0 is a place in the barcode
+-- builder: 1 for the caller's 44 bytes, 4, 5, 1 for the free field, 21 value, 21 issuer, 2; every place but 0 is a
+-- place in the barcode
 unfoldable pub buildAnswer : ℕ → Issuer → ℕ → ℕ → List ℕ → Answer
 buildAnswer size i kind amount rest =
     require (eqb size codeLength) WrongLength 0
@@ -41,6 +42,11 @@ buildAnswer size i kind amount rest =
     then require (ltb amount (10 ^ widthOf value)) TooWide (value .first)
     then require (ltb (i .number) (10 ^ widthOf (issuer (i .segment)))) TooWide ((issuer (i .segment)) .first)
     then movedBy (behind (issuerEnd (i .segment))) (eachIs (isOf Digit) NoDigit 1 rest)
+
+-- as a caller asks it: 25 before everything, and behind 2 the due date of an issuer that agreed on one, 11
+abbrev pub buildCheck : List ℕ → ℕ → Issuer → ℕ → ℕ → List ℕ → Answer
+buildCheck agreed size i kind amount rest =
+    listAnswer agreed then buildAnswer size i kind amount rest then freeAnswer agreed i rest
 
 -- the caller's buffer after it: the barcode, or what it held before if the answer is a refusal
 abbrev pub builtInto : Answer → Issuer → ℕ → ℕ → List ℕ → List ℕ → List ℕ

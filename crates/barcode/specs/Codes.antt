@@ -3,27 +3,19 @@ use Prim.Native.Nat.{ℕ, _+_, _-_}
 use mathlib.Core.Bool.{Bool, cond, _||_}
 use mathlib.Core.List.{List, [], _∷_}
 use lib.Dec.{leb, eqb}
-use lib.ListN.{length, getD, take}
+use lib.ListN.{length, getD}
 use Rattle.answer.specs.declared.Reason.the-variants.{WrongLength, NoDigit, WrongProduct, UnknownSegment, UnknownKind}
 use Rattle.answer.specs.declared.Reason.the-variants.{WrongGeneralCheck}
 use Rattle.answer.specs.declared.Answer.{Answer}
-use Rattle.answer.specs.declared.Answer.the-variants as answer
-use Rattle.answer.specs.Orders.{require, _then_, ifAccepted}
+use Rattle.answer.specs.Orders.{require, _then_}
 use Rattle.decimal.specs.declared.Class.the-variants.{Digit}
 use Rattle.decimal.specs.Bytes.{within, isOf, eachIs}
 use Rattle.decimal.specs.Numbers.{valueOf, numberOf}
 use Rattle.decimal.specs.Places.{Stretch, partAt, gather}
-use Rattle.calendar.specs.declared.MaybeDate.the-variants.{NoDate}
-use Rattle.calendar.specs.Dates.{dateOf}
 use Rattle.modulus.specs.declared.Modulus.{Modulus}
 use Rattle.modulus.specs.declared.Modulus.the-variants.{Ten, Eleven}
 use Rattle.modulus.specs.Checks.{checkOf}
 use Rattle.barcode.specs.declared.Issuer.{Issuer}
-use Rattle.barcode.specs.declared.Fields.{Fields}
-use Rattle.barcode.specs.declared.MaybeIssuer.{MaybeIssuer}
-use Rattle.barcode.specs.declared.MaybeIssuer.the-variants.{Is, NoIssuer}
-use Rattle.barcode.specs.declared.Decoded.{Decoded}
-use Rattle.barcode.specs.declared.Decoded.the-variants.{Read, Refused}
 
 abbrev pub codeLength : ℕ
 codeLength = 44
@@ -74,16 +66,6 @@ issuerOf code = record { segment = digitAt 2 code; number = numberOf (partAt (is
 abbrev pub freeOf : List ℕ → List ℕ
 freeOf code = partAt (free (digitAt 2 code)) code
 
--- if the free field's first eight digits are a real date, that is the due date
-abbrev pub fieldsOf : List ℕ → Fields
-fieldsOf code =
-    record {
-      kind = digitAt 3 code;
-      value = numberOf (partAt value code);
-      issuer = issuerOf code;
-      due = dateOf (take 8 (freeOf code));
-    }
-
 -- The answer.
 
 -- 3, 4, 5
@@ -110,26 +92,3 @@ fullLengthAnswer code = prefixAnswer code then require (generalRight code) Wrong
 -- barcode: 1, 2 over all digits, 3, 4, 5, 7
 abbrev pub barcodeAnswer : List ℕ → Answer
 barcodeAnswer code = require (eqb (length code) codeLength) WrongLength 0 then fullLengthAnswer code
-
--- the issuer of an accepted barcode
-abbrev pub issuerIfAccepted : Answer → Issuer → MaybeIssuer
-issuerIfAccepted answer.Accepted issuer = Is issuer
-issuerIfAccepted (answer.Refused why place) issuer = NoIssuer
-
-abbrev pub acceptedIssuer : List ℕ → MaybeIssuer
-acceptedIssuer code = issuerIfAccepted (barcodeAnswer code) (issuerOf code)
-
--- What is shown: the fields and the free field of an accepted barcode; the refusal and no bytes of a refused one.
-
-abbrev pub decoded : Answer → Fields → Decoded
-decoded answer.Accepted fields = Read fields
-decoded (answer.Refused why place) fields = Refused why place
-
-abbrev pub noFields : Fields
-noFields = record { kind = 0; value = 0; issuer = record { segment = 0; number = 0 }; due = NoDate }
-
-abbrev pub decodedBarcode : List ℕ → Decoded
-decodedBarcode code = decoded (barcodeAnswer code) (fieldsOf code)
-
-abbrev pub shownFree : List ℕ → List ℕ
-shownFree code = ifAccepted (barcodeAnswer code) (freeOf code) []

@@ -5,8 +5,9 @@ ghost use lib.ListN.{length, drop};
 ghost use mathlib.Core.List.{_∷_, _++_};
 ghost use Rattle.answer.specs.declared.Answer.the-variants as answers;
 ghost use Rattle.barcode.specs.Codes.{codeLength, generalCheck};
-ghost use Rattle.barcode.specs.Building.{headOf, codeWith, builtOf, buildAnswer, builtInto};
+ghost use Rattle.barcode.specs.Building.{headOf, codeWith, builtOf, buildAnswer, buildCheck, builtInto};
 use crate::Issuer;
+use crate::agreed;
 use crate::parts;
 use answer::Answer;
 use answer::Reason;
@@ -85,16 +86,46 @@ fn finish(issuer: Issuer, kind: u64, value: u64, free: &[u8], out: &mut [u8])
     decimal::put(&code, out, 0);
 }
 
-// Builds the barcode with its general check into the caller's buffer of 44 bytes. A refusal leaves the buffer as it
-// was; its place is a place in the barcode, and 0 for a wrong length of the buffer or of the free field.
-pub fn build(issuer: Issuer, kind: u64, value: u64, free: &[u8], out: &mut [u8]) -> Answer
-    ensures answer { λ r. ⌜ r ≡ buildAnswer (length (now (out .entry))) issuer kind value (now (free .entry)) ⌝ }
-    ensures bytes { λ r. ⌜ now (out .exit) ≡ builtInto r issuer kind value (now (free .entry)) (now (out .entry)) ⌝ }
+// The builder's checks: the list, the buffer's length, the fields, then the due date of an issuer on the list.
+fn check_call(
+    issuer: Issuer,
+    kind: u64,
+    value: u64,
+    free: &[u8],
+    agreed: &[u64],
+    size: usize,
+) -> Answer
+    ensures { λ r. ⌜ r ≡ buildCheck (now (agreed .entry)) size issuer kind value (now (free .entry)) ⌝ }
 {
-    if out.len() != parts::LENGTH {
+    let list = agreed::check_list(agreed);
+    let Answer::Accepted = list else {
+        return list;
+    };
+    if size != parts::LENGTH {
         return Answer::Refused(Reason::WrongLength, 0);
     }
-    let checked = check_fields(issuer, kind, value, free);
+    let fields = check_fields(issuer, kind, value, free);
+    match fields {
+        Answer::Accepted => agreed::check_free(issuer, free, agreed),
+        Answer::Refused(_, _) => fields,
+    }
+}
+
+// Builds the barcode with its general check into the caller's buffer of 44 bytes. A refusal leaves the buffer as it
+// was; its place is a place in the barcode, and 0 for a wrong list, a wrong length of the buffer or of the free field.
+pub fn build(
+    issuer: Issuer,
+    kind: u64,
+    value: u64,
+    free: &[u8],
+    agreed: &[u64],
+    out: &mut [u8],
+) -> Answer
+    ensures answer { λ r. ⌜ r ≡ buildCheck (now (agreed .entry)) (length (now (out .entry))) issuer kind value
+        (now (free .entry)) ⌝ }
+    ensures bytes { λ r. ⌜ now (out .exit) ≡ builtInto r issuer kind value (now (free .entry)) (now (out .entry)) ⌝ }
+{
+    let checked = check_call(issuer, kind, value, free, agreed, out.len());
     match checked {
         Answer::Refused(_, _) => checked,
         Answer::Accepted => {

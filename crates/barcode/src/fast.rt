@@ -1,4 +1,4 @@
-// The fast path: whether a barcode is accepted, in one pass over its digits. Of a refused one it says nothing more:
+// The fast path: whether a barcode passes its checks, in one pass over its digits. Of any other it says nothing more:
 // `first_refusal` in in_order.rt then finds the reason and its place.
 //
 // The two must change together: what `is_accepted` refuses and `first_refusal` does not look for would be called a

@@ -13,7 +13,7 @@ pub(crate) struct Refusal {
     pub place: usize,
 }
 
-// 1, 2, 3, 4, 5, 7. A barcode that passes all but the last has a wrong general check: there is nothing else to refuse.
+// 1, 2, 3, 4, 5, 7. One that passes all but the last has a wrong general check: no other of these is left.
 pub(crate) fn first_refusal(code: &[u8]) -> Refusal
     requires { ⌜ (barcodeAnswer (now code) ≡ answers.Accepted → ⊥) ⌝ }
     ensures { λ r. ⌜ answers.Refused (r .why) (r .place) ≡ barcodeAnswer (now (code .entry)) ⌝ }

@@ -1,19 +1,21 @@
-// The collection barcode of 44 digits (SPEC.md, "Barcode"): checked, decoded, and built from its fields.
+// The collection barcode of 44 digits (SPEC.md, "Barcode"): checked, decoded, and built from its fields, under the list
+// of agreed issuers that the caller lends.
+mod agreed;
 pub mod builder;
 mod fast;
 mod in_order;
+pub mod judged;
 mod parts;
+mod reading;
 
-ghost use mathlib.Core.Bool.{true};
 ghost use mathlib.Core.Path.{_≡_};
-ghost use lib.ListN.{length};
-ghost use Rattle.decimal.specs.Bytes.{isOf, all};
-ghost use Rattle.barcode.specs.Codes.{codeLength, barcodeAnswer, issuerOf, fieldsOf, acceptedIssuer};
-ghost use Rattle.barcode.specs.Codes.{decodedBarcode, shownFree};
+ghost use Rattle.barcode.specs.Agreed.{barcodeCheck};
+ghost use Rattle.barcode.specs.Shown.{decodedBarcode, shownFree};
+pub use agreed::check_list;
+pub use agreed::key_of;
 use answer::Answer;
 use answer::Reason;
 use calendar::MaybeDate;
-use decimal::Class;
 pub use parts::LENGTH;
 pub use parts::check_prefix;
 pub use parts::issuer_width;
@@ -27,7 +29,8 @@ pub struct Issuer {
 }
 
 // What a barcode says beside its free field. The value is centavos under kinds 6 and 8, a reference quantity under 7
-// and 9. The due date is the first eight digits of the free field, if they are a date.
+// and 9. The due date is the first eight digits of the free field, of an issuer that agreed on due dates; of any other
+// there is none.
 pub struct Fields {
     pub kind: u64,
     pub value: u64,
@@ -47,77 +50,34 @@ pub enum MaybeIssuer {
     NoIssuer,
 }
 
-// Accepted, or the barcode's first refusal with its place; the place of a wrong length is 0.
-pub fn check(code: &[u8]) -> Answer
-    ensures { λ r. ⌜ r ≡ barcodeAnswer (now (code .entry)) ⌝ }
+// Accepted, or the first refusal with its place: 25 for the list, with no place, then the barcode's; the place of a
+// wrong length is 0.
+pub fn check(code: &[u8], agreed: &[u64]) -> Answer
+    ensures { λ r. ⌜ r ≡ barcodeCheck (now (agreed .entry)) (now (code .entry)) ⌝ }
 {
-    if fast::is_accepted(code) {
-        return Answer::Accepted;
-    }
-    let refusal = in_order::first_refusal(code);
-    let why = refusal.why;
-    Answer::Refused(why, refusal.place)
-}
-
-// The issuer of 44 digits, accepted or not.
-fn issuer_of(code: &[u8]) -> Issuer
-    requires { ⌜ length (now code) ≡ codeLength ⌝ }
-    requires { ⌜ all (isOf Class.Digit) (now code) ≡ true ⌝ }
-    ensures { λ r. ⌜ r ≡ issuerOf (now (code .entry)) ⌝ }
-{
-    let segment = parts::digit(code, 1);
-    let end = parts::issuer_end(segment);
-    Issuer {
-        segment,
-        number: decimal::low_number(&code[15..end]),
+    let list = agreed::check_list(agreed);
+    match list {
+        Answer::Accepted => judged::check(code, agreed),
+        Answer::Refused(_, _) => list,
     }
 }
 
-// The fields of 44 digits, accepted or not.
-fn fields_of(code: &[u8]) -> Fields
-    requires { ⌜ length (now code) ≡ codeLength ⌝ }
-    requires { ⌜ all (isOf Class.Digit) (now code) ≡ true ⌝ }
-    ensures { λ r. ⌜ r ≡ fieldsOf (now (code .entry)) ⌝ }
+// The fields of an accepted barcode, or the first refusal with its place, as `check` gives it.
+pub fn decode(code: &[u8], agreed: &[u64]) -> Decoded
+    ensures { λ r. ⌜ r ≡ decodedBarcode (now (agreed .entry)) (now (code .entry)) ⌝ }
 {
-    let issuer = issuer_of(code);
-    let end = parts::issuer_end(issuer.segment);
-    Fields {
-        kind: parts::digit(code, 2),
-        value: decimal::low_number(&code[4..15]),
-        issuer,
-        due: calendar::read_date(&code[end..end + 8]),
+    match agreed::check_list(agreed) {
+        Answer::Accepted => judged::decode(code, agreed),
+        Answer::Refused(why, place) => Decoded::Refused(why, place),
     }
 }
 
-// The issuer of an accepted barcode; of a refused one, none, and not why it is refused.
-pub fn accepted_issuer(code: &[u8]) -> MaybeIssuer
-    ensures { λ r. ⌜ r ≡ acceptedIssuer (now (code .entry)) ⌝ }
+// The free field as a part of the caller's bytes: 25 of them, in segment 6 21. Empty if `check` refuses.
+pub fn free_field<'a>(code: &'a [u8], agreed: &[u64]) -> &'a [u8]
+    ensures { λ r. ⌜ now r ≡ shownFree (now (agreed .entry)) (now (code .entry)) ⌝ }
 {
-    if !fast::is_accepted(code) {
-        return MaybeIssuer::NoIssuer;
+    match check(code, agreed) {
+        Answer::Accepted => reading::free_of(code),
+        Answer::Refused(_, _) => &code[0..0],
     }
-    MaybeIssuer::Is(issuer_of(code))
-}
-
-// The fields of an accepted barcode, or its first refusal with its place.
-pub fn decode(code: &[u8]) -> Decoded
-    ensures { λ r. ⌜ r ≡ decodedBarcode (now (code .entry)) ⌝ }
-{
-    if fast::is_accepted(code) {
-        return Decoded::Read(fields_of(code));
-    }
-    let refusal = in_order::first_refusal(code);
-    let why = refusal.why;
-    Decoded::Refused(why, refusal.place)
-}
-
-// The free field as a part of the caller's bytes: 25 of them, in segment 6 21. Empty for a refused barcode.
-pub fn free_field(code: &[u8]) -> &[u8]
-    ensures { λ r. ⌜ now r ≡ shownFree (now (code .entry)) ⌝ }
-{
-    if !fast::is_accepted(code) {
-        return &code[0..0];
-    }
-    let end = parts::issuer_end(parts::digit(code, 1));
-    &code[end..LENGTH]
 }

@@ -1,21 +1,29 @@
 -- `barcode::check` meets its contract. Assumes nothing.
-use mathlib.Core.Path.{sym}
 use borrow.Author.Needs.{needs}
-use Rattle.answer.proofs.Tests.{unequal}
+use Rattle.answer.proofs.Steps.{handed, onward}
 use Rattle.barcode.proofs.check.Statement.{statement}
 use Rattle.barcode.proofs.check.Tie as tie
 
-is-accepted-requires : tie.Need-is-accepted-requires
-is-accepted-requires c κs = search needs
+check-list-requires : tie.Need-check-list-requires
+check-list-requires c κs = search needs
+
+enum-told : tie.Need-enum-told
+enum-told c = search needs
+
+check-requires : tie.Need-check-requires
+check-requires c κs = search needs
+
+enum-told-2 : tie.Need-enum-told-2
+enum-told-2 c = search needs
 
 returns : tie.Need-returns
-returns c = sym (c .before .is-accepted .ensures .0 (c .if1 .taken))
-
-first-refusal-requires : tie.Need-first-refusal-requires
-first-refusal-requires c κs = λ e. unequal (c .before .is-accepted .ensures .1 e) (c .if1 .left)
+returns c =
+    let told = c .before in
+    onward (told .before .before .check-list .ensures) (told .enum-told .given .1) (c .check .ensures)
 
 returns-2 : tie.Need-returns-2
-returns-2 c = search needs
+returns-2 c = handed _ (c .before .before .check-list .ensures) (c .enum-told2 .given .1)
 
 pub check-spec : {M : Type 1} → statement M
-check-spec = tie.close (tie.spec is-accepted-requires returns first-refusal-requires returns-2)
+check-spec =
+    tie.close (tie.spec check-list-requires enum-told check-requires enum-told-2 returns returns-2)

@@ -1,31 +1,37 @@
 -- `barcode::decode` meets its contract. Assumes nothing.
+use mathlib.Core.Path.{sym, _∙_}
 use borrow.Author.Needs.{needs}
-use Rattle.answer.proofs.Tests.{unequal}
-use Rattle.barcode.proofs.Codes.{good, as-refused, as-read}
+use Rattle.barcode.specs.Agreed.{barcodeCheck}
+use Rattle.barcode.specs.Shown.{fieldsOf}
+use Rattle.barcode.proofs.Shown.{as-refused}
 use Rattle.barcode.proofs.decode.Statement.{statement}
 use Rattle.barcode.proofs.decode.Tie as tie
 
-is-accepted-requires : tie.Need-is-accepted-requires
-is-accepted-requires c κs = search needs
+check-list-requires : tie.Need-check-list-requires
+check-list-requires c κs = search needs
 
-fields-of-requires : tie.Need-fields-of-requires
-fields-of-requires c κs =
-    let checked = c .before in
-    let g = good (checked .before .before .args .code .now) (checked .is-accepted .ensures .0 (c .if1 .taken)) in
-    (g .long, g .digits)
+enum-told : tie.Need-enum-told
+enum-told c = search needs
+
+decode-requires : tie.Need-decode-requires
+decode-requires c κs = search needs
+
+enum-known-why : tie.Need-enum-known-why
+enum-known-why c = search needs
 
 returns : tie.Need-returns
 returns c =
-    let checked = c .before .before in
-    as-read (checked .before .before .args .code .now) (checked .is-accepted .ensures .0 (c .before .if1 .taken)) (c .fields-of .ensures)
-
-first-refusal-requires : tie.Need-first-refusal-requires
-first-refusal-requires c κs = λ e. unequal (c .before .is-accepted .ensures .1 e) (c .if1 .left)
+    let told = c .before in
+    rw (sym (told .before .before .check-list .ensures) ∙ told .enum-told .given .1) (c .decode .ensures)
 
 returns-2 : tie.Need-returns-2
-returns-2 c = as-refused (c .before .before .before .before .args .code .now) (c .first-refusal .ensures)
+returns-2 c =
+    let list = c .before .before .before in
+    let a = list .before .before .before .args in
+    as-refused {a = barcodeCheck (a .agreed .now) (a .code .now)} (fieldsOf (a .agreed .now) (a .code .now))
+    (rw (sym (list .check-list .ensures) ∙ c .before .why .given .1))
 
 pub decode-spec : {M : Type 1} → statement M
 decode-spec =
     tie.close
-    (tie.spec is-accepted-requires fields-of-requires returns first-refusal-requires returns-2)
+    (tie.spec check-list-requires enum-told decode-requires enum-known-why returns returns-2)

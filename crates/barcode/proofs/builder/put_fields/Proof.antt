@@ -1,8 +1,8 @@
 -- `barcode::builder::put_fields` meets its contract. Assumes nothing.
 use native.Mathlib.Omega.{arith}
 use borrow.Author.Needs.{needs}
-use Rattle.barcode.proofs.Codes.{issuer-end-range}
-use Rattle.barcode.proofs.Building.{ranges-of, segment-small, kind-small, pieces}
+use Rattle.barcode.proofs.Codes.{issuer-end-range, segment-small, kind-small}
+use Rattle.barcode.proofs.Building.{ranges-of, pieces}
 use Rattle.barcode.proofs.builder.put_fields.Statement.{statement}
 use Rattle.barcode.proofs.builder.put_fields.Tie as tie
 

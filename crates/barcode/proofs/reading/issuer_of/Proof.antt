@@ -1,8 +1,8 @@
--- `barcode::issuer_of` meets its contract. Assumes nothing.
+-- `barcode::reading::issuer_of` meets its contract. Assumes nothing.
 use borrow.Author.Needs.{needs}
 use Rattle.barcode.proofs.Codes.{as-issuer}
-use Rattle.barcode.proofs.issuer_of.Statement.{statement}
-use Rattle.barcode.proofs.issuer_of.Tie as tie
+use Rattle.barcode.proofs.reading.issuer_of.Statement.{statement}
+use Rattle.barcode.proofs.reading.issuer_of.Tie as tie
 
 digit-requires : tie.Need-digit-requires
 digit-requires c κs = search needs
