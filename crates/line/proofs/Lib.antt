@@ -1,2 +1,4 @@
+pub mod Boxes
 pub mod Lines
 pub mod RoundTrips
+pub mod UnderLists

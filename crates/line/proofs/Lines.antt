@@ -14,8 +14,8 @@ use Rattle.answer.specs.declared.Reason.{Reason}
 use Rattle.answer.specs.declared.Reason.the-variants.{WrongLength, WrongBoxCheck}
 use Rattle.answer.specs.declared.Answer.{Answer}
 use Rattle.answer.specs.declared.Answer.the-variants.{Accepted, Refused}
-use Rattle.answer.specs.Orders.{firstRefusal, Each}
-use Rattle.answer.proofs.Orders.{require-accepts, then-accepts}
+use Rattle.answer.specs.Orders.{_then_, firstRefusal, movedBy, Each}
+use Rattle.answer.proofs.Orders.{require-accepts, then-accepts, then-groups, moved-then}
 use Rattle.answer.proofs.Steps.{passed}
 use Rattle.decimal.specs.Places.{Stretch, putAt}
 use Rattle.decimal.proofs.Places.{put-next}
@@ -23,8 +23,10 @@ use Rattle.modulus.specs.declared.Modulus.{Modulus}
 use Rattle.modulus.specs.Checks.{checkOf}
 use Rattle.barcode.specs.declared.Fields.{Fields}
 use Rattle.barcode.specs.declared.Decoded.the-variants as decoding
-use Rattle.barcode.specs.Codes.{digitAt, modulusOf, fullLengthAnswer, barcodeAnswer, decoded}
-use Rattle.line.specs.Lines.{codeOf, boxRight, boxAnswer, checkedBox, lineBody, lineAnswer}
+use Rattle.barcode.specs.Codes.{digitAt, modulusOf, prefixAnswer, fullLengthAnswer, barcodeAnswer}
+use Rattle.barcode.specs.Agreed.{dueAnswer, barcodeUnder}
+use Rattle.barcode.specs.Shown.{decoded}
+use Rattle.line.specs.Lines.{boxes, codeOf, inLine, boxRight, boxAnswer, boxesThen, checkedBox, lineBody, lineAnswer, lineUnder}
 
 -- a box under the modulus in hand, which is the one that the line names
 module _ (line : List ℕ) (box : Stretch) {m : Modulus} {r : Bool} (em : m ≡ modulusOf (digitAt 3 line)) (er : r ≡ boxRight m line box) where
@@ -106,11 +108,26 @@ code-body line n = rw (eq-eqb _ _ (code-length line n))
 pub line-body : (line : List ℕ) → length line ≡ 48 → lineAnswer line ≡ lineBody line
 line-body line n = rw (eq-eqb _ _ n)
 
-pub line-short : (line : List ℕ) → (length line ≡ 48 → ⊥) → lineAnswer line ≡ Refused WrongLength 0
-line-short line h = rw (ne-eqb _ _ h)
+pub line-short : (agreed line : List ℕ) → (length line ≡ 48 → ⊥) → lineUnder agreed line ≡ Refused WrongLength 0
+line-short agreed line h = rw (ne-eqb _ _ h)
 
 pub line-length : (line : List ℕ) → lineAnswer line ≡ Accepted → length line ≡ 48
 line-length line e = eqb-true (length line) 48 (passed (eqb (length line) 48) WrongLength 0 e .0)
+
+pub line-under-length : (agreed line : List ℕ) → lineUnder agreed line ≡ Accepted → length line ≡ 48
+line-under-length agreed line e = line-length line (then-accepts (lineAnswer line) (movedBy inLine (dueAnswer agreed (codeOf line))) .0 e .0)
+
+-- behind the boxes comes the answer of the code under the same list
+pub line-under : (agreed line : List ℕ) → length line ≡ 48
+    → lineUnder agreed line ≡ prefixAnswer line then boxesThen line (barcodeUnder agreed (codeOf line))
+line-under agreed line n =
+    let prefix = prefixAnswer line in
+    let boxed = firstRefusal (boxAnswer line) boxes in
+    let code = fullLengthAnswer (codeOf line) in
+    let due = dueAnswer agreed (codeOf line) in
+    let checks : (a b : Answer) → (prefix then boxed then movedBy inLine a) then movedBy inLine b ≡ prefix then boxed then movedBy inLine (a then b) =
+    λ a b. then-groups prefix (boxed then movedBy inLine a) (movedBy inLine b) ∙ rw (then-groups boxed (movedBy inLine a) (movedBy inLine b), ← moved-then inLine a b) in
+    rw (line-body line n, code-body line n) (checks code due)
 
 -- what a decoder shows
 pub shown-refused : {a b : Answer} {why : Reason} {p : ℕ} (f : Fields) → a ≡ b → a ≡ Refused why p → decoding.Refused why p ≡ decoded b f

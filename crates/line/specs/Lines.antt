@@ -11,8 +11,9 @@ use Rattle.decimal.specs.Places.{Stretch, partAt, gather}
 use Rattle.modulus.specs.declared.Modulus.{Modulus}
 use Rattle.modulus.specs.Checks.{checkOf}
 use Rattle.barcode.specs.declared.Decoded.{Decoded}
-use Rattle.barcode.specs.Codes.{codeLength, digitAt, modulusOf, fieldsOf, prefixAnswer, fullLengthAnswer}
-use Rattle.barcode.specs.Codes.{barcodeAnswer, decoded}
+use Rattle.barcode.specs.Codes.{codeLength, digitAt, modulusOf, prefixAnswer, fullLengthAnswer}
+use Rattle.barcode.specs.Agreed.{listAnswer, dueAnswer, barcodeUnder}
+use Rattle.barcode.specs.Shown.{fieldsOf, decoded}
 
 abbrev pub lineLength : ℕ
 lineLength = 48
@@ -43,19 +44,31 @@ boxRight m line box = eqb (getD line (box .last) 0) (48 + checkOf m (partAt box 
 abbrev pub boxAnswer : List ℕ → Stretch → Answer
 boxAnswer line box = require (boxRight (modulusOf (digitAt 3 line)) line box) WrongBoxCheck (box .last + 1)
 
--- typed line: 1, 2, 3, 4, 5, 6, lowest box first, 7. Of its barcode's own order only 7 is left, as the rest came before
--- (`OnlySevenBehindBoxes`).
+-- 6, lowest box first, then an answer about the barcode, at its place in the line
+abbrev pub boxesThen : List ℕ → Answer → Answer
+boxesThen line ofCode = firstRefusal (boxAnswer line) boxes then movedBy inLine ofCode
+
 abbrev pub checksAnswer : List ℕ → Answer
-checksAnswer line = firstRefusal (boxAnswer line) boxes then movedBy inLine (fullLengthAnswer (codeOf line))
+checksAnswer line = boxesThen line (fullLengthAnswer (codeOf line))
 
 abbrev pub lineBody : List ℕ → Answer
 lineBody line = prefixAnswer line then checksAnswer line
 
+-- the checks of a typed line: 1, 2, 3, 4, 5, 6, then those of its barcode, of which only 7 is left, as the rest came
+-- before (`OnlySevenBehindBoxes`)
 abbrev pub lineAnswer : List ℕ → Answer
 lineAnswer line = require (eqb (length line) lineLength) WrongLength 0 then lineBody line
 
-abbrev pub decodedLine : List ℕ → Decoded
-decodedLine line = decoded (lineAnswer line) (fieldsOf (codeOf line))
+-- under a list of agreed issuers that was judged: last 11, at the free field's first place in the line
+abbrev pub lineUnder : List ℕ → List ℕ → Answer
+lineUnder agreed line = lineAnswer line then movedBy inLine (dueAnswer agreed (codeOf line))
+
+-- as a caller asks it: 25 before everything
+abbrev pub lineCheck : List ℕ → List ℕ → Answer
+lineCheck agreed line = listAnswer agreed then lineUnder agreed line
+
+abbrev pub decodedLine : List ℕ → List ℕ → Decoded
+decodedLine agreed line = decoded (lineCheck agreed line) (fieldsOf agreed (codeOf line))
 
 -- Written from a barcode: its quarters, each followed by its check.
 
@@ -77,11 +90,13 @@ withChecks m (q ∷ qs) code = checkedBox m (partAt q code) ++ withChecks m qs c
 abbrev pub lineOf : List ℕ → List ℕ
 lineOf code = withChecks (modulusOf (digitAt 3 code)) quarters code
 
--- Both conversions give 1 first if the length of the caller's buffer or of what is read is wrong, then the refusals of
--- what is read.
+-- Both conversions give 25 first, then 1 if the length of the caller's buffer or of what is read is wrong, then the
+-- refusals of what is read.
 
-abbrev pub toLineAnswer : ℕ → List ℕ → Answer
-toLineAnswer size code = require (eqb size lineLength) WrongLength 0 then barcodeAnswer code
+abbrev pub toLineCheck : List ℕ → ℕ → List ℕ → Answer
+toLineCheck agreed size code =
+    listAnswer agreed then require (eqb size lineLength) WrongLength 0 then barcodeUnder agreed code
 
-abbrev pub toCodeAnswer : ℕ → List ℕ → Answer
-toCodeAnswer size line = require (eqb size codeLength) WrongLength 0 then lineAnswer line
+abbrev pub toCodeCheck : List ℕ → ℕ → List ℕ → Answer
+toCodeCheck agreed size line =
+    listAnswer agreed then require (eqb size codeLength) WrongLength 0 then lineUnder agreed line

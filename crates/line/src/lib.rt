@@ -1,16 +1,19 @@
-// The typed line of 48 digits (SPEC.md, "Typed line"): checked, decoded, and turned into a barcode and back.
+// The typed line of 48 digits (SPEC.md, "Typed line"): checked, decoded, and turned into a barcode and back, under the
+// list of agreed issuers that the caller lends.
 ghost use mathlib.Core.Path.{_≡_};
 ghost use Prim.Native.Nat.{_+_, _≤_, _<_};
 ghost use lib.ListN.{length};
+ghost use Rattle.answer.specs.declared.Answer.the-variants as answers;
 ghost use Rattle.answer.specs.Refusals.{answerPlace};
-ghost use Rattle.answer.specs.Orders.{firstRefusal, movedBy, ifAccepted};
+ghost use Rattle.answer.specs.Orders.{_then_, firstRefusal, movedBy, ifAccepted};
 ghost use Rattle.decimal.specs.Places.{putAt};
 ghost use Rattle.modulus.specs.Checks.{checkOf};
-ghost use Rattle.barcode.specs.Codes.{codeLength, digitAt, modulusOf, barcodeAnswer};
+ghost use Rattle.barcode.specs.Codes.{codeLength, digitAt, modulusOf, prefixAnswer, barcodeAnswer};
+ghost use Rattle.barcode.specs.Shown.{fieldsOf, decoded};
 ghost use Rattle.barcode.specs.RoundTrips.{answerOfBarcode};
-ghost use Rattle.line.specs.Lines.{lineLength, boxes, codeOf, inLine, boxRight, boxAnswer, checksAnswer};
-ghost use Rattle.line.specs.Lines.{lineBody, lineAnswer, decodedLine, checkedBox, lineOf};
-ghost use Rattle.line.specs.Lines.{toLineAnswer, toCodeAnswer};
+ghost use Rattle.line.specs.Lines.{lineLength, boxes, codeOf, inLine, boxRight, boxAnswer, boxesThen};
+ghost use Rattle.line.specs.Lines.{lineUnder, lineCheck, decodedLine, checkedBox, lineOf};
+ghost use Rattle.line.specs.Lines.{toLineCheck, toCodeCheck};
 use answer::Answer;
 use answer::Reason;
 use barcode::Decoded;
@@ -91,10 +94,10 @@ fn answer_of(decoded: Decoded) -> Answer
     }
 }
 
-// 6, then 7: the boxes, then what is left of the answer of the line's barcode.
+// 6, then what is left of the answer of the line's barcode.
 fn check_check_digits(line: &[u8], code: Answer) -> Answer
-    requires { ⌜ (length (now line) ≡ lineLength) × (code ≡ barcodeAnswer (codeOf (now line))) ⌝ }
-    ensures { λ r. ⌜ r ≡ checksAnswer (now (line .entry)) ⌝ }
+    requires { ⌜ (length (now line) ≡ lineLength) × (answerPlace code ≤ 45) ⌝ }
+    ensures { λ r. ⌜ r ≡ boxesThen (now (line .entry)) code ⌝ }
 {
     let boxes = check_boxes(barcode::modulus_of_kind(decimal::value(line[2])), line);
     match boxes {
@@ -103,11 +106,12 @@ fn check_check_digits(line: &[u8], code: Answer) -> Answer
     }
 }
 
-// All checks but that of the length, given the answer of the line's barcode. A line whose check digits are right is
-// accepted (`LineIsBoxesAndCode`); only if one is wrong is an earlier refusal looked for.
+// All checks but that of the length, given the answer about the line's barcode. If that and the boxes accept, so does
+// the line (`LineIsBoxesAndCode`); only otherwise is an earlier refusal, 2 to 5, looked for.
 fn check_full_length(line: &[u8], code: Answer) -> Answer
-    requires { ⌜ (length (now line) ≡ lineLength) × (code ≡ barcodeAnswer (codeOf (now line))) ⌝ }
-    ensures { λ r. ⌜ r ≡ lineBody (now (line .entry)) ⌝ }
+    requires { ⌜ (length (now line) ≡ lineLength) × (answerPlace code ≤ 45)
+        × (code ≡ answers.Accepted → barcodeAnswer (codeOf (now line)) ≡ answers.Accepted) ⌝ }
+    ensures { λ r. ⌜ r ≡ prefixAnswer (now (line .entry)) then boxesThen (now (line .entry)) code ⌝ }
 {
     let checks = check_check_digits(line, code);
     match checks {
@@ -122,44 +126,71 @@ fn check_full_length(line: &[u8], code: Answer) -> Answer
     }
 }
 
-// Accepted, or the line's first refusal with its place in the line; the place of a wrong length is 0.
-pub fn check(line: &[u8]) -> Answer
-    ensures { λ r. ⌜ r ≡ lineAnswer (now (line .entry)) ⌝ }
+// The answer under a list that was judged.
+fn check_judged(line: &[u8], agreed: &[u64]) -> Answer
+    ensures { λ r. ⌜ r ≡ lineUnder (now (agreed .entry)) (now (line .entry)) ⌝ }
 {
     if line.len() != LENGTH {
         return Answer::Refused(Reason::WrongLength, 0);
     }
     let mut code = [48u8; barcode::LENGTH];
     put_code(line, &mut code);
-    check_full_length(line, barcode::check(&code))
+    check_full_length(line, barcode::judged::check(&code, agreed))
 }
 
-// The fields of an accepted line's barcode, or the line's first refusal with its place in the line.
-pub fn decode(line: &[u8]) -> Decoded
-    ensures { λ r. ⌜ r ≡ decodedLine (now (line .entry)) ⌝ }
+// The same answer, with the fields of an accepted line's barcode.
+fn decode_judged(line: &[u8], agreed: &[u64]) -> Decoded
+    ensures { λ r. ⌜ r ≡ decoded (lineUnder (now (agreed .entry)) (now (line .entry)))
+        (fieldsOf (now (agreed .entry)) (codeOf (now (line .entry)))) ⌝ }
 {
     if line.len() != LENGTH {
         return Decoded::Refused(Reason::WrongLength, 0);
     }
     let mut code = [48u8; barcode::LENGTH];
     put_code(line, &mut code);
-    let decoded = barcode::decode(&code);
+    let decoded = barcode::judged::decode(&code, agreed);
     match check_full_length(line, answer_of(decoded)) {
         Answer::Refused(why, place) => Decoded::Refused(why, place),
         Answer::Accepted => decoded,
     }
 }
 
-// Puts the barcode of an accepted line into the caller's buffer of 44 bytes. A refusal leaves the buffer as it was; a
-// wrong length of the buffer comes before anything about the line.
-pub fn to_barcode(line: &[u8], out: &mut [u8]) -> Answer
-    ensures answer { λ r. ⌜ r ≡ toCodeAnswer (length (now (out .entry))) (now (line .entry)) ⌝ }
+// Accepted, or the first refusal with its place in the line: 25 for the list, with no place, then the line's; the place
+// of a wrong length is 0.
+pub fn check(line: &[u8], agreed: &[u64]) -> Answer
+    ensures { λ r. ⌜ r ≡ lineCheck (now (agreed .entry)) (now (line .entry)) ⌝ }
+{
+    let list = barcode::check_list(agreed);
+    match list {
+        Answer::Accepted => check_judged(line, agreed),
+        Answer::Refused(_, _) => list,
+    }
+}
+
+// The fields of an accepted line's barcode, or the first refusal with its place in the line, as `check` gives it.
+pub fn decode(line: &[u8], agreed: &[u64]) -> Decoded
+    ensures { λ r. ⌜ r ≡ decodedLine (now (agreed .entry)) (now (line .entry)) ⌝ }
+{
+    match barcode::check_list(agreed) {
+        Answer::Accepted => decode_judged(line, agreed),
+        Answer::Refused(why, place) => Decoded::Refused(why, place),
+    }
+}
+
+// Puts the barcode of an accepted line into the caller's buffer of 44 bytes. A refusal leaves the buffer as it was: 25
+// for the list, 1 for the buffer's length, then the line's own, with places in the line.
+pub fn to_barcode(line: &[u8], agreed: &[u64], out: &mut [u8]) -> Answer
+    ensures answer { λ r. ⌜ r ≡ toCodeCheck (now (agreed .entry)) (length (now (out .entry))) (now (line .entry)) ⌝ }
     ensures bytes { λ r. ⌜ now (out .exit) ≡ ifAccepted r (codeOf (now (line .entry))) (now (out .entry)) ⌝ }
 {
+    let list = barcode::check_list(agreed);
+    let Answer::Accepted = list else {
+        return list;
+    };
     if out.len() != barcode::LENGTH {
         return Answer::Refused(Reason::WrongLength, 0);
     }
-    let a = check(line);
+    let a = check_judged(line, agreed);
     match a {
         Answer::Refused(_, _) => a,
         Answer::Accepted => {
@@ -191,16 +222,20 @@ fn put_line(code: &[u8], out: &mut [u8])
     put_box(m, &code[33..barcode::LENGTH], out, 36);
 }
 
-// Writes the line of an accepted barcode into the caller's buffer of 48 bytes. A refusal leaves the buffer as it was; a
-// wrong length of the buffer comes before anything about the barcode, and its places are those in the barcode.
-pub fn from_barcode(code: &[u8], out: &mut [u8]) -> Answer
-    ensures answer { λ r. ⌜ r ≡ toLineAnswer (length (now (out .entry))) (now (code .entry)) ⌝ }
+// Writes the line of an accepted barcode into the caller's buffer of 48 bytes. A refusal leaves the buffer as it was:
+// 25 for the list, 1 for the buffer's length, then the barcode's own, with places in the barcode.
+pub fn from_barcode(code: &[u8], agreed: &[u64], out: &mut [u8]) -> Answer
+    ensures answer { λ r. ⌜ r ≡ toLineCheck (now (agreed .entry)) (length (now (out .entry))) (now (code .entry)) ⌝ }
     ensures bytes { λ r. ⌜ now (out .exit) ≡ ifAccepted r (lineOf (now (code .entry))) (now (out .entry)) ⌝ }
 {
+    let list = barcode::check_list(agreed);
+    let Answer::Accepted = list else {
+        return list;
+    };
     if out.len() != LENGTH {
         return Answer::Refused(Reason::WrongLength, 0);
     }
-    let a = barcode::check(code);
+    let a = barcode::judged::check(code, agreed);
     match a {
         Answer::Refused(_, _) => a,
         Answer::Accepted => {

@@ -1,44 +1,30 @@
 -- `line::check` meets its contract. Assumes nothing.
-use mathlib.Core.Path.{sym, ap, _∙_}
 use borrow.Author.Needs.{needs}
-use Rattle.barcode.specs.Codes.{barcodeAnswer}
-use Rattle.line.proofs.Lines.{line-short, line-body}
+use Rattle.answer.proofs.Steps.{handed, onward}
 use Rattle.line.proofs.check.Statement.{statement}
 use Rattle.line.proofs.check.Tie as tie
 
+check-list-requires : tie.Need-check-list-requires
+check-list-requires c κs = search needs
+
+enum-told : tie.Need-enum-told
+enum-told c = search needs
+
+check-judged-requires : tie.Need-check-judged-requires
+check-judged-requires c κs = search needs
+
+enum-told-2 : tie.Need-enum-told-2
+enum-told-2 c = search needs
+
 returns : tie.Need-returns
-returns c = sym (line-short (c .before .before .args .line .now) (c .if1 .taken))
-
-slice-aggregate-put-code : tie.Need-slice-aggregate-put-code
-slice-aggregate-put-code c = search needs
-
-put-code-requires : tie.Need-put-code-requires
-put-code-requires c κs = search needs
-
-slice-aggregate-check : tie.Need-slice-aggregate-check
-slice-aggregate-check c = search needs
-
-check-requires : tie.Need-check-requires
-check-requires c κs = search needs
-
-check-full-length-requires : tie.Need-check-full-length-requires
-check-full-length-requires c κs =
-    let put = c .before .before .before in
-    (put .before .before .if1 .left, c .check .ensures ∙ ap barcodeAnswer (put .put-code .ensures))
+returns c =
+    let told = c .before in
+    onward (told .before .before .check-list .ensures) (told .enum-told .given .1) (c .check-judged .ensures)
 
 returns-2 : tie.Need-returns-2
-returns-2 c =
-    let long = c .before .before .before .before .before .before in
-    c .check-full-length .ensures ∙ sym (line-body (long .before .before .args .line .now) (long .if1 .left))
+returns-2 c = handed _ (c .before .before .check-list .ensures) (c .enum-told2 .given .1)
 
 pub check-spec : {M : Type 1} → statement M
 check-spec =
     tie.close
-    (tie.spec
-    returns
-    slice-aggregate-put-code
-    put-code-requires
-    slice-aggregate-check
-    check-requires
-    check-full-length-requires
-    returns-2)
+    (tie.spec check-list-requires enum-told check-judged-requires enum-told-2 returns returns-2)

@@ -1,12 +1,8 @@
 -- `line::check_check_digits` meets its contract. Assumes nothing.
 use mathlib.Core.Path.{ap, _∙_}
 use borrow.Author.Needs.{needs}
-use Rattle.answer.specs.Orders.{movedBy}
 use Rattle.answer.proofs.Steps.{handed, onward}
 use Rattle.barcode.specs.Codes.{modulusOf}
-use Rattle.barcode.proofs.Codes.{code-place}
-use Rattle.line.specs.Lines.{codeOf, inLine}
-use Rattle.line.proofs.Lines.{code-body}
 use Rattle.line.proofs.check_check_digits.Statement.{statement}
 use Rattle.line.proofs.check_check_digits.Tie as tie
 
@@ -29,19 +25,13 @@ enum-told-2 : tie.Need-enum-told-2
 enum-told-2 c = search needs
 
 moved-to-line-requires : tie.Need-moved-to-line-requires
-moved-to-line-requires c κs =
-    let start = c .before .before .before .before .before .before .before in
-    rw (start .pre .1) (code-place (codeOf (start .args .line .now)))
+moved-to-line-requires c κs = c .before .before .before .before .before .before .before .pre .1
 
 returns : tie.Need-returns
 returns c = handed _ (c .before .before .check-boxes .ensures) (c .enum-told .given .1)
 
 returns-2 : tie.Need-returns-2
-returns-2 c =
-    let boxed = c .before .before .before in
-    let start = boxed .before .before .before .before .before in
-    let code = start .pre .1 ∙ code-body (start .args .line .now) (start .pre .0) in
-    onward (boxed .check-boxes .ensures) (c .before .enum-told2 .given .1) (c .moved-to-line .ensures ∙ ap (movedBy inLine) code)
+returns-2 c = onward (c .before .before .before .check-boxes .ensures) (c .before .enum-told2 .given .1) (c .moved-to-line .ensures)
 
 pub check-check-digits-spec : {M : Type 1} → statement M
 check-check-digits-spec =

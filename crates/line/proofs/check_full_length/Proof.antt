@@ -2,7 +2,7 @@
 use mathlib.Core.Path.{sym, _∙_}
 use borrow.Author.Needs.{needs}
 use Rattle.answer.proofs.Steps.{handed, onward}
-use Rattle.line.proofs.RoundTrips.{checks-decide}
+use Rattle.line.proofs.Boxes.{checks-decide}
 use Rattle.line.proofs.check_full_length.Statement.{statement}
 use Rattle.line.proofs.check_full_length.Tie as tie
 
@@ -29,7 +29,7 @@ returns c =
     let checked = c .before .before in
     let start = checked .before .before in
     let accepted = c .enum-told .given .1 in
-    accepted ∙ checks-decide (start .args .line .now) (start .pre .0) (sym (checked .check-check-digits .ensures) ∙ accepted)
+    accepted ∙ checks-decide (start .args .line .now) (start .args .code) (start .pre .0) (start .pre .2) (sym (checked .check-check-digits .ensures) ∙ accepted)
 
 returns-2 : tie.Need-returns-2
 returns-2 c = handed _ (c .before .before .check-prefix .ensures) (c .enum-told3 .given .1)
