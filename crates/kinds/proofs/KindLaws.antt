@@ -22,7 +22,7 @@ use Rattle.decimal.proofs.Bytes.{each-accepts, each-place}
 use Rattle.calendar.specs.declared.Date.{Date}
 use Rattle.calendar.specs.declared.MaybeDate.the-variants.{On, NoDate as none}
 use Rattle.calendar.specs.Dates.{isDate, spelled, dateOf, isFound}
-use Rattle.barcode.proofs.Codes.{code-place}
+use Rattle.barcode.proofs.Lists.{under-place}
 use Rattle.layout.specs.declared.Kind.{Kind}
 use Rattle.layout.specs.declared.Kind.the-variants as kind
 use Rattle.kinds.specs.Terms.{Terms}
@@ -94,7 +94,7 @@ kind-place t kind.Digits bs h = in-part (isOf Digit) NoDigit bs h
 kind-place t kind.Money bs h = in-part (isOf Digit) NoDigit bs h
 kind-place t kind.Date bs h =
     then-place 151 (eachIs (isOf Digit) NoDigit 1 bs) (require (isFound (dateOf bs)) NoDate 1) (in-part (isOf Digit) NoDigit bs h) (at-first (isFound (dateOf bs)) NoDate)
-kind-place t kind.Barcode bs h = omega (arith, code-place bs)
+kind-place t kind.Barcode bs h = omega (arith, under-place (t .agreed) bs)
 kind-place t kind.Capture bs h = at-first (isCapture (t .version) (getD bs 0 0)) UnknownCode
 kind-place t kind.Form bs h = at-first (isForm (t .version) (getD bs 0 0)) UnknownCode
 

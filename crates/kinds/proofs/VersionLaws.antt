@@ -1,26 +1,32 @@
 -- Laws of the versions and their codes. Assumes nothing.
 use Prim.Native.Nat.{ℕ, _+_, _≤_}
 use mathlib.Core.Bool.{Bool, true, false, cond, _&&_, _||_, or-true, and-eq-true-iff}
-use mathlib.Core.List.{List}
+use mathlib.Core.List.{List, [], _∷_}
 use mathlib.Core.Logic.{⊎-elim, inl, inr}
 use mathlib.Core.Path.{_≡_, refl, sym, ap, _∙_}
 use native.Mathlib.Omega.{arith}
 use borrow.Author.Tests.{eqb-true, le-leb}
 use lib.Dec.{eqb, lit≤}
 use lib.ListN.{length, getD}
-use Rattle.answer.specs.declared.Reason.the-variants.{UnknownCode}
+use Rattle.answer.specs.declared.Reason.the-variants.{NoDigit, NoText, FixedDiffers, UnknownCode}
+use Rattle.answer.specs.declared.Answer.{Answer}
 use Rattle.answer.specs.declared.Answer.the-variants.{Accepted}
-use Rattle.answer.proofs.Orders.{require-accepts}
+use Rattle.answer.specs.Orders.{require, _then_}
+use Rattle.answer.proofs.Orders.{require-accepts, then-accepted}
 use Rattle.answer.proofs.Tests.{or-cases, unequal}
+use Rattle.decimal.specs.declared.Class.the-variants as class
 use Rattle.decimal.specs.declared.Class.the-variants.{Digit, Text}
-use Rattle.decimal.specs.Bytes.{within, isOf, all}
+use Rattle.decimal.specs.Bytes.{within, isOf, all, eachIs}
 use Rattle.decimal.specs.Numbers.{valueOf, numberOf, digitsOf}
 use Rattle.decimal.proofs.Bytes.{within-bounds}
 use Rattle.decimal.proofs.Numbers.{digits-of-number}
+use Rattle.barcode.specs.Codes.{barcodeAnswer}
+use Rattle.barcode.specs.Agreed.{dueAnswer}
+use Rattle.barcode.proofs.Lists.{due-of-none}
 use Rattle.layout.specs.declared.Kind.{Kind}
 use Rattle.layout.specs.declared.Kind.the-variants as kind
 use Rattle.kinds.specs.Terms.{told, version04, version06, isVersion, capturesOf}
-use Rattle.kinds.specs.Kinds.{isVersionText, isCaptureAmong, isCapture, isForm, kindAnswer, VersionsAreTwoTexts, OtherKindsIgnoreTerms}
+use Rattle.kinds.specs.Kinds.{same, isVersionText, isService, dateAnswer, isCaptureAmong, isCapture, isForm, kindAnswer, VersionsAreTwoTexts, OtherKindsIgnoreTerms}
 
 is-false : (t : Bool) → (t ≡ true → ⊥) → t ≡ false
 is-false true h = absurd (h refl)
@@ -82,23 +88,51 @@ more-forms : (b : ℕ) → isForm version04 b ≡ true → isForm version06 b �
 unfolding isForm
 more-forms b t = wider 49 51 54 b (lit≤ tt) t
 
-pub more-codes : (k : Kind) (bs : List ℕ) → kindAnswer (told version04) k bs ≡ Accepted → kindAnswer (told version06) k bs ≡ Accepted
+pub more-codes : (agreed : List ℕ) (k : Kind) (bs : List ℕ) → kindAnswer (told version04 agreed) k bs ≡ Accepted → kindAnswer (told version06 agreed) k bs ≡ Accepted
 unfolding kindAnswer
-more-codes (kind.Mark byte) bs e = e
-more-codes kind.Version bs e = e
-more-codes kind.Service bs e = e
-more-codes kind.Blank bs e = e
-more-codes kind.Text bs e = e
-more-codes kind.Digits bs e = e
-more-codes kind.Money bs e = e
-more-codes kind.Date bs e = e
-more-codes kind.Barcode bs e = e
-more-codes kind.Capture bs e =
+more-codes agreed (kind.Mark byte) bs e = e
+more-codes agreed kind.Version bs e = e
+more-codes agreed kind.Service bs e = e
+more-codes agreed kind.Blank bs e = e
+more-codes agreed kind.Text bs e = e
+more-codes agreed kind.Digits bs e = e
+more-codes agreed kind.Money bs e = e
+more-codes agreed kind.Date bs e = e
+more-codes agreed kind.Barcode bs e = e
+more-codes agreed kind.Capture bs e =
     let b = getD bs 0 0 in
     require-accepts (isCapture version06 b) UnknownCode 1 .1 (more-captures b (require-accepts (isCapture version04 b) UnknownCode 1 .0 e))
-more-codes kind.Form bs e =
+more-codes agreed kind.Form bs e =
     let b = getD bs 0 0 in
     require-accepts (isForm version06 b) UnknownCode 1 .1 (more-forms b (require-accepts (isForm version04 b) UnknownCode 1 .0 e))
+
+-- what it may hold under a list of agreed issuers is what it may hold under the empty list, with the due date of a barcode
+abbrev pub dueOfKind : List ℕ → Kind → List ℕ → Answer
+dueOfKind agreed (kind.Mark byte) bs = Accepted
+dueOfKind agreed kind.Version bs = Accepted
+dueOfKind agreed kind.Service bs = Accepted
+dueOfKind agreed kind.Blank bs = Accepted
+dueOfKind agreed kind.Text bs = Accepted
+dueOfKind agreed kind.Digits bs = Accepted
+dueOfKind agreed kind.Money bs = Accepted
+dueOfKind agreed kind.Date bs = Accepted
+dueOfKind agreed kind.Barcode bs = dueAnswer agreed bs
+dueOfKind agreed kind.Capture bs = Accepted
+dueOfKind agreed kind.Form bs = Accepted
+
+pub kind-with-due : (v : ℕ) (agreed : List ℕ) (k : Kind) (bs : List ℕ) → kindAnswer (told v agreed) k bs ≡ kindAnswer (told v []) k bs then dueOfKind agreed k bs
+unfolding kindAnswer
+kind-with-due v agreed (kind.Mark byte) bs = sym (then-accepted (require (same bs (byte ∷ [])) FixedDiffers 1))
+kind-with-due v agreed kind.Version bs = sym (then-accepted (require (isVersionText bs) FixedDiffers 1))
+kind-with-due v agreed kind.Service bs = sym (then-accepted (require (isService bs) FixedDiffers 1))
+kind-with-due v agreed kind.Blank bs = sym (then-accepted (require (all (isOf class.Blank) bs) FixedDiffers 1))
+kind-with-due v agreed kind.Text bs = sym (then-accepted (eachIs (isOf Text) NoText 1 bs))
+kind-with-due v agreed kind.Digits bs = sym (then-accepted (eachIs (isOf Digit) NoDigit 1 bs))
+kind-with-due v agreed kind.Money bs = sym (then-accepted (eachIs (isOf Digit) NoDigit 1 bs))
+kind-with-due v agreed kind.Date bs = sym (then-accepted (dateAnswer bs))
+kind-with-due v agreed kind.Barcode bs = rw (due-of-none bs, then-accepted (barcodeAnswer bs))
+kind-with-due v agreed kind.Capture bs = sym (then-accepted (require (isCapture v (getD bs 0 0)) UnknownCode 1))
+kind-with-due v agreed kind.Form bs = sym (then-accepted (require (isForm v (getD bs 0 0)) UnknownCode 1))
 
 -- the texts 04 and 06
 two-digits : (bs : List ℕ) (v : ℕ) → length bs ≡ 2 → all (isOf Digit) bs ≡ true → numberOf bs ≡ v → bs ≡ digitsOf 2 v
@@ -120,14 +154,14 @@ versions-are-two-texts bs = (
 
 pub other-kinds-ignore-terms : OtherKindsIgnoreTerms
 unfolding kindAnswer
-other-kinds-ignore-terms t u (kind.Mark byte) bs c f = refl
-other-kinds-ignore-terms t u kind.Version bs c f = refl
-other-kinds-ignore-terms t u kind.Service bs c f = refl
-other-kinds-ignore-terms t u kind.Blank bs c f = refl
-other-kinds-ignore-terms t u kind.Text bs c f = refl
-other-kinds-ignore-terms t u kind.Digits bs c f = refl
-other-kinds-ignore-terms t u kind.Money bs c f = refl
-other-kinds-ignore-terms t u kind.Date bs c f = refl
-other-kinds-ignore-terms t u kind.Barcode bs c f = refl
-other-kinds-ignore-terms t u kind.Capture bs c f = absurd (c refl)
-other-kinds-ignore-terms t u kind.Form bs c f = absurd (f refl)
+other-kinds-ignore-terms t u (kind.Mark byte) bs b c f = refl
+other-kinds-ignore-terms t u kind.Version bs b c f = refl
+other-kinds-ignore-terms t u kind.Service bs b c f = refl
+other-kinds-ignore-terms t u kind.Blank bs b c f = refl
+other-kinds-ignore-terms t u kind.Text bs b c f = refl
+other-kinds-ignore-terms t u kind.Digits bs b c f = refl
+other-kinds-ignore-terms t u kind.Money bs b c f = refl
+other-kinds-ignore-terms t u kind.Date bs b c f = refl
+other-kinds-ignore-terms t u kind.Barcode bs b c f = rw (b refl)
+other-kinds-ignore-terms t u kind.Capture bs b c f = rw (c refl)
+other-kinds-ignore-terms t u kind.Form bs b c f = rw (f refl)

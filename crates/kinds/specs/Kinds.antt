@@ -13,7 +13,7 @@ use Rattle.decimal.specs.declared.Class.the-variants as class
 use Rattle.decimal.specs.Bytes.{within, isOf, all, eachIs}
 use Rattle.decimal.specs.Numbers.{numberOf}
 use Rattle.calendar.specs.Dates.{dateOf, isFound}
-use Rattle.barcode.specs.Codes.{barcodeAnswer}
+use Rattle.barcode.specs.Agreed.{barcodeUnder}
 use Rattle.layout.specs.declared.Kind.{Kind}
 use Rattle.layout.specs.declared.Kind.the-variants.{Mark, Version, Service, Blank, Text, Digits, Money, Date, Barcode}
 use Rattle.layout.specs.declared.Kind.the-variants.{Capture, Form}
@@ -66,7 +66,7 @@ kindAnswer t Text bs = eachIs (isOf class.Text) NoText 1 bs
 kindAnswer t Digits bs = eachIs (isOf class.Digit) NoDigit 1 bs
 kindAnswer t Money bs = eachIs (isOf class.Digit) NoDigit 1 bs
 kindAnswer t Date bs = dateAnswer bs
-kindAnswer t Barcode bs = barcodeAnswer bs
+kindAnswer t Barcode bs = barcodeUnder (t .agreed) bs
 kindAnswer t Capture bs = require (isCapture (t .version) (getD bs 0 0)) UnknownCode 1
 kindAnswer t Form bs = require (isForm (t .version) (getD bs 0 0)) UnknownCode 1
 
@@ -76,7 +76,9 @@ kindAnswer t Form bs = require (isForm (t .version) (getD bs 0 0)) UnknownCode 1
 abbrev pub VersionsAreTwoTexts : Type 0
 VersionsAreTwoTexts = (bs : List ℕ) → (isVersionText bs ≡ true) ↔ ((bs ≡ 48 ∷ 52 ∷ []) ⊎ (bs ≡ 48 ∷ 54 ∷ []))
 
--- only capture and payment form depend on the terms
+-- of the terms only capture and payment form depend on the version, and only the barcode on the list
 abbrev pub OtherKindsIgnoreTerms : Type 0
 OtherKindsIgnoreTerms =
-    (t u : Terms) (k : Kind) (bs : List ℕ) → (k ≡ Capture → ⊥) → (k ≡ Form → ⊥) → kindAnswer t k bs ≡ kindAnswer u k bs
+    (t u : Terms) (k : Kind) (bs : List ℕ) → (k ≡ Barcode → t .agreed ≡ u .agreed)
+    → (k ≡ Capture → t .version ≡ u .version) → (k ≡ Form → t .version ≡ u .version)
+    → kindAnswer t k bs ≡ kindAnswer u k bs

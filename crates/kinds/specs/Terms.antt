@@ -2,6 +2,7 @@
 -- Assumes nothing.
 use Prim.Native.Nat.{ℕ}
 use mathlib.Core.Bool.{Bool, _||_, cond}
+use mathlib.Core.List.{List}
 use lib.Dec.{eqb}
 use Rattle.answer.specs.declared.Reason.the-variants.{FixedDiffers}
 use Rattle.answer.specs.declared.Answer.{Answer}
@@ -29,16 +30,17 @@ capturesOf version = cond (eqb version version04) 6 (cond (eqb version version06
 abbrev pub formsOf : ℕ → ℕ
 formsOf version = cond (eqb version version04) 3 (cond (eqb version version06) 6 0)
 
--- what is known of a record beside its bytes: the version that it is told, which is that of its file's header. Any
--- number can be told.
+-- what is known of a record beside its bytes: the version that it is told, which is that of its file's header, and the
+-- keys of the issuers that agreed on due dates. Any number and any list can be told; a wrong list is refused before (`recordCheck`).
 pub record Terms : Type 0 where
   pub version : ℕ
+  pub agreed : List ℕ
 
-abbrev pub told : ℕ → Terms
-told version = record { version = version }
+abbrev pub told : ℕ → List ℕ → Terms
+told version agreed = record { version = version; agreed = agreed }
 
 -- a G needs a version: told another number it is refused 10 at the version's place in a header; A and Z ignore it
-unfoldable pub termsAnswer : Terms → Record → Answer
-termsAnswer t Header = Accepted
-termsAnswer t Payment = require (isVersion (t .version)) FixedDiffers (rowAt versionRow .first)
-termsAnswer t Trailer = Accepted
+unfoldable pub versionAnswer : ℕ → Record → Answer
+versionAnswer version Header = Accepted
+versionAnswer version Payment = require (isVersion version) FixedDiffers (rowAt versionRow .first)
+versionAnswer version Trailer = Accepted

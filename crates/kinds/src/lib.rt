@@ -121,9 +121,10 @@ fn check_date(part: &[u8]) -> Answer
 
 // The first refusal of a field's bytes under its kind, with its place in the field; accepted where there is none. Text,
 // digits, money and blanks may have any width, capture and form go by the first byte and the version, the other kinds
-// have one width.
-pub fn check(kind: Kind, part: &[u8], version: u64) -> Answer
-    ensures { λ r. ⌜ r ≡ kindAnswer (told version) kind (now (part .entry)) ⌝ }
+// have one width. A barcode is asked for its due date by the list of agreed issuers, which was judged: it is never
+// refused 25 here.
+pub fn check(kind: Kind, part: &[u8], version: u64, agreed: &[u64]) -> Answer
+    ensures { λ r. ⌜ r ≡ kindAnswer (told version (now (agreed .entry))) kind (now (part .entry)) ⌝ }
 {
     match kind {
         Kind::Mark(byte) => require(is_mark(part, byte), Reason::FixedDiffers),
@@ -134,7 +135,7 @@ pub fn check(kind: Kind, part: &[u8], version: u64) -> Answer
         Kind::Digits => decimal::require_class(Class::Digit, Reason::NoDigit, part),
         Kind::Money => decimal::require_class(Class::Digit, Reason::NoDigit, part),
         Kind::Date => check_date(part),
-        Kind::Barcode => barcode::check(part),
+        Kind::Barcode => barcode::judged::check(part, agreed),
         Kind::Capture => require(is_capture(byte_at(part, 0), version), Reason::UnknownCode),
         Kind::Form => require(is_form(byte_at(part, 0), version), Reason::UnknownCode),
     }

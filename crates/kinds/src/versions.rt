@@ -1,7 +1,7 @@
 // The versions of the layout, and which codes each of them has (SPEC.md, "Records").
 ghost use Prim.Native.Nat.{_≤_};
 ghost use mathlib.Core.Path.{_≡_};
-ghost use Rattle.kinds.specs.Terms.{isVersion, told, termsAnswer};
+ghost use Rattle.kinds.specs.Terms.{isVersion, versionAnswer};
 ghost use Rattle.kinds.specs.Kinds.{isCaptureAmong, isCapture, isForm};
 use answer::Answer;
 use answer::Reason;
@@ -58,7 +58,7 @@ pub fn is_form(b: u8, version: u64) -> bool
 // Whether a record can be read or written under this version: a G is refused 10, at the version's place in a header,
 // for a number other than 4 and 6; a header and a trailer ignore it.
 pub fn check_version(which: Record, version: u64) -> Answer
-    ensures { λ r. ⌜ r ≡ termsAnswer (told version) which ⌝ }
+    ensures { λ r. ⌜ r ≡ versionAnswer version which ⌝ }
 {
     match which {
         Record::Header => Answer::Accepted,

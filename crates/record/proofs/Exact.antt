@@ -26,8 +26,9 @@ use Rattle.barcode.specs.declared.Fields.{Fields}
 use Rattle.barcode.specs.declared.Issuer.{Issuer}
 use Rattle.barcode.specs.declared.MaybeIssuer.the-variants.{NoIssuer}
 use Rattle.barcode.specs.declared.Decoded.the-variants as read
-use Rattle.barcode.specs.Codes as codes
-use Rattle.barcode.specs.Codes.{barcodeAnswer, issuerOf, acceptedIssuer, fieldsOf}
+use Rattle.barcode.specs.Codes.{issuerOf}
+use Rattle.barcode.specs.Agreed.{barcodeUnder}
+use Rattle.barcode.specs.Shown.{fieldsOf, decodedUnder, acceptedIssuer}
 use Rattle.layout.specs.declared.MaybeRecord.{MaybeRecord}
 use Rattle.layout.specs.declared.MaybeRecord.the-variants.{Is, Other}
 use Rattle.layout.specs.declared.Record.the-variants.{Header, Payment, Trailer}
@@ -42,8 +43,8 @@ use Rattle.record.specs.declared.fast.FastDecoded.the-variants.{Paid, Ot
 use Rattle.record.specs.declared.PaymentDue.the-variants.{To, Nothing}
 use Rattle.record.specs.FastPath.{spanOf, isPlain, isCoded, isDated, looksLikePayment, fastDecodedOf}
 use Rattle.record.specs.Records.{fieldBytes, recordAnswer, isPayment}
-use Rattle.record.specs.Values.{recordShown, shownUnlessRefused, decodedRecord, paymentDueOf}
-use Rattle.record.proofs.Shown.{accepted-is, right-fields-are-accepted}
+use Rattle.record.specs.Values.{recordShown, shownUnlessRefused, decodedRecordUnder, paymentDueOf}
+use Rattle.record.proofs.Shown.{accepted-is, right-fields}
 use Rattle.record.proofs.FieldBytes.{places-length}
 use Rattle.record.proofs.KindRules.{text, money, digits, blank, capture, form, code, date, mark}
 use Rattle.record.proofs.FastPath.{named-payment, one-byte}
@@ -71,7 +72,7 @@ module _ (t : Terms) (rec : List ℕ) where
         λ p. whole .1 (parts .1 (p .0, later .1 (p .1, p .2)), p .3),
       )
 
-  coded : (isCoded t rec ≡ true) ↔ ((isCapture (t .version) (getD (take 1 (drop 116 rec)) 0 0) ≡ true) × (isForm (t .version) (getD (take 1 (drop 140 rec)) 0 0) ≡ true))
+  coded : (isCoded (t .version) rec ≡ true) ↔ ((isCapture (t .version) (getD (take 1 (drop 116 rec)) 0 0) ≡ true) × (isForm (t .version) (getD (take 1 (drop 140 rec)) 0 0) ≡ true))
   unfolding isCoded rowAt table layoutOf
   coded = and-eq-true-iff (isCapture (t .version) (getD (fieldBytes (rowAt captureRow) rec) 0 0)) (isForm (t .version) (getD (fieldBytes (rowAt formRow) rec) 0 0))
 
@@ -79,7 +80,7 @@ module _ (t : Terms) (rec : List ℕ) where
   dated = and-eq-true-iff (isFound (dateOf (fieldBytes (rowAt paidRow) rec))) (isFound (dateOf (fieldBytes (rowAt creditedRow) rec)))
 
   abbrev Right : Type 0
-  Right = (isPlain rec ≡ true) × (isCoded t rec ≡ true) × (isDated rec ≡ true) × (barcodeAnswer (fieldBytes (rowAt barcodeRow) rec) ≡ Accepted)
+  Right = (isPlain rec ≡ true) × (isCoded (t .version) rec ≡ true) × (isDated rec ≡ true) × (barcodeUnder (t .agreed) (fieldBytes (rowAt barcodeRow) rec) ≡ Accepted)
 
   module _ (n : length rec ≡ recordLength) where
     holds : namedBy (getD rec 0 0) ≡ Is Payment → Right → recordAnswer t rec ≡ Accepted
@@ -88,7 +89,7 @@ module _ (t : Terms) (rec : List ℕ) where
         let p = plain .0 (right .0) in
         let c = coded .0 (right .1) in
         let d = dated .0 (right .2) in
-        right-fields-are-accepted t Payment rec n named .1
+        right-fields t Payment rec n named .1
         (mark t rec n (named-payment (getD rec 0 0) named)
         and text t _ .1 (p .0)
         and date t _ .1 (d .0)
@@ -107,7 +108,7 @@ module _ (t : Terms) (rec : List ℕ) where
     seen : namedBy (getD rec 0 0) ≡ Is Payment → recordAnswer t rec ≡ Accepted → Right
     unfolding layoutOf rowAt table
     seen named e =
-        let each = right-fields-are-accepted t Payment rec n named .0 e in
+        let each = right-fields t Payment rec n named .0 e in
         let account = text t _ .0 (each .1 .0) in
         let paid = date t _ .0 (each .1 .1 .0) in
         let credited = date t _ .0 (each .1 .1 .1 .0) in
@@ -134,13 +135,13 @@ payment-named (Is Trailer) t = never t
 payment-named Other t = never t
 
 abbrev Unseen : Terms → List ℕ → Type 0
-Unseen t rec = (Nothing ≡ paymentDueOf (decodedRecord t rec)) × (Unpaid ≡ fastDecodedOf (decodedRecord t rec))
+Unseen t rec = (Nothing ≡ paymentDueOf (decodedRecordUnder t rec)) × (Unpaid ≡ fastDecodedOf (decodedRecordUnder t rec))
 
 unseen : (t : Terms) (rec : List ℕ) → (recordAnswer t rec ≡ Accepted → isPayment (namedBy (getD rec 0 0)) ≡ true → ⊥) → Unseen t rec
 unseen t rec h = go (recordAnswer t rec) (namedBy (getD rec 0 0)) h
   where
     go : (a : Answer) (m : MaybeRecord) → (a ≡ Accepted → isPayment m ≡ true → ⊥)
-        → (Nothing ≡ paymentDueOf (shownUnlessRefused a (recordShown m rec))) × (Unpaid ≡ fastDecodedOf (shownUnlessRefused a (recordShown m rec)))
+        → (Nothing ≡ paymentDueOf (shownUnlessRefused a (recordShown (t .agreed) m rec))) × (Unpaid ≡ fastDecodedOf (shownUnlessRefused a (recordShown (t .agreed) m rec)))
     go (Refused why place) m h = (refl, refl)
     go Accepted (Is Header) h = (refl, refl)
     go Accepted (Is Payment) h = absurd (h refl refl)
@@ -154,9 +155,9 @@ module _ (t : Terms) (rec : List ℕ) (n : length rec ≡ recordLength) where
   right-when : recordAnswer t rec ≡ Accepted → isPayment (namedBy (getD rec 0 0)) ≡ true → Right t rec
   right-when a p = seen t rec n (payment-named _ p) a
 
-  pub not-looking : looksLikePayment t rec ≡ false → Unseen t rec
+  pub not-looking : looksLikePayment (t .version) rec ≡ false → Unseen t rec
   not-looking f =
-      unseen t rec (λ a p. let r = right-when a p in unequal (and-eq-true-iff (isPayment (namedBy (getD rec 0 0))) (isPlain rec && isCoded t rec) .1 (p, and-eq-true-iff (isPlain rec) (isCoded t rec) .1 (r .0, r .1))) f)
+      unseen t rec (λ a p. let r = right-when a p in unequal (and-eq-true-iff (isPayment (namedBy (getD rec 0 0))) (isPlain rec && isCoded (t .version) rec) .1 (p, and-eq-true-iff (isPlain rec) (isCoded (t .version) rec) .1 (r .0, r .1))) f)
 
   pub not-dated : isDated rec ≡ false → Unseen t rec
   not-dated f = unseen t rec (λ a p. unequal (right-when a p .2) f)
@@ -170,17 +171,17 @@ module _ (t : Terms) (rec : List ℕ) (n : length rec ≡ recordLength) where
   pub both-dates : {p c : Date} → dateOf (fieldBytes (rowAt paidRow) rec) ≡ days.On p → dateOf (fieldBytes (rowAt creditedRow) rec) ≡ days.On c → isDated rec ≡ true
   both-dates e f = dated t rec .1 (ap isFound e, ap isFound f)
 
-  pub no-payee : NoIssuer ≡ acceptedIssuer (fieldBytes (rowAt barcodeRow) rec) → Unseen t rec
+  pub no-payee : NoIssuer ≡ acceptedIssuer (t .agreed) (fieldBytes (rowAt barcodeRow) rec) → Unseen t rec
   no-payee e = unseen t rec (λ a p. let k = rw (right-when a p .3) at e in let z : _≡_ {A = ℕ} 0 1 = cc in omega arith)
 
-  pub no-code : {why : Reason} {place : ℕ} → read.Refused why place ≡ codes.decodedBarcode (fieldBytes (rowAt barcodeRow) rec) → Unseen t rec
+  pub no-code : {why : Reason} {place : ℕ} → read.Refused why place ≡ decodedUnder (t .agreed) (fieldBytes (rowAt barcodeRow) rec) → Unseen t rec
   no-code e = unseen t rec (λ a p. let k = rw (right-when a p .3) at e in let z : _≡_ {A = ℕ} 0 1 = cc in omega arith)
 
-  module _ (looks : looksLikePayment t rec ≡ true) (dates : isDated rec ≡ true) (right : barcodeAnswer (fieldBytes (rowAt barcodeRow) rec) ≡ Accepted) where
-    looked : (namedBy (getD rec 0 0) ≡ Is Payment) × (isPlain rec ≡ true) × (isCoded t rec ≡ true)
+  module _ (looks : looksLikePayment (t .version) rec ≡ true) (dates : isDated rec ≡ true) (right : barcodeUnder (t .agreed) (fieldBytes (rowAt barcodeRow) rec) ≡ Accepted) where
+    looked : (namedBy (getD rec 0 0) ≡ Is Payment) × (isPlain rec ≡ true) × (isCoded (t .version) rec ≡ true)
     looked =
-        let both = and-eq-true-iff (isPayment (namedBy (getD rec 0 0))) (isPlain rec && isCoded t rec) .0 looks in
-        let more = and-eq-true-iff (isPlain rec) (isCoded t rec) .0 (both .1) in
+        let both = and-eq-true-iff (isPayment (namedBy (getD rec 0 0))) (isPlain rec && isCoded (t .version) rec) .0 looks in
+        let more = and-eq-true-iff (isPlain rec) (isCoded (t .version) rec) .0 (both .1) in
         (payment-named _ (both .0), more .0, more .1)
 
     accepted : recordAnswer t rec ≡ Accepted
@@ -192,23 +193,23 @@ module _ (t : Terms) (rec : List ℕ) (n : length rec ≡ recordLength) where
         let l : length (take m (drop (81 + j) rec)) ≡ m = length-take-le m (drop (81 + j) rec) (omega (arith, length-drop (81 + j) rec)) in
         e ∙ low-of-digits (take m (drop (81 + j) rec)) (all-inner (isOf Digit) rec 81 27 j m (omega arith) (plain t rec .0 (looked .1) .2)) (omega arith)
 
-    pub pays-it : {i : Issuer} {c : ℕ} → i ≡ issuerOf (fieldBytes (rowAt barcodeRow) rec) → c ≡ lowNumberOf (fieldBytes (rowAt receivedRow) rec) → To i c ≡ paymentDueOf (decodedRecord t rec)
+    pub pays-it : {i : Issuer} {c : ℕ} → i ≡ issuerOf (fieldBytes (rowAt barcodeRow) rec) → c ≡ lowNumberOf (fieldBytes (rowAt receivedRow) rec) → To i c ≡ paymentDueOf (decodedRecordUnder t rec)
     unfolding rowAt table layoutOf
     pays-it ei ec = rw (accepted, looked .0, ei, low 0 12 (omega arith) (omega arith) ec)
 
     pub shows-it : {p c : Date} {f : Fields} {r y n : ℕ} → dateOf (fieldBytes (rowAt paidRow) rec) ≡ days.On p → dateOf (fieldBytes (rowAt creditedRow) rec) ≡ days.On c
-        → f ≡ fieldsOf (fieldBytes (rowAt barcodeRow) rec) → r ≡ lowNumberOf (fieldBytes (rowAt receivedRow) rec) → y ≡ lowNumberOf (fieldBytes (rowAt tariffRow) rec)
+        → f ≡ fieldsOf (t .agreed) (fieldBytes (rowAt barcodeRow) rec) → r ≡ lowNumberOf (fieldBytes (rowAt receivedRow) rec) → y ≡ lowNumberOf (fieldBytes (rowAt tariffRow) rec)
         → n ≡ lowNumberOf (fieldBytes (rowAt numberRow) rec)
-        → Paid (record { paid = p; credited = c; barcode = f; received = r; tariff = y; number = n }) ≡ fastDecodedOf (decodedRecord t rec)
+        → Paid (record { paid = p; credited = c; barcode = f; received = r; tariff = y; number = n }) ≡ fastDecodedOf (decodedRecordUnder t rec)
     unfolding rowAt table layoutOf
     shows-it ep ec ef er et en = rw (accepted, looked .0, ep, ec, ef, low 0 12 (omega arith) (omega arith) er, low 12 7 (omega arith) (omega arith) et, low 19 8 (omega arith) (omega arith) en)
 
 -- What is seen was accepted.
 
-pub paid-accepted : (t : Terms) (rec : List ℕ) {i : Issuer} {c : ℕ} → To i c ≡ paymentDueOf (decodedRecord t rec) → Accepted ≡ recordAnswer t rec
+pub paid-accepted : (t : Terms) (rec : List ℕ) {i : Issuer} {c : ℕ} → To i c ≡ paymentDueOf (decodedRecordUnder t rec) → Accepted ≡ recordAnswer t rec
 paid-accepted t rec {i} {c} e = go (recordAnswer t rec) e
   where
-    go : (a : Answer) → To i c ≡ paymentDueOf (shownUnlessRefused a (recordShown (namedBy (getD rec 0 0)) rec)) → Accepted ≡ a
+    go : (a : Answer) → To i c ≡ paymentDueOf (shownUnlessRefused a (recordShown (t .agreed) (namedBy (getD rec 0 0)) rec)) → Accepted ≡ a
     go Accepted e = refl
     go (Refused why place) e = let z : _≡_ {A = ℕ} 0 1 = cc in absurd (omega arith)
 
@@ -218,10 +219,10 @@ seen-shown (decoded.Payment q) e = cc
 seen-shown (decoded.Trailer t) e = let z : _≡_ {A = ℕ} 0 1 = cc in absurd (omega arith)
 seen-shown (decoded.Refused why place) e = let z : _≡_ {A = ℕ} 0 1 = cc in absurd (omega arith)
 
-pub other-shown : (t : Terms) (rec : List ℕ) → Unpaid ≡ fastDecodedOf (decodedRecord t rec) → recordAnswer t rec ≡ Accepted → isPayment (namedBy (getD rec 0 0)) ≡ false
+pub other-shown : (t : Terms) (rec : List ℕ) → Unpaid ≡ fastDecodedOf (decodedRecordUnder t rec) → recordAnswer t rec ≡ Accepted → isPayment (namedBy (getD rec 0 0)) ≡ false
 other-shown t rec e a = go (namedBy (getD rec 0 0)) (rw a at e)
   where
-    go : (m : MaybeRecord) → Unpaid ≡ fastDecodedOf (recordShown m rec) → isPayment m ≡ false
+    go : (m : MaybeRecord) → Unpaid ≡ fastDecodedOf (recordShown (t .agreed) m rec) → isPayment m ≡ false
     go (Is Header) e = refl
     go (Is Payment) e = let z : _≡_ {A = ℕ} 0 1 = cc in absurd (omega arith)
     go (Is Trailer) e = refl

@@ -17,7 +17,6 @@ use Rattle.layout.specs.Layouts.{rowAt, accountRow, receivedRow, numberRow, bra
 use Rattle.layout.specs.declared.MaybeRecord.{MaybeRecord}
 use Rattle.layout.specs.declared.MaybeRecord.the-variants.{Is, Other}
 use Rattle.layout.specs.declared.Record.the-variants.{Header, Payment, Trailer}
-use Rattle.kinds.specs.Terms.{Terms}
 use Rattle.kinds.specs.Kinds.{isCapture, isForm}
 use Rattle.record.specs.FastPath.{columnHolds, SixteenEach, rowsHold, partsHold, spanOf, isPlain, isCoded}
 use Rattle.record.specs.Records.{fieldBytes}
@@ -98,14 +97,14 @@ module _ (rec : List ℕ) where
   unfolding isPlain
   blanks-are e f k = rw (sym e ∙ f, k)
 
-  pub capture-fails : (t : Terms) {u : Bool} → u ≡ isCapture (t .version) (getD (fieldBytes (rowAt captureRow) rec) 0 0) → u ≡ false → false ≡ isCoded t rec
+  pub capture-fails : (version : ℕ) {u : Bool} → u ≡ isCapture version (getD (fieldBytes (rowAt captureRow) rec) 0 0) → u ≡ false → false ≡ isCoded version rec
   unfolding isCoded
-  capture-fails t e f = rw (sym e ∙ f)
+  capture-fails version e f = rw (sym e ∙ f)
 
-  pub form-is : (t : Terms) {u v : Bool} → u ≡ isCapture (t .version) (getD (fieldBytes (rowAt captureRow) rec) 0 0) → u ≡ true
-      → v ≡ isForm (t .version) (getD (fieldBytes (rowAt formRow) rec) 0 0) → v ≡ isCoded t rec
+  pub form-is : (version : ℕ) {u v : Bool} → u ≡ isCapture version (getD (fieldBytes (rowAt captureRow) rec) 0 0) → u ≡ true
+      → v ≡ isForm version (getD (fieldBytes (rowAt formRow) rec) 0 0) → v ≡ isCoded version rec
   unfolding isCoded
-  form-is t e f g = rw (sym e ∙ f, g)
+  form-is version e f g = rw (sym e ∙ f, g)
 
 pub named-payment : (b : ℕ) → namedBy b ≡ Is Payment → b ≡ 71
 unfolding namedBy

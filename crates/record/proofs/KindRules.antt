@@ -20,7 +20,7 @@ use Rattle.decimal.proofs.Finite.{never}
 use Rattle.calendar.specs.declared.MaybeDate.{MaybeDate}
 use Rattle.calendar.specs.declared.MaybeDate.the-variants as days
 use Rattle.calendar.specs.Dates.{dateOf, isFound}
-use Rattle.barcode.specs.Codes.{barcodeAnswer}
+use Rattle.barcode.specs.Agreed.{barcodeUnder}
 use Rattle.layout.specs.declared.Kind.the-variants as kind
 use Rattle.layout.specs.Layouts.{recordLength}
 use Rattle.kinds.specs.Terms.{Terms, isVersion}
@@ -51,7 +51,7 @@ pub form : (t : Terms) (bs : List ℕ) → (kindAnswer t kind.Form bs ≡ Accept
 unfolding kindAnswer
 form t bs = require-accepts (isForm (t .version) (getD bs 0 0)) UnknownCode 1
 
-pub code : (t : Terms) (bs : List ℕ) → (kindAnswer t kind.Barcode bs ≡ Accepted) ↔ (barcodeAnswer bs ≡ Accepted)
+pub code : (t : Terms) (bs : List ℕ) → (kindAnswer t kind.Barcode bs ≡ Accepted) ↔ (barcodeUnder (t .agreed) bs ≡ Accepted)
 unfolding kindAnswer
 code t bs = (λ e. e, λ e. e)
 

@@ -9,7 +9,6 @@ use Rattle.decimal.specs.declared.Class.the-variants.{Digit, Blank, Text}
 use Rattle.decimal.specs.Bytes.{isOf, all}
 use Rattle.decimal.specs.Places.{places}
 use Rattle.calendar.specs.Dates.{dateOf, isFound}
-use Rattle.kinds.specs.Terms.{Terms}
 use Rattle.kinds.specs.Kinds.{isCapture, isForm}
 use Rattle.layout.specs.declared.Field.{Field}
 use Rattle.layout.specs.Layouts.{namedBy, rowAt, accountRow, paidRow, creditedRow, receivedRow, numberRow}
@@ -59,14 +58,14 @@ isPlain rec =
     && all (isOf Blank) (fieldBytes (rowAt paymentBlankRow) rec)
 
 -- capture and payment form are codes of the version; a number that is no version has no codes
-unfoldable pub isCoded : Terms → List ℕ → Bool
-isCoded t rec =
-    isCapture (t .version) (getD (fieldBytes (rowAt captureRow) rec) 0 0)
-    && isForm (t .version) (getD (fieldBytes (rowAt formRow) rec) 0 0)
+unfoldable pub isCoded : ℕ → List ℕ → Bool
+isCoded version rec =
+    isCapture version (getD (fieldBytes (rowAt captureRow) rec) 0 0)
+    && isForm version (getD (fieldBytes (rowAt formRow) rec) 0 0)
 
 -- all fields but the dates and the barcode
-abbrev pub looksLikePayment : Terms → List ℕ → Bool
-looksLikePayment t rec = isPayment (namedBy (getD rec 0 0)) && (isPlain rec && isCoded t rec)
+abbrev pub looksLikePayment : ℕ → List ℕ → Bool
+looksLikePayment version rec = isPayment (namedBy (getD rec 0 0)) && (isPlain rec && isCoded version rec)
 
 abbrev pub isDated : List ℕ → Bool
 isDated rec =

@@ -15,7 +15,8 @@ use Rattle.layout.specs.declared.MaybeRecord.the-variants.{Is, Other}
 use Rattle.layout.specs.declared.Record.{Record}
 use Rattle.layout.specs.declared.Record.the-variants.{Header, Payment, Trailer}
 use Rattle.layout.specs.Layouts.{recordLength, namedBy, layoutOf, stretchOf}
-use Rattle.kinds.specs.Terms.{Terms, termsAnswer}
+use Rattle.barcode.specs.Agreed.{listAnswer}
+use Rattle.kinds.specs.Terms.{Terms, versionAnswer}
 use Rattle.kinds.specs.Kinds.{kindAnswer}
 
 -- a field's bytes
@@ -30,15 +31,20 @@ fieldAnswer t rec f = movedBy (behind (f .first - 1)) (kindAnswer t (f .kind) (f
 abbrev pub layoutAnswer : Terms → Record → List ℕ → Answer
 layoutAnswer t r rec = firstRefusal (fieldAnswer t rec) (layoutOf r)
 
--- the record that a first byte names: its terms are checked, then its layout; 9 where the byte names no record
+-- the record that a first byte names: its version is checked, then its layout; 9 where the byte names no record
 abbrev pub namedAnswer : Terms → MaybeRecord → List ℕ → Answer
-namedAnswer t (Is r) rec = termsAnswer t r then layoutAnswer t r rec
+namedAnswer t (Is r) rec = versionAnswer (t .version) r then layoutAnswer t r rec
 namedAnswer t Other rec = answer.Refused NotExpected 1
 
--- record: 1, 9, then 10 for a G that is told a number other than 4 and 6, then the fields
+-- record, under a list of agreed issuers that was judged: 1, 9, then 10 for a G that is told a number other than 4 and
+-- 6, then the fields
 unfoldable pub recordAnswer : Terms → List ℕ → Answer
 recordAnswer t rec =
     require (eqb (length rec) recordLength) WrongLength 0 then namedAnswer t (namedBy (getD rec 0 0)) rec
+
+-- as a caller asks it: 25 before everything, whatever the record
+abbrev pub recordCheck : Terms → List ℕ → Answer
+recordCheck t rec = listAnswer (t .agreed) then recordAnswer t rec
 
 -- whether a first byte names G, and whether it names Z
 abbrev pub isPayment : MaybeRecord → Bool

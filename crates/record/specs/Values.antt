@@ -13,7 +13,7 @@ use Rattle.calendar.specs.declared.Date.{Date}
 use Rattle.calendar.specs.declared.MaybeDate.{MaybeDate}
 use Rattle.calendar.specs.declared.MaybeDate.the-variants.{On, NoDate}
 use Rattle.calendar.specs.Dates.{dateOf}
-use Rattle.barcode.specs.Codes.{fieldsOf}
+use Rattle.barcode.specs.Shown.{fieldsOf}
 use Rattle.layout.specs.declared.MaybeRecord.{MaybeRecord}
 use Rattle.layout.specs.declared.MaybeRecord.the-variants.{Is, Other}
 use Rattle.layout.specs.declared.Record.the-variants as layout
@@ -27,7 +27,7 @@ use Rattle.record.specs.declared.PaymentDue.{PaymentDue}
 use Rattle.record.specs.declared.PaymentDue.the-variants as due
 use Rattle.record.specs.declared.Decoded.{Decoded}
 use Rattle.record.specs.declared.Decoded.the-variants as decoded
-use Rattle.record.specs.Records.{fieldBytes, recordAnswer}
+use Rattle.record.specs.Records.{fieldBytes, recordAnswer, recordCheck}
 
 -- the number, and the date, at a row
 abbrev pub numberIn : ℕ → List ℕ → ℕ
@@ -54,12 +54,13 @@ headerShown rec =
       version = versionIn rec;
     }
 
-abbrev pub paymentShown : List ℕ → Payment
-paymentShown rec =
+-- the barcode of a G shows its due date by the list of agreed issuers
+abbrev pub paymentShown : List ℕ → List ℕ → Payment
+paymentShown agreed rec =
     record {
       paid = dateIn paidRow rec;
       credited = dateIn creditedRow rec;
-      barcode = fieldsOf (fieldBytes (rowAt barcodeRow) rec);
+      barcode = fieldsOf agreed (fieldBytes (rowAt barcodeRow) rec);
       received = numberIn receivedRow rec;
       tariff = numberIn tariffRow rec;
       number = numberIn numberRow rec;
@@ -69,19 +70,24 @@ abbrev pub trailerShown : List ℕ → Trailer
 trailerShown rec = record { count = numberIn countRow rec; total = numberIn totalRow rec }
 
 -- what the record named by a first byte shows
-abbrev pub recordShown : MaybeRecord → List ℕ → Decoded
-recordShown (Is layout.Header) rec = decoded.Header (headerShown rec)
-recordShown (Is layout.Payment) rec = decoded.Payment (paymentShown rec)
-recordShown (Is layout.Trailer) rec = decoded.Trailer (trailerShown rec)
-recordShown Other rec = decoded.Refused NotExpected 1
+abbrev pub recordShown : List ℕ → MaybeRecord → List ℕ → Decoded
+recordShown agreed (Is layout.Header) rec = decoded.Header (headerShown rec)
+recordShown agreed (Is layout.Payment) rec = decoded.Payment (paymentShown agreed rec)
+recordShown agreed (Is layout.Trailer) rec = decoded.Trailer (trailerShown rec)
+recordShown agreed Other rec = decoded.Refused NotExpected 1
 
 -- a refused record shows its refusal, and no field
 abbrev pub shownUnlessRefused : Answer → Decoded → Decoded
 shownUnlessRefused answer.Accepted shown = shown
 shownUnlessRefused (answer.Refused why place) shown = decoded.Refused why place
 
+-- under a list of agreed issuers that was judged, and as a caller asks it
+abbrev pub decodedRecordUnder : Terms → List ℕ → Decoded
+decodedRecordUnder t rec =
+    shownUnlessRefused (recordAnswer t rec) (recordShown (t .agreed) (namedBy (getD rec 0 0)) rec)
+
 abbrev pub decodedRecord : Terms → List ℕ → Decoded
-decodedRecord t rec = shownUnlessRefused (recordAnswer t rec) (recordShown (namedBy (getD rec 0 0)) rec)
+decodedRecord t rec = shownUnlessRefused (recordCheck t rec) (recordShown (t .agreed) (namedBy (getD rec 0 0)) rec)
 
 -- the answer of a decoded record, which gives it its refusal number and place (SPEC.md, "Refusals")
 abbrev pub answerOfRecord : Decoded → Answer
@@ -97,7 +103,8 @@ paymentDueOf (decoded.Payment p) = due.To (p .barcode .issuer) (p .received)
 paymentDueOf (decoded.Trailer t) = due.Nothing
 paymentDueOf (decoded.Refused why place) = due.Nothing
 
--- A field by its row: the empty part for a refused record, for another record's row and for a row past the table.
+-- A field by its row: the empty part for a wrong list, for a refused record, for another record's row and for a row
+-- past the table.
 
 abbrev pub hasRow : MaybeRecord → ℕ → Bool
 hasRow (Is r) row = leb (rowsOf r .from) row && ltb row (rowsOf r .to)
@@ -107,4 +114,4 @@ abbrev pub fieldIn : MaybeRecord → ℕ → List ℕ → List ℕ
 fieldIn named row rec = cond (hasRow named row) (fieldBytes (rowAt row) rec) []
 
 abbrev pub shownField : Terms → ℕ → List ℕ → List ℕ
-shownField t row rec = ifAccepted (recordAnswer t rec) (fieldIn (namedBy (getD rec 0 0)) row rec) []
+shownField t row rec = ifAccepted (recordCheck t rec) (fieldIn (namedBy (getD rec 0 0)) row rec) []

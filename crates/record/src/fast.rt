@@ -10,8 +10,8 @@
 //   capture is checked as text too, since it is inside the span from branch to authentication: each code must be text
 //   (`capture-is-text`). The version itself is not checked: a number that is no version has no captures
 //   (`capture-has-version`).
-// The proof that ties the two is proofs/Exact.antt: `accepted_payment` is `paymentDueOf (decodedRecord t rec)` and
-// `decode_payment` is `fastDecodedOf (decodedRecord t rec)`, where `decodedRecord` is defined by the walk's answer.
+// The proof that ties the two is proofs/Exact.antt: `accepted_payment` is `paymentDueOf (decodedRecordUnder t rec)` and
+// `decode_payment` is `fastDecodedOf (decodedRecordUnder t rec)`. `decodedRecordUnder` is defined by the walk's answer.
 ghost use Prim.Native.Nat.{_-_, _≤_};
 ghost use mathlib.Core.Bool.{cond};
 ghost use mathlib.Core.Path.{_≡_};
@@ -19,7 +19,7 @@ ghost use lib.ListN.{length, take, drop};
 ghost use Rattle.layout.specs.Layouts.{recordLength, namedBy, InRecord};
 ghost use Rattle.kinds.specs.Terms.{told};
 ghost use Rattle.record.specs.Records.{isPayment};
-ghost use Rattle.record.specs.Values.{decodedRecord, paymentDueOf};
+ghost use Rattle.record.specs.Values.{decodedRecordUnder, paymentDueOf};
 ghost use Rattle.record.specs.FastPath.{columnHolds, SixteenEach, rowsHold, partsHold, TwoRows, spanOf};
 ghost use Rattle.record.specs.FastPath.{isPlain, isCoded, isDated, looksLikePayment, fastDecodedOf};
 use crate::Payment;
@@ -125,7 +125,7 @@ fn is_plain(rec: &[u8]) -> bool
 // too.
 fn is_coded(rec: &[u8], version: u64) -> bool
     requires { ⌜ length (now rec) ≡ recordLength ⌝ }
-    ensures { λ r. ⌜ r ≡ isCoded (told version) (now (rec .entry)) ⌝ }
+    ensures { λ r. ⌜ r ≡ isCoded version (now (rec .entry)) ⌝ }
 {
     if !kinds::is_capture(
         kinds::byte_at(parts::field_bytes(rec, g::CAPTURE), 0),
@@ -164,7 +164,7 @@ fn is_payment(mark: u8) -> bool
 // All fields of a G but its dates and its barcode.
 fn looks_like_payment(rec: &[u8], version: u64) -> bool
     requires { ⌜ length (now rec) ≡ recordLength ⌝ }
-    ensures { λ r. ⌜ r ≡ looksLikePayment (told version) (now (rec .entry)) ⌝ }
+    ensures { λ r. ⌜ r ≡ looksLikePayment version (now (rec .entry)) ⌝ }
 {
     if !is_payment(rec[0]) {
         return false;
@@ -175,10 +175,9 @@ fn looks_like_payment(rec: &[u8], version: u64) -> bool
     is_coded(rec, version)
 }
 
-// The issuer and the centavos received of an accepted G; Nothing for every other record, of any length. It is what a
-// session needs of a G: decoding all of it would cost as much again. The version is as in `check`.
-pub fn accepted_payment(rec: &[u8], version: u64) -> PaymentDue
-    ensures { λ r. ⌜ r ≡ paymentDueOf (decodedRecord (told version) (now (rec .entry))) ⌝ }
+// The issuer and the centavos received of an accepted G; Nothing for every other record, of any length.
+pub(crate) fn accepted_payment(rec: &[u8], version: u64, agreed: &[u64]) -> PaymentDue
+    ensures { λ r. ⌜ r ≡ paymentDueOf (decodedRecordUnder (told version (now (agreed .entry))) (now (rec .entry))) ⌝ }
 {
     if rec.len() != layout::LENGTH {
         return PaymentDue::Nothing;
@@ -189,15 +188,15 @@ pub fn accepted_payment(rec: &[u8], version: u64) -> PaymentDue
     if !is_dated(rec) {
         return PaymentDue::Nothing;
     }
-    match barcode::accepted_issuer(parts::field_bytes(rec, g::BARCODE)) {
+    match barcode::judged::accepted_issuer(parts::field_bytes(rec, g::BARCODE), agreed) {
         MaybeIssuer::Is(issuer) => PaymentDue::To(issuer, parts::number_in(rec, g::RECEIVED)),
         MaybeIssuer::NoIssuer => PaymentDue::Nothing,
     }
 }
 
 // All that an accepted G shows; Other for every other record, of any length.
-pub(crate) fn decode_payment(rec: &[u8], version: u64) -> FastDecoded
-    ensures { λ r. ⌜ r ≡ fastDecodedOf (decodedRecord (told version) (now (rec .entry))) ⌝ }
+pub(crate) fn decode_payment(rec: &[u8], version: u64, agreed: &[u64]) -> FastDecoded
+    ensures { λ r. ⌜ r ≡ fastDecodedOf (decodedRecordUnder (told version (now (agreed .entry))) (now (rec .entry))) ⌝ }
 {
     if rec.len() != layout::LENGTH {
         return FastDecoded::Other;
@@ -211,7 +210,7 @@ pub(crate) fn decode_payment(rec: &[u8], version: u64) -> FastDecoded
     let MaybeDate::On(credited) = parts::date_in(rec, g::CREDITED) else {
         return FastDecoded::Other;
     };
-    match parts::barcode_in(rec, g::BARCODE) {
+    match parts::barcode_in(rec, g::BARCODE, agreed) {
         Barcoded::Read(barcode) => FastDecoded::Paid(Payment {
             paid,
             credited,

@@ -1,8 +1,8 @@
 -- `record::fast::accepted_payment` meets its contract. Assumes nothing.
 use mathlib.Core.Path.{sym, ap, _∙_}
 use borrow.Author.Tests.{not-true, not-false}
-use Rattle.barcode.specs.Codes.{acceptedIssuer}
-use Rattle.barcode.proofs.OnePass.{issuer-tells}
+use Rattle.barcode.specs.Shown.{acceptedIssuer}
+use Rattle.barcode.proofs.Shown.{issuer-tells}
 use Rattle.layout.specs.Layouts.{rowAt, table, layoutOf, barcodeRow}
 use Rattle.record.specs.Records.{fieldBytes}
 use Rattle.record.proofs.Exact.{not-sized, not-looking, not-dated, no-payee, pays-it}
@@ -11,13 +11,13 @@ use Rattle.record.proofs.fast.accepted_payment.Statement.{statement}
 use Rattle.record.proofs.fast.accepted_payment.Tie as tie
 
 returns : tie.Need-returns
-returns c = not-sized _ (c .before .before .args .rec .now) (c .if1 .taken) .0
+returns c = not-sized _ (c .before .before .before .args .rec .now) (c .if1 .taken) .0
 
 looks-like-payment-requires : tie.Need-looks-like-payment-requires
 looks-like-payment-requires c κs = search needs
 
 returns-2 : tie.Need-returns-2
-returns-2 c = not-looking _ (c .before .before .before .before .args .rec .now) (c .before .before .if1 .left) (sym (c .before .looks-like-payment .ensures) ∙ not-true _ (c .if2 .taken)) .0
+returns-2 c = not-looking _ (c .before .before .before .before .before .args .rec .now) (c .before .before .if1 .left) (sym (c .before .looks-like-payment .ensures) ∙ not-true _ (c .if2 .taken)) .0
 
 is-dated-requires : tie.Need-is-dated-requires
 is-dated-requires c κs = search needs
@@ -26,7 +26,7 @@ returns-3 : tie.Need-returns-3
 returns-3 c =
     let sized = c .before .before .before .before in
     let undated = sym (c .before .is-dated .ensures) ∙ not-true _ (c .if3 .taken) in
-    not-dated _ (sized .before .before .args .rec .now) (sized .if1 .left) undated .0
+    not-dated _ (sized .before .before .before .args .rec .now) (sized .if1 .left) undated .0
 
 field-bytes-requires : tie.Need-field-bytes-requires
 field-bytes-requires c κs = search needs
@@ -50,12 +50,13 @@ returns-4 c =
     let dated = paid .before .before in
     let looked = dated .before .before in
     let sized = looked .before .before in
-    let rec = sized .before .before .args .rec .now in
+    let rec = sized .before .before .before .args .rec .now in
+    let agreed = sized .before .before .before .args .agreed .now in
     let part = fieldBytes (rowAt barcodeRow) rec in
-    let to = sym (c .before .before .issuer .given .1) ∙ paid .accepted-issuer .ensures ∙ ap acceptedIssuer (paid .before .field-bytes .ensures) in
+    let to = sym (c .before .before .issuer .given .1) ∙ paid .accepted-issuer .ensures ∙ ap (acceptedIssuer agreed) (paid .before .field-bytes .ensures) in
     let looks = sym (looked .before .looks-like-payment .ensures) ∙ not-false _ (looked .if2 .left) in
     let dates = sym (dated .before .is-dated .ensures) ∙ not-false _ (dated .if3 .left) in
-    let told = issuer-tells part to in
+    let told = issuer-tells agreed part to in
     pays-it _ rec (sized .if1 .left) looks dates (told .0) (told .1) (c .number-in .ensures)
 
 returns-5 : tie.Need-returns-5
@@ -63,8 +64,9 @@ unfolding rowAt table layoutOf
 returns-5 c =
     let paid = c .before .before in
     let sized = paid .before .before .before .before .before .before in
-    let none = sym (c .enum-told .given .1) ∙ paid .accepted-issuer .ensures ∙ ap acceptedIssuer (paid .before .field-bytes .ensures) in
-    no-payee _ (sized .before .before .args .rec .now) (sized .if1 .left) none .0
+    let agreed = sized .before .before .before .args .agreed .now in
+    let none = sym (c .enum-told .given .1) ∙ paid .accepted-issuer .ensures ∙ ap (acceptedIssuer agreed) (paid .before .field-bytes .ensures) in
+    no-payee _ (sized .before .before .before .args .rec .now) (sized .if1 .left) none .0
 
 pub accepted-payment-spec : {M : Type 1} → statement M
 accepted-payment-spec =

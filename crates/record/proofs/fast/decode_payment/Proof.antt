@@ -1,7 +1,7 @@
 -- `record::fast::decode_payment` meets its contract. Assumes nothing.
 use mathlib.Core.Path.{sym, _∙_}
 use borrow.Author.Tests.{not-true, not-false}
-use Rattle.barcode.proofs.OnePass.{read-tells}
+use Rattle.barcode.proofs.Shown.{read-tells}
 use Rattle.layout.specs.Layouts.{rowAt, table, layoutOf, barcodeRow}
 use Rattle.kinds.specs.Terms.{told}
 use Rattle.record.specs.Records.{fieldBytes}
@@ -11,13 +11,13 @@ use Rattle.record.proofs.fast.decode_payment.Statement.{statement}
 use Rattle.record.proofs.fast.decode_payment.Tie as tie
 
 returns : tie.Need-returns
-returns c = not-sized _ (c .before .before .args .rec .now) (c .if1 .taken) .1
+returns c = not-sized _ (c .before .before .before .args .rec .now) (c .if1 .taken) .1
 
 looks-like-payment-requires : tie.Need-looks-like-payment-requires
 looks-like-payment-requires c κs = search needs
 
 returns-2 : tie.Need-returns-2
-returns-2 c = not-looking _ (c .before .before .before .before .args .rec .now) (c .before .before .if1 .left) (sym (c .before .looks-like-payment .ensures) ∙ not-true _ (c .if2 .taken)) .1
+returns-2 c = not-looking _ (c .before .before .before .before .before .args .rec .now) (c .before .before .if1 .left) (sym (c .before .looks-like-payment .ensures) ∙ not-true _ (c .if2 .taken)) .1
 
 date-in-requires : tie.Need-date-in-requires
 date-in-requires c κs = search needs
@@ -34,7 +34,7 @@ returns-3 c =
     let read = c .before .before in
     let sized = read .before .before .before in
     let none = sym (read .date-in .ensures) ∙ c .enum-told .given .1 in
-    no-payment-date _ (sized .before .before .args .rec .now) (sized .if1 .left) none .1
+    no-payment-date _ (sized .before .before .before .args .rec .now) (sized .if1 .left) none .1
 
 date-in-requires-2 : tie.Need-date-in-requires-2
 date-in-requires-2 c κs = search needs
@@ -51,7 +51,7 @@ returns-4 c =
     let read = c .before .before in
     let sized = read .before .before .before .before .before .before .before in
     let none = sym (read .date-in2 .ensures) ∙ c .enum-told2 .given .1 in
-    no-credit-date _ (sized .before .before .args .rec .now) (sized .if1 .left) none .1
+    no-credit-date _ (sized .before .before .before .args .rec .now) (sized .if1 .left) none .1
 
 barcode-in-requires : tie.Need-barcode-in-requires
 barcode-in-requires c κs = search needs
@@ -79,13 +79,14 @@ returns-5 c =
     let pay = credit .before .before .before .before in
     let looked = pay .before in
     let sized = looked .before .before in
-    let rec = sized .before .before .args .rec .now in
+    let rec = sized .before .before .before .args .rec .now in
+    let agreed = sized .before .before .before .args .agreed .now in
     let part = fieldBytes (rowAt barcodeRow) rec in
     let paid = sym (pay .date-in .ensures) ∙ credit .before .before .paid .given .1 in
     let credited = sym (credit .date-in2 .ensures) ∙ code .before .before .credited .given .1 in
-    let decoded = read-tells part (sym (c .before .before .before .before .barcode .given .1) ∙ code .barcode-in .ensures) in
+    let decoded = read-tells agreed part (sym (c .before .before .before .before .barcode .given .1) ∙ code .barcode-in .ensures) in
     let looks = sym (looked .before .looks-like-payment .ensures) ∙ not-false _ (looked .if2 .left) in
-    let dates = both-dates (told (sized .before .before .args .version)) rec (sized .if1 .left) paid credited in
+    let dates = both-dates (told (sized .before .before .before .args .version) agreed) rec (sized .if1 .left) paid credited in
     shows-it _ rec (sized .if1 .left) looks dates (decoded .0) paid credited (decoded .1)
     (c .before .before .number-in .ensures) (c .before .number-in2 .ensures) (c .number-in3 .ensures)
 
@@ -95,7 +96,7 @@ returns-6 c =
     let code = c .before .before in
     let sized = code .before .before .before .before .before .before .before .before .before .before .before in
     let none = sym (c .enum-told3 .given .1) ∙ code .barcode-in .ensures in
-    no-code _ (sized .before .before .args .rec .now) (sized .if1 .left) none .1
+    no-code _ (sized .before .before .before .args .rec .now) (sized .if1 .left) none .1
 
 pub decode-payment-spec : {M : Type 1} → statement M
 decode-payment-spec =

@@ -4,7 +4,6 @@ use Prim.Native.Nat.{ℕ}
 use mathlib.Core.List.{List}
 use mathlib.Core.Path.{ap, _∙_}
 use lib.ListN.{getD}
-use Rattle.kinds.specs.Terms.{told}
 use Rattle.kinds.specs.Kinds.{isCapture, isForm}
 use borrow.Author.Tests.{not-true, not-false}
 use Rattle.layout.specs.Layouts.{rowAt, table, layoutOf}
@@ -27,7 +26,7 @@ returns c =
     let part = c .before .before .before in
     let byte = c .before .before .byte-at .ensures ∙ ap (λ (l : List ℕ). getD l 0 0) (part .field-bytes .ensures) in
     let args = part .before .before .args in
-    capture-fails (args .rec .now) (told (args .version)) (c .before .is-capture .ensures ∙ ap (isCapture (args .version)) byte) (not-true _ (c .if1 .taken))
+    capture-fails (args .rec .now) (args .version) (c .before .is-capture .ensures ∙ ap (isCapture (args .version)) byte) (not-true _ (c .if1 .taken))
 
 field-bytes-requires-2 : tie.Need-field-bytes-requires-2
 field-bytes-requires-2 c κs = search needs
@@ -48,7 +47,7 @@ returns-2 c =
     let captured = capture .before .is-capture .ensures ∙ ap (isCapture (args .version)) byte in
     let other = c .before .byte-at2 .ensures ∙ ap (λ (l : List ℕ). getD l 0 0) (c .before .before .field-bytes2 .ensures) in
     let formed = c .is-form .ensures ∙ ap (isForm (args .version)) other in
-    form-is (args .rec .now) (told (args .version)) captured (not-false _ (capture .if1 .left)) formed
+    form-is (args .rec .now) (args .version) captured (not-false _ (capture .if1 .left)) formed
 
 pub is-coded-spec : {M : Type 1} → statement M
 is-coded-spec =

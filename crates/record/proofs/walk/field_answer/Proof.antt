@@ -28,9 +28,9 @@ behind-requires c κs = search needs
 returns : tie.Need-returns
 unfolding fieldAnswer
 returns c =
-    let s = c .before .before .before .before .before in
+    let s = c .before .before .before .before .before .before in
     let f = s .args .f in
-    let t = told (s .args .version) in
+    let t = told (s .args .version) (s .args .agreed .now) in
     let k = c .before .before .check .ensures ∙ ap (kindAnswer t (f .kind)) (c .before .before .before .field-bytes .ensures) in
     let bs = fieldBytes f (s .args .rec .now) in
     let n = part-length f (s .args .rec .now) (s .pre .1) (s .pre .0) in

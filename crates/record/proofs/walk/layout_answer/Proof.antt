@@ -12,11 +12,11 @@ use Rattle.record.proofs.walk.layout_answer.Statement.{statement}
 use Rattle.record.proofs.walk.layout_answer.Tie as tie
 
 abbrev Inv-loop : tie.InvT-loop
-Inv-loop rec version table to i₀ i =
-    (i ≤ to) × (firstRefusal (fieldAnswer (told version) rec) (slice i to table) ≡ firstRefusal (fieldAnswer (told version) rec) (slice i₀ to table))
+Inv-loop rec version agreed table to i₀ i =
+    (i ≤ to) × (firstRefusal (fieldAnswer (told version agreed) rec) (slice i to table) ≡ firstRefusal (fieldAnswer (told version agreed) rec) (slice i₀ to table))
 
 abbrev μ-loop : tie.MeasureT-loop
-μ-loop rec version table to i₀ i = to - i
+μ-loop rec version agreed table to i₀ i = to - i
 
 table-requires : tie.Need-table-requires Inv-loop μ-loop
 table-requires c κs = search needs

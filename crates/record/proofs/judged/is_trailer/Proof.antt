@@ -1,8 +1,8 @@
--- `record::operations::is_trailer` meets its contract. Assumes nothing.
+-- `record::judged::is_trailer` meets its contract. Assumes nothing.
 use mathlib.Core.Path.{sym, _∙_}
 use borrow.Author.Needs.{needs}
-use Rattle.record.proofs.operations.is_trailer.Statement.{statement}
-use Rattle.record.proofs.operations.is_trailer.Tie as tie
+use Rattle.record.proofs.judged.is_trailer.Statement.{statement}
+use Rattle.record.proofs.judged.is_trailer.Tie as tie
 
 named-by-requires : tie.Need-named-by-requires
 named-by-requires c κs = search needs

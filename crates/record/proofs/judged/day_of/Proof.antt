@@ -1,7 +1,7 @@
--- `record::operations::day_of` meets its contract. Assumes nothing.
+-- `record::judged::day_of` meets its contract. Assumes nothing.
 use borrow.Author.Needs.{needs}
-use Rattle.record.proofs.operations.day_of.Statement.{statement}
-use Rattle.record.proofs.operations.day_of.Tie as tie
+use Rattle.record.proofs.judged.day_of.Statement.{statement}
+use Rattle.record.proofs.judged.day_of.Tie as tie
 
 enum-known-found : tie.Need-enum-known-found
 enum-known-found c = search needs

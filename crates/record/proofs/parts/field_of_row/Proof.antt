@@ -1,9 +1,9 @@
--- `record::operations::field_of_row` meets its contract. Assumes nothing.
+-- `record::parts::field_of_row` meets its contract. Assumes nothing.
 use mathlib.Core.Path.{sym, _∙_}
 use borrow.Author.Needs.{needs}
 use Rattle.record.proofs.Walks.{row-of-named}
-use Rattle.record.proofs.operations.field_of_row.Statement.{statement}
-use Rattle.record.proofs.operations.field_of_row.Tie as tie
+use Rattle.record.proofs.parts.field_of_row.Statement.{statement}
+use Rattle.record.proofs.parts.field_of_row.Tie as tie
 
 shared-slice-read-named-by : tie.Need-shared-slice-read-named-by
 shared-slice-read-named-by c = search needs

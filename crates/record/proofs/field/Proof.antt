@@ -1,9 +1,10 @@
--- `record::operations::field` meets its contract. Assumes nothing.
+-- `record::field` meets its contract. Assumes nothing.
 use mathlib.Core.Path.{sym, _∙_}
 use borrow.Author.Needs.{needs}
-use Rattle.record.proofs.Shown.{accepted-is}
-use Rattle.record.proofs.operations.field.Statement.{statement}
-use Rattle.record.proofs.operations.field.Tie as tie
+use Rattle.kinds.specs.Terms.{told}
+use Rattle.record.proofs.Shown.{accepted-is, check-passes}
+use Rattle.record.proofs.field.Statement.{statement}
+use Rattle.record.proofs.field.Tie as tie
 
 check-requires : tie.Need-check-requires
 check-requires c κs = search needs
@@ -12,7 +13,10 @@ enum-told : tie.Need-enum-told
 enum-told c = search needs
 
 field-of-row-requires : tie.Need-field-of-row-requires
-field-of-row-requires c κs = accepted-is _ _ (sym (c .before .before .check .ensures) ∙ c .enum-told .given .1) .0
+field-of-row-requires c κs =
+    let a = c .before .before .before .before .before .args in
+    let t = told (a .version) (a .agreed .now) in
+    accepted-is t (a .rec .now) (check-passes t (a .rec .now) (sym (c .before .before .check .ensures) ∙ c .enum-told .given .1)) .0
 
 enum-told-2 : tie.Need-enum-told-2
 enum-told-2 c = search needs

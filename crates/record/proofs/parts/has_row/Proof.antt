@@ -1,8 +1,8 @@
--- `record::operations::has_row` meets its contract. Assumes nothing.
+-- `record::parts::has_row` meets its contract. Assumes nothing.
 use borrow.Author.Needs.{needs}
 use borrow.Author.Tests.{le-leb, lt-leb}
-use Rattle.record.proofs.operations.has_row.Statement.{statement}
-use Rattle.record.proofs.operations.has_row.Tie as tie
+use Rattle.record.proofs.parts.has_row.Statement.{statement}
+use Rattle.record.proofs.parts.has_row.Tie as tie
 
 enum-known-named : tie.Need-enum-known-named
 enum-known-named c = search needs

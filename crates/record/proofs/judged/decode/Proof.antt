@@ -1,9 +1,9 @@
--- `record::operations::decode` meets its contract. Assumes nothing.
+-- `record::judged::decode` meets its contract. Assumes nothing.
 use mathlib.Core.Path.{sym, _∙_}
 use borrow.Author.Needs.{needs}
 use Rattle.record.proofs.Exact.{seen-shown}
-use Rattle.record.proofs.operations.decode.Statement.{statement}
-use Rattle.record.proofs.operations.decode.Tie as tie
+use Rattle.record.proofs.judged.decode.Statement.{statement}
+use Rattle.record.proofs.judged.decode.Tie as tie
 
 decode-payment-requires : tie.Need-decode-payment-requires
 decode-payment-requires c κs = search needs

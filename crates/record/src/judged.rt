@@ -1,6 +1,8 @@
-// The operations on one record alone. A G that the fast path recognizes is accepted and needs no walk; of everything
-// else the walk finds the first refusal, or that it is an accepted A or Z.
+// One record under a list of agreed issuers that was judged: what other crates call once `barcode::check_list` has
+// accepted the list. Nothing here answers 25. A G that the fast path recognizes is accepted and needs no walk; of
+// everything else the walk finds the first refusal, or that it is an accepted A or Z.
 ghost use mathlib.Core.Bool.{false};
+ghost use mathlib.Core.List.{[]};
 ghost use mathlib.Core.Path.{_≡_};
 ghost use lib.ListN.{length, getD};
 ghost use Rattle.answer.specs.declared.Answer.the-variants as answers;
@@ -8,10 +10,10 @@ ghost use Rattle.layout.specs.declared.Record.the-variants as layouts;
 ghost use Rattle.layout.specs.Layouts.{recordLength, namedBy};
 ghost use Rattle.kinds.specs.Terms.{Terms, told};
 ghost use Rattle.record.specs.Records.{isPayment, isTrailer, layoutAnswer, recordAnswer};
-ghost use Rattle.record.specs.Values.{dayOf, headerShown, trailerShown, recordShown, decodedRecord};
+ghost use Rattle.record.specs.Values.{dayOf, headerShown, trailerShown, recordShown, decodedRecordUnder};
+ghost use Rattle.record.specs.Values.{paymentDueOf};
 ghost use Rattle.record.specs.declared.fast.FastDecoded.the-variants as fasts;
 ghost use Rattle.record.specs.FastPath.{fastDecodedOf};
-ghost use Rattle.record.specs.Values.{hasRow, fieldIn, shownField};
 use crate::Decoded;
 use crate::Header;
 use crate::PaymentDue;
@@ -28,14 +30,22 @@ use layout::Record;
 use layout::a;
 use layout::z;
 
+// The issuer and the centavos received of an accepted G; Nothing for every other record, of any length. It is what a
+// session needs of a G: decoding all of it would cost as much again.
+pub fn accepted_payment(rec: &[u8], version: u64, agreed: &[u64]) -> PaymentDue
+    ensures { λ r. ⌜ r ≡ paymentDueOf (decodedRecordUnder (told version (now (agreed .entry))) (now (rec .entry))) ⌝ }
+{
+    fast::accepted_payment(rec, version, agreed)
+}
+
 // The answer to a record alone, of any length: accepted, or the first refusal with its place in the record. The version
 // is that of the record's file, 4 or 6: a G that is told any other number is 10 at 80, an A or a Z ignores it.
-pub fn check(rec: &[u8], version: u64) -> Answer
-    ensures { λ r. ⌜ r ≡ recordAnswer (told version) (now (rec .entry)) ⌝ }
+pub fn check(rec: &[u8], version: u64, agreed: &[u64]) -> Answer
+    ensures { λ r. ⌜ r ≡ recordAnswer (told version (now (agreed .entry))) (now (rec .entry)) ⌝ }
 {
-    match fast::accepted_payment(rec, version) {
+    match fast::accepted_payment(rec, version, agreed) {
         PaymentDue::To(_, _) => Answer::Accepted,
-        PaymentDue::Nothing => walk::check_in_order(rec, version),
+        PaymentDue::Nothing => walk::check_in_order(rec, version, agreed),
     }
 }
 
@@ -97,7 +107,7 @@ fn is_trailer(mark: u8) -> bool
 fn header_or_trailer(rec: &[u8]) -> Decoded
     requires { ⌜ ((t : Terms) → recordAnswer t (now rec) ≡ answers.Accepted) ⌝ }
     requires { ⌜ isPayment (namedBy (getD (now rec) 0 0)) ≡ false ⌝ }
-    ensures { λ r. ⌜ r ≡ recordShown (namedBy (getD (now (rec .entry)) 0 0)) (now (rec .entry)) ⌝ }
+    ensures { λ r. ⌜ r ≡ recordShown [] (namedBy (getD (now (rec .entry)) 0 0)) (now (rec .entry)) ⌝ }
 {
     if is_trailer(rec[0]) {
         return Decoded::Trailer(read_trailer(rec));
@@ -106,11 +116,11 @@ fn header_or_trailer(rec: &[u8]) -> Decoded
 }
 
 // A record that the fast path does not recognize: it is refused, or an accepted A or Z.
-fn decode_in_order(rec: &[u8], version: u64) -> Decoded
-    requires { ⌜ fasts.Other ≡ fastDecodedOf (decodedRecord (told version) (now rec)) ⌝ }
-    ensures { λ r. ⌜ r ≡ decodedRecord (told version) (now (rec .entry)) ⌝ }
+fn decode_in_order(rec: &[u8], version: u64, agreed: &[u64]) -> Decoded
+    requires { ⌜ fasts.Other ≡ fastDecodedOf (decodedRecordUnder (told version (now agreed)) (now rec)) ⌝ }
+    ensures { λ r. ⌜ r ≡ decodedRecordUnder (told version (now (agreed .entry))) (now (rec .entry)) ⌝ }
 {
-    match walk::check_in_order(rec, version) {
+    match walk::check_in_order(rec, version, agreed) {
         Answer::Accepted => header_or_trailer(rec),
         Answer::Refused(why, place) => Decoded::Refused(why, place),
     }
@@ -118,47 +128,11 @@ fn decode_in_order(rec: &[u8], version: u64) -> Decoded
 
 // Everything that a record shows, or why and where it is refused; `check` gives the same refusal. Any length is taken.
 // The version is as in `check`.
-pub fn decode(rec: &[u8], version: u64) -> Decoded
-    ensures { λ r. ⌜ r ≡ decodedRecord (told version) (now (rec .entry)) ⌝ }
+pub fn decode(rec: &[u8], version: u64, agreed: &[u64]) -> Decoded
+    ensures { λ r. ⌜ r ≡ decodedRecordUnder (told version (now (agreed .entry))) (now (rec .entry)) ⌝ }
 {
-    let FastDecoded::Paid(payment) = fast::decode_payment(rec, version) else {
-        return decode_in_order(rec, version);
+    let FastDecoded::Paid(payment) = fast::decode_payment(rec, version, agreed) else {
+        return decode_in_order(rec, version, agreed);
     };
     Decoded::Payment(payment)
-}
-
-// Whether a row of the table is one of the record that a first byte names.
-fn has_row(named: MaybeRecord, row: usize) -> bool
-    ensures { λ r. ⌜ r ≡ hasRow named row ⌝ }
-{
-    match named {
-        MaybeRecord::Is(which) => {
-            let rows = layout::rows_of(which);
-            rows.from <= row && row < rows.to
-        }
-        MaybeRecord::Other => false,
-    }
-}
-
-// The bytes at a row of the named record; none for a row of another record or past the table.
-fn field_of_row(rec: &[u8], row: usize) -> &[u8]
-    requires { ⌜ length (now rec) ≡ recordLength ⌝ }
-    ensures { λ r. ⌜ now r ≡ fieldIn (namedBy (getD (now (rec .entry)) 0 0)) row (now (rec .entry)) ⌝ }
-{
-    if has_row(layout::named_by(rec[0]), row) {
-        parts::field_bytes(rec, layout::row(row))
-    } else {
-        &rec[0..0]
-    }
-}
-
-// A field of an accepted record by its row in layout's table, as a part of the caller's bytes. The part is empty for a
-// refused record, for a row of another record and for a row past the table. The version is as in `check`.
-pub fn field(rec: &[u8], version: u64, row: usize) -> &[u8]
-    ensures { λ r. ⌜ now r ≡ shownField (told version) row (now (rec .entry)) ⌝ }
-{
-    match check(rec, version) {
-        Answer::Accepted => field_of_row(rec, row),
-        Answer::Refused(_, _) => &rec[0..0],
-    }
 }
