@@ -8,9 +8,10 @@ use lib.ListN.{length, getD}
 use Rattle.answer.proofs.Tests.{never}
 use Rattle.layout.specs.declared.MaybeRecord.{MaybeRecord}
 use Rattle.layout.specs.declared.MaybeRecord.the-variants.{Is, Other}
+use Rattle.layout.specs.declared.Record.{Record}
 use Rattle.layout.specs.declared.Record.the-variants.{Header, Payment, Trailer}
 use Rattle.layout.specs.Layouts.{recordLength, namedBy, layoutOf, givenLength}
-use Rattle.kinds.specs.Terms.{Terms, termsAnswer}
+use Rattle.kinds.specs.Terms.{Terms, versionAnswer}
 use Rattle.kinds.specs.Kinds.{kindAnswer}
 use Rattle.record.specs.Records.{fieldAnswer, isPayment}
 use Rattle.fields.specs.Joining.{namedJoin, joinAnswer}
@@ -18,7 +19,7 @@ use Rattle.fields.specs.Making.{writtenAnswer, makeAnswer}
 use Rattle.fields.specs.Promises.{OtherJoinsIgnoreTerms, OtherMakesIgnoreTerms, PaymentsJoinUnderAVersion}
 
 join-ignores : (t u : Terms) (m : MaybeRecord) (rec : List ℕ) (size : ℕ) → isPayment m ≡ false → namedJoin t m rec size ≡ namedJoin u m rec size
-unfolding termsAnswer fieldAnswer kindAnswer layoutOf
+unfolding versionAnswer fieldAnswer kindAnswer layoutOf
 join-ignores t u (Is Header) rec size p = refl
 join-ignores t u (Is Payment) rec size p = never (sym p)
 join-ignores t u (Is Trailer) rec size p = refl
@@ -26,15 +27,19 @@ join-ignores t u Other rec size p = refl
 
 pub other-joins-ignore-terms : OtherJoinsIgnoreTerms
 unfolding joinAnswer
-other-joins-ignore-terms t u rec size p = rw (join-ignores t u (namedBy (getD rec 0 0)) rec size p)
+other-joins-ignore-terms t u rec size same p = rw (same, join-ignores t u (namedBy (getD rec 0 0)) rec size p)
+
+pub make-ignores : (t u : Terms) (r : Record) (given amounts : List ℕ) (size : ℕ) → isPayment (Is r) ≡ false
+    → makeAnswer t r given amounts size ≡ makeAnswer u r given amounts size
+unfolding makeAnswer versionAnswer writtenAnswer kindAnswer layoutOf
+make-ignores t u Header given amounts size p = refl
+make-ignores t u Payment given amounts size p = never (sym p)
+make-ignores t u Trailer given amounts size p = refl
 
 pub other-makes-ignore-terms : OtherMakesIgnoreTerms
-unfolding makeAnswer termsAnswer writtenAnswer kindAnswer layoutOf
-other-makes-ignore-terms t u Header given amounts size p = refl
-other-makes-ignore-terms t u Payment given amounts size p = never (sym p)
-other-makes-ignore-terms t u Trailer given amounts size p = refl
+other-makes-ignore-terms t u r given amounts size same p = rw (same, make-ignores t u r given amounts size p)
 
 pub payments-join-under-a-version : PaymentsJoinUnderAVersion
-unfolding joinAnswer termsAnswer
-payments-join-under-a-version t rec n e f =
-    rw (eq-eqb (length rec) recordLength n, e, eq-eqb (givenLength Payment) (givenLength Payment) refl, f)
+unfolding joinAnswer versionAnswer
+payments-join-under-a-version t rec right n e f =
+    rw (right, eq-eqb (length rec) recordLength n, e, eq-eqb (givenLength Payment) (givenLength Payment) refl, f)

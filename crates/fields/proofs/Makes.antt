@@ -25,7 +25,7 @@ use Rattle.layout.specs.Layouts.{recordLength, row, table, rowsOf, layoutOf, st
 use Rattle.layout.proofs.Layouts.{Next, next, covers-end, fields-cover}
 use Rattle.layout.proofs.Tables.{every}
 use Rattle.record.proofs.Walks.{in-table}
-use Rattle.kinds.specs.Terms.{Terms, termsAnswer}
+use Rattle.kinds.specs.Terms.{Terms, versionAnswer}
 use Rattle.fields.specs.Making.{writtenOf, isMoney, writtenAnswer, givenWidth, fieldMade, fieldMadeAnswer, amountsAfter, madeOf, makingAnswer, makeAnswer}
 use Rattle.fields.proofs.Parts.{given-width-is, fitsField, written-length, layout-fits}
 use Rattle.fields.proofs.Writes.{put-place}
@@ -179,6 +179,6 @@ module _ (t : Terms) (r : Record) (given amounts : List ℕ) {size : ℕ} where
   unfolding makeAnswer
   wrong-given e q h = rw (eq-eqb size recordLength e, ne-eqb (length given) (givenLength r) (λ k. h (k ∙ sym q)))
 
-  pub goes-on : {a : Answer} → size ≡ recordLength → length given ≡ givenLength r → a ≡ (termsAnswer t r then makingAnswer t (layoutOf r) given amounts) → a ≡ makeAnswer t r given amounts size
+  pub goes-on : {a : Answer} → size ≡ recordLength → length given ≡ givenLength r → a ≡ (versionAnswer (t .version) r then makingAnswer t (layoutOf r) given amounts) → a ≡ makeAnswer t r given amounts size
   unfolding makeAnswer
   goes-on e q h = rw (eq-eqb size recordLength e, eq-eqb (length given) (givenLength r) q) h

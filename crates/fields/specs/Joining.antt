@@ -14,7 +14,8 @@ use Rattle.layout.specs.declared.MaybeRecord.the-variants.{Is, Other}
 use Rattle.layout.specs.declared.Record.{Record}
 use Rattle.layout.specs.declared.Record.the-variants.{Header, Payment, Trailer}
 use Rattle.layout.specs.Layouts.{recordLength, namedBy, givenLength, joinedOf}
-use Rattle.kinds.specs.Terms.{Terms, termsAnswer}
+use Rattle.barcode.specs.Agreed.{listAnswer}
+use Rattle.kinds.specs.Terms.{Terms, versionAnswer}
 use Rattle.record.specs.Records.{layoutAnswer}
 
 -- A and G have field bytes; a Z is the writer's own
@@ -29,7 +30,7 @@ abbrev pub namedJoin : Terms → MaybeRecord → List ℕ → ℕ → Answer
 namedJoin t (Is r) rec size =
     require (isGiven r) NotExpected 1
     then require (eqb size (givenLength r)) WrongLength 0
-    then termsAnswer t r
+    then versionAnswer (t .version) r
     then layoutAnswer t r rec
 namedJoin t Other rec size = Refused NotExpected 1
 
@@ -37,6 +38,10 @@ namedJoin t Other rec size = Refused NotExpected 1
 unfoldable pub joinAnswer : Terms → List ℕ → ℕ → Answer
 joinAnswer t rec size =
     require (eqb (length rec) recordLength) WrongLength 0 then namedJoin t (namedBy (getD rec 0 0)) rec size
+
+-- as a caller asks it: 25 before everything, whatever the record
+abbrev pub joinCheck : Terms → List ℕ → ℕ → Answer
+joinCheck t rec size = listAnswer (t .agreed) then joinAnswer t rec size
 
 -- the field bytes of the record that a first byte names
 abbrev pub joinedIn : MaybeRecord → List ℕ → List ℕ

@@ -16,7 +16,8 @@ use Rattle.layout.specs.declared.Kind.the-variants.{Mark, Version, Service, Bla
 use Rattle.layout.specs.declared.Kind.the-variants.{Date, Barcode, Capture, Form}
 use Rattle.layout.specs.declared.Record.{Record}
 use Rattle.layout.specs.Layouts.{recordLength, layoutOf, stretchOf, givenAt, givenLength}
-use Rattle.kinds.specs.Terms.{Terms, termsAnswer}
+use Rattle.barcode.specs.Agreed.{listAnswer}
+use Rattle.kinds.specs.Terms.{Terms, versionAnswer}
 use Rattle.kinds.specs.Kinds.{serviceOf, kindAnswer}
 
 -- a field's bytes: what is fixed, the digits of an amount, else the bytes that are given for it
@@ -86,5 +87,9 @@ makingAnswer t (f ∷ fs) given amounts =
 unfoldable pub makeAnswer : Terms → Record → List ℕ → List ℕ → ℕ → Answer
 makeAnswer t r given amounts size =
     require (eqb size recordLength && eqb (length given) (givenLength r)) WrongLength 0
-    then termsAnswer t r
+    then versionAnswer (t .version) r
     then makingAnswer t (layoutOf r) given amounts
+
+-- as a caller asks it: 25 before everything, whatever the record
+abbrev pub makeCheck : Terms → Record → List ℕ → List ℕ → ℕ → Answer
+makeCheck t r given amounts size = listAnswer (t .agreed) then makeAnswer t r given amounts size

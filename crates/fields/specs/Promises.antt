@@ -12,10 +12,11 @@ use Rattle.layout.specs.declared.MaybeRecord.the-variants.{Is}
 use Rattle.layout.specs.declared.Record.{Record}
 use Rattle.layout.specs.declared.Record.the-variants.{Payment}
 use Rattle.layout.specs.Layouts.{recordLength, namedBy, layoutOf, rowAt, versionRow, givenLength, joinedOf}
+use Rattle.barcode.specs.Agreed.{listAnswer, RightList}
 use Rattle.kinds.specs.Terms.{Terms, isVersion}
 use Rattle.record.specs.Records.{fieldBytes, layoutAnswer, isPayment}
-use Rattle.fields.specs.Joining.{joinAnswer}
-use Rattle.fields.specs.Making.{isMoney, madeOf, makingAnswer, makeAnswer}
+use Rattle.fields.specs.Joining.{joinCheck}
+use Rattle.fields.specs.Making.{isMoney, madeOf, makingAnswer, makeCheck}
 
 -- the amounts of the money fields of a record, in record order
 abbrev pub amountsIn : List Field → List ℕ → List ℕ
@@ -38,20 +39,20 @@ MadeIsAccepted =
     × (layoutAnswer t r (madeOf (layoutOf r) given amounts) ≡ Accepted)
     × (joinedOf r (madeOf (layoutOf r) given amounts) ≡ given)
 
--- only a G needs its terms, to be joined or made: any other record ignores them
+-- only a G needs its terms, to be joined or made: any other record ignores them, once the list is judged
 abbrev pub OtherJoinsIgnoreTerms : Type 0
 OtherJoinsIgnoreTerms =
-    (t u : Terms) (rec : List ℕ) (size : ℕ) → isPayment (namedBy (getD rec 0 0)) ≡ false
-    → joinAnswer t rec size ≡ joinAnswer u rec size
+    (t u : Terms) (rec : List ℕ) (size : ℕ) → listAnswer (t .agreed) ≡ listAnswer (u .agreed)
+    → isPayment (namedBy (getD rec 0 0)) ≡ false → joinCheck t rec size ≡ joinCheck u rec size
 
 abbrev pub OtherMakesIgnoreTerms : Type 0
 OtherMakesIgnoreTerms =
-    (t u : Terms) (r : Record) (given amounts : List ℕ) (size : ℕ) → isPayment (Is r) ≡ false
-    → makeAnswer t r given amounts size ≡ makeAnswer u r given amounts size
+    (t u : Terms) (r : Record) (given amounts : List ℕ) (size : ℕ) → listAnswer (t .agreed) ≡ listAnswer (u .agreed)
+    → isPayment (Is r) ≡ false → makeCheck t r given amounts size ≡ makeCheck u r given amounts size
 
 -- a G that is told a number other than 4 and 6 is refused 10 at the version's place in a header, behind every 1
 abbrev pub PaymentsJoinUnderAVersion : Type 0
 PaymentsJoinUnderAVersion =
-    (t : Terms) (rec : List ℕ) → length rec ≡ recordLength → namedBy (getD rec 0 0) ≡ Is Payment
-    → isVersion (t .version) ≡ false
-    → joinAnswer t rec (givenLength Payment) ≡ Refused FixedDiffers (rowAt versionRow .first)
+    (t : Terms) (rec : List ℕ) → RightList (t .agreed) → length rec ≡ recordLength
+    → namedBy (getD rec 0 0) ≡ Is Payment → isVersion (t .version) ≡ false
+    → joinCheck t rec (givenLength Payment) ≡ Refused FixedDiffers (rowAt versionRow .first)

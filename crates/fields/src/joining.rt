@@ -64,10 +64,10 @@ fn join_rows(which: Record, rec: &[u8], out: &mut [u8])
 
 // The record that its first byte names: 9 for a Z, 1 unless the buffer has the length of its field bytes, then the
 // record's own. A refusal leaves the buffer unchanged.
-fn join_named(which: Record, rec: &[u8], version: u64, out: &mut [u8]) -> Answer
+fn join_named(which: Record, rec: &[u8], version: u64, agreed: &[u64], out: &mut [u8]) -> Answer
     requires { ⌜ length (now rec) ≡ recordLength ⌝ }
     requires { ⌜ namedBy (getD (now rec) 0 0) ≡ named.Is which ⌝ }
-    ensures answer { λ r. ⌜ r ≡ namedJoin (told version) (named.Is which) (now (rec .entry))
+    ensures answer { λ r. ⌜ r ≡ namedJoin (told version (now (agreed .entry))) (named.Is which) (now (rec .entry))
         (length (now (out .entry))) ⌝ }
     ensures bytes { λ r. ⌜ now (out .exit) ≡ ifAccepted r (joinedOf which (now (rec .entry))) (now (out .entry)) ⌝ }
 {
@@ -77,7 +77,7 @@ fn join_named(which: Record, rec: &[u8], version: u64, out: &mut [u8]) -> Answer
     if out.len() != layout::given_length(which) {
         return Answer::Refused(Reason::WrongLength, 0);
     }
-    let a = record::check(rec, version);
+    let a = record::judged::check(rec, version, agreed);
     match a {
         Answer::Accepted => {
             join_rows(which, rec, out);
@@ -87,11 +87,11 @@ fn join_named(which: Record, rec: &[u8], version: u64, out: &mut [u8]) -> Answer
     }
 }
 
-// Writes the field bytes of an accepted A or G, 80 or 121, into the caller's buffer, which must be exactly as long. A
-// refusal leaves the buffer unchanged: 1 for the record's length, 9 for a Z or a byte that names no record, 1 for the
-// buffer's length, then the record's own under this version, which an A ignores.
-pub fn join(rec: &[u8], version: u64, out: &mut [u8]) -> Answer
-    ensures answer { λ r. ⌜ r ≡ joinAnswer (told version) (now (rec .entry)) (length (now (out .entry))) ⌝ }
+// Under a list of agreed issuers that was judged: 1 for the record's length, 9 for a byte that names no record, then
+// the answer of `join_named`.
+pub(crate) fn join(rec: &[u8], version: u64, agreed: &[u64], out: &mut [u8]) -> Answer
+    ensures answer { λ r. ⌜ r ≡ joinAnswer (told version (now (agreed .entry))) (now (rec .entry))
+        (length (now (out .entry))) ⌝ }
     ensures bytes { λ r. ⌜ now (out .exit) ≡ ifAccepted r
         (joinedIn (namedBy (getD (now (rec .entry)) 0 0)) (now (rec .entry))) (now (out .entry)) ⌝ }
 {
@@ -99,7 +99,7 @@ pub fn join(rec: &[u8], version: u64, out: &mut [u8]) -> Answer
         return Answer::Refused(Reason::WrongLength, 0);
     }
     match layout::named_by(rec[0]) {
-        MaybeRecord::Is(which) => join_named(which, rec, version, out),
+        MaybeRecord::Is(which) => join_named(which, rec, version, agreed, out),
         MaybeRecord::Other => Answer::Refused(Reason::NotExpected, 1),
     }
 }

@@ -5,15 +5,14 @@ ghost use mathlib.Core.List.{[], _∷_};
 ghost use mathlib.Core.Path.{_≡_};
 ghost use lib.ListN.{length, getD, replicate};
 ghost use Rattle.answer.specs.declared.Answer.the-variants as answers;
-ghost use Rattle.answer.specs.Orders.{_then_, ifAccepted};
+ghost use Rattle.answer.specs.Orders.{_then_};
 ghost use Rattle.layout.specs.Layouts.{recordLength, layoutOf, givenLength};
-ghost use Rattle.kinds.specs.Terms.{told, termsAnswer};
+ghost use Rattle.kinds.specs.Terms.{told, versionAnswer};
 ghost use Rattle.kinds.specs.Kinds.{serviceOf};
-ghost use Rattle.fields.specs.Making.{writtenOf, isMoney, writtenAnswer, madeOf, makingAnswer, makeAnswer};
+ghost use Rattle.fields.specs.Making.{writtenOf, isMoney, writtenAnswer, madeOf, makingAnswer};
 use crate::given::copy_all;
 use crate::given::given_width;
 use answer::Answer;
-use answer::Reason;
 use layout::Kind;
 use layout::Record;
 
@@ -77,9 +76,16 @@ fn put_bytes(kind: Kind, given: &[u8], out: &mut [u8])
 
 // Writes a field and then checks what was written, by the reader's own check of the kind: an amount can only be too
 // wide, 21. After a refusal the field's bytes are unspecified.
-fn put_field(kind: Kind, given: &[u8], version: u64, amount: u64, out: &mut [u8]) -> Answer
+fn put_field(
+    kind: Kind,
+    given: &[u8],
+    version: u64,
+    amount: u64,
+    agreed: &[u64],
+    out: &mut [u8],
+) -> Answer
     requires { ⌜ length (writtenOf kind (length (now out)) (now given) amount) ≡ length (now out) ⌝ }
-    ensures answer { λ r. ⌜ r ≡ writtenAnswer (told version) kind (length (now (out .entry)))
+    ensures answer { λ r. ⌜ r ≡ writtenAnswer (told version (now (agreed .entry))) kind (length (now (out .entry)))
         (now (given .entry)) amount ⌝ }
     ensures bytes { λ r. ⌜ (r ≡ answers.Accepted
         → now (out .exit) ≡ writtenOf kind (length (now (out .entry))) (now (given .entry)) amount) ⌝ }
@@ -88,7 +94,7 @@ fn put_field(kind: Kind, given: &[u8], version: u64, amount: u64, out: &mut [u8]
         return decimal::put_number(amount, out.len(), out, 0);
     }
     put_bytes(kind, given, out);
-    kinds::check(kind, out, version)
+    kinds::check(kind, out, version, agreed)
 }
 
 // The next of two amounts, and after them 0.
@@ -120,11 +126,12 @@ fn make_rows(
     version: u64,
     first: u64,
     second: u64,
+    agreed: &[u64],
     made: &mut [u8],
 ) -> Answer
     requires { ⌜ length (now made) ≡ recordLength ⌝ }
     requires { ⌜ length (now given) ≡ givenLength which ⌝ }
-    ensures answer { λ r. ⌜ r ≡ makingAnswer (told version) (layoutOf which) (now (given .entry))
+    ensures answer { λ r. ⌜ r ≡ makingAnswer (told version (now (agreed .entry))) (layoutOf which) (now (given .entry))
         (first ∷ second ∷ []) ⌝ }
     ensures bytes { λ r. ⌜ (r ≡ answers.Accepted
         → now (made .exit) ≡ madeOf (layoutOf which) (now (given .entry)) (first ∷ second ∷ [])) ⌝ }
@@ -143,7 +150,7 @@ fn make_rows(
         let next = at + given_width(f);
         let amount = amount_at(used, first, second);
         let part = &given[at..next];
-        let a = put_field(kind, part, version, amount, &mut made[done..end]);
+        let a = put_field(kind, part, version, amount, agreed, &mut made[done..end]);
         let Answer::Accepted = a else {
             return a.behind(done);
         };
@@ -157,58 +164,25 @@ fn make_rows(
 
 // Makes the record: 10 for a G under a number other than 4 and 6, then field by field. After a refusal the bytes made
 // are unspecified.
-fn make_named(
+pub(crate) fn make_named(
     which: Record,
     given: &[u8],
     version: u64,
     first: u64,
     second: u64,
+    agreed: &[u64],
     made: &mut [u8],
 ) -> Answer
     requires { ⌜ length (now made) ≡ recordLength ⌝ }
     requires { ⌜ length (now given) ≡ givenLength which ⌝ }
-    ensures answer { λ r. ⌜ r ≡ termsAnswer (told version) which
-        then makingAnswer (told version) (layoutOf which) (now (given .entry)) (first ∷ second ∷ []) ⌝ }
+    ensures answer { λ r. ⌜ r ≡ versionAnswer version which then makingAnswer (told version (now (agreed .entry)))
+        (layoutOf which) (now (given .entry)) (first ∷ second ∷ []) ⌝ }
     ensures bytes { λ r. ⌜ (r ≡ answers.Accepted
         → now (made .exit) ≡ madeOf (layoutOf which) (now (given .entry)) (first ∷ second ∷ [])) ⌝ }
 {
     let a = kinds::check_version(which, version);
     match a {
-        Answer::Accepted => make_rows(which, given, version, first, second, made),
-        Answer::Refused(_, _) => a,
-    }
-}
-
-// Writes the record with these field bytes and amounts into the caller's buffer: a header takes no amount, a payment
-// received and tariff, a trailer its total; amounts that the record has no field for are ignored. A refusal leaves the
-// buffer unchanged: 1 unless it has 150 bytes and the field bytes are as many as the record takes, then 10 at 80 for a
-// payment under a number other than 4 and 6, then the fields in their order, with their places in the record.
-pub fn make(
-    which: Record,
-    given: &[u8],
-    version: u64,
-    first: u64,
-    second: u64,
-    out: &mut [u8],
-) -> Answer
-    ensures answer { λ r. ⌜ r ≡ makeAnswer (told version) which (now (given .entry)) (first ∷ second ∷ [])
-        (length (now (out .entry))) ⌝ }
-    ensures bytes { λ r. ⌜ now (out .exit) ≡ ifAccepted r
-        (madeOf (layoutOf which) (now (given .entry)) (first ∷ second ∷ [])) (now (out .entry)) ⌝ }
-{
-    if out.len() != layout::LENGTH {
-        return Answer::Refused(Reason::WrongLength, 0);
-    }
-    if given.len() != layout::given_length(which) {
-        return Answer::Refused(Reason::WrongLength, 0);
-    }
-    let mut made = [0u8; layout::LENGTH];
-    let a = make_named(which, given, version, first, second, &mut made);
-    match a {
-        Answer::Accepted => {
-            bytes::copy(&made, out);
-            a
-        }
+        Answer::Accepted => make_rows(which, given, version, first, second, agreed, made),
         Answer::Refused(_, _) => a,
     }
 }

@@ -16,13 +16,13 @@ use Rattle.fields.proofs.making.make_rows.Statement.{statement}
 use Rattle.fields.proofs.making.make_rows.Tie as tie
 
 abbrev Inv-loop : tie.InvT-loop
-Inv-loop given version first second made₀ table to i₀ done₀ at₀ used₀ made i done at used =
+Inv-loop given version first second agreed made₀ table to i₀ done₀ at₀ used₀ made i done at used =
     (i ≤ to)
-    × Making (told version) (slice i to table) given (first ∷ second ∷ []) made done at used (makingAnswer (told version) (slice i₀ to table) given (first ∷ second ∷ []))
+    × Making (told version agreed) (slice i to table) given (first ∷ second ∷ []) made done at used (makingAnswer (told version agreed) (slice i₀ to table) given (first ∷ second ∷ []))
     (madeOf (slice i₀ to table) given (first ∷ second ∷ []))
 
 abbrev μ-loop : tie.MeasureT-loop
-μ-loop given version first second made₀ table to i₀ done₀ at₀ used₀ made i done at used = to - i
+μ-loop given version first second agreed made₀ table to i₀ done₀ at₀ used₀ made i done at used = to - i
 
 table-requires : tie.Need-table-requires Inv-loop μ-loop
 table-requires c κs = search needs
@@ -34,7 +34,7 @@ loop-holds : tie.Need-loop-holds Inv-loop μ-loop
 loop-holds c =
     let table = c .before .table .ensures in
     let rows = c .rows-of .ensures in
-    let lengths = c .before .before .before .before .pre in
+    let lengths = c .before .before .before .before .before .pre in
     (in-order _ table rows, start _ _ _ _ _ (rows-here _ table rows) (lengths .0) (lengths .1))
 
 mul-f : tie.Need-mul-f Inv-loop μ-loop
@@ -54,7 +54,7 @@ add-next c =
     let turn = c .before .before in
     let here = at-row _ (turn .before .before .before .table .ensures) (turn .before .before .rows-of .ensures) (turn .loop-test .taken) (turn .before .loop .inv .1) in
     let width = c .given-width .ensures in
-    omega (arith, in-given here width, turn .before .before .before .before .before .before .good)
+    omega (arith, in-given here width, turn .before .before .before .before .before .before .before .good)
 
 amount-at-requires : tie.Need-amount-at-requires Inv-loop μ-loop
 amount-at-requires c κs = search needs
@@ -132,14 +132,14 @@ returns c =
     let putting = c .before .before .before .before .before in
     let taking = putting .before .before .before .before in
     let turn = taking .before .before in
-    let a = turn .before .before .before .before .before .before .args in
+    let a = turn .before .before .before .before .before .before .before .args in
     let table = turn .before .before .before .table .ensures in
     let rows = turn .before .before .rows-of .ensures in
     let here = at-row _ table rows (turn .loop-test .taken) (turn .before .loop .inv .1) in
     let amount = putting .before .before .before .amount-at .ensures in
     let stops = c .before .enum-told2 .given .1 in
     let refused = refuses here (taking .given-width .ensures) amount (putting .put-field .ensures .0) stops (c .behind .ensures) in (
-      refused ∙ ap (λ (l : List Field). makingAnswer (told (a .version)) l (a .given .now) (a .first ∷ a .second ∷ [])) (rows-here _ table rows),
+      refused ∙ ap (λ (l : List Field). makingAnswer (told (a .version) (a .agreed .now)) l (a .given .now) (a .first ∷ a .second ∷ [])) (rows-here _ table rows),
       λ h. not-both _ (c .behind .ensures ∙ ap (movedBy (cappedBehind _)) stops) h,
     )
 
@@ -148,10 +148,10 @@ same-length-2 c = search needs
 
 returns-2 : tie.Need-returns-2 Inv-loop μ-loop
 returns-2 c =
-    let a = c .before .before .before .before .before .before .args in
+    let a = c .before .before .before .before .before .before .before .args in
     let whole = rows-here _ (c .before .before .before .table .ensures) (c .before .before .rows-of .ensures) in
     let ended = at-end _ _ _ (c .before .loop .inv .0) (c .loop-test .left) (c .before .loop .inv .1) in (
-      ended .0 ∙ ap (λ (l : List Field). makingAnswer (told (a .version)) l (a .given .now) (a .first ∷ a .second ∷ [])) whole,
+      ended .0 ∙ ap (λ (l : List Field). makingAnswer (told (a .version) (a .agreed .now)) l (a .given .now) (a .first ∷ a .second ∷ [])) whole,
       λ h. ended .1 ∙ ap (λ (l : List Field). madeOf l (a .given .now) (a .first ∷ a .second ∷ [])) whole,
     )
 

@@ -22,17 +22,17 @@ returns : tie.Need-returns
 returns c =
     let putting = c .before .before in
     let testing = putting .before .before in
-    let a = testing .before .before .before .before .args in
+    let a = testing .before .before .before .before .before .args in
     let money = sym (testing .before .is-money .ensures) ∙ testing .if1 .taken in
     let w = length (a .out .now) in (
-      put-money (told (a .version)) (a .kind) w (a .given .now) (a .amount) money (putting .put-number .ensures .0 ∙ room-answer w 0 w (a .amount) (omega arith)),
-      put-money-bytes (told (a .version)) (a .kind) w (a .given .now) (a .amount) _ _ money refl (putting .put-number .ensures .1),
+      put-money (told (a .version) (a .agreed .now)) (a .kind) w (a .given .now) (a .amount) money (putting .put-number .ensures .0 ∙ room-answer w 0 w (a .amount) (omega arith)),
+      put-money-bytes (told (a .version) (a .agreed .now)) (a .kind) w (a .given .now) (a .amount) _ _ money refl (putting .put-number .ensures .1),
     )
 
 put-bytes-requires : tie.Need-put-bytes-requires
 put-bytes-requires c κs =
     let testing = c .before in
-    let start = testing .before .before .before .before in
+    let start = testing .before .before .before .before .before in
     let a = start .args in
     let other = sym (testing .before .is-money .ensures) ∙ testing .if1 .left in
     (other, ap length (sym (other-is (a .kind) (length (a .out .now)) (a .given .now) (a .amount) other)) ∙ start .pre)
@@ -47,11 +47,11 @@ returns-2 : tie.Need-returns-2
 returns-2 c =
     let putting = c .before .before .before .before in
     let testing = putting .before .before in
-    let a = testing .before .before .before .before .args in
+    let a = testing .before .before .before .before .before .args in
     let other = sym (testing .before .is-money .ensures) ∙ testing .if1 .left in
     let bytes = putting .put-bytes .ensures in
     let w = length (a .out .now) in (
-      put-other (told (a .version)) (a .kind) w (a .given .now) (a .amount) other bytes (c .check .ensures),
+      put-other (told (a .version) (a .agreed .now)) (a .kind) w (a .given .now) (a .amount) other bytes (c .check .ensures),
       λ e. bytes ∙ sym (other-is (a .kind) w (a .given .now) (a .amount) other),
     )
 
