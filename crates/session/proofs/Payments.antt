@@ -13,7 +13,7 @@ use Rattle.layout.specs.declared.MaybeRecord.{MaybeRecord}
 use Rattle.layout.specs.declared.MaybeRecord.the-variants.{Is, Other}
 use Rattle.layout.specs.declared.Record.the-variants as layout
 use Rattle.layout.specs.Layouts.{recordLength, namedBy}
-use Rattle.kinds.specs.Terms.{Terms, told}
+use Rattle.kinds.specs.Terms.{told}
 use Rattle.record.specs.declared.Payment.{Payment}
 use Rattle.barcode.specs.declared.Issuer.{Issuer}
 use Rattle.record.specs.declared.PaymentDue.{PaymentDue}
@@ -21,7 +21,7 @@ use Rattle.record.specs.declared.PaymentDue.the-variants as due
 use Rattle.record.specs.declared.Decoded.{Decoded}
 use Rattle.record.specs.declared.Decoded.the-variants as decoded
 use Rattle.record.specs.Records.{recordAnswer}
-use Rattle.record.specs.Values.{recordShown, shownUnlessRefused, decodedRecord, paymentDueOf}
+use Rattle.record.specs.Values.{recordShown, shownUnlessRefused, decodedRecordUnder, paymentDueOf}
 use Rattle.file.specs.declared.FileResult.{FileResult}
 use Rattle.file.specs.Files.{fileResultOf, fileAnswer, fileWith}
 use Rattle.file.specs.Forms.{lengthOf, bodyOf, fitsLength, endAnswer}
@@ -37,7 +37,7 @@ use Rattle.session.specs.declared.leading.Progress.{Progress}
 use Rattle.session.specs.declared.leading.MaybePayment.{MaybePayment}
 use Rattle.session.specs.declared.leading.MaybePayment.the-variants as maybe
 use Rattle.session.specs.declared.leading.LeadingPayments.{LeadingPayments}
-use Rattle.session.specs.Sessions.{sessionTerms, laneOfPayment, takeAnswer, nextSession, takeOf}
+use Rattle.session.specs.Sessions.{sessionTerms, laneOfPayment, takeAnswer, nextSession, takeUnder}
 use Rattle.session.specs.Runs.{pieceLength, leastLeft, filesClosed}
 use Rattle.session.specs.LeadingPayments.{Taken, NextPaymentOf, withLeading, LeadingPaymentsOf}
 use Rattle.session.proofs.Steps.{posted-board, taken-file}
@@ -45,32 +45,32 @@ use Rattle.session.proofs.Lengths.{fits-form}
 use Rattle.session.proofs.Runs.{least-some, piece-part, piece-first, run-goes}
 
 -- what is decoded as a payment was accepted, and its first byte names a payment
-shown-payment : (a : Answer) (n : MaybeRecord) (rec : List ℕ) {p : Payment}
-    → shownUnlessRefused a (recordShown n rec) ≡ decoded.Payment p
+shown-payment : (agreed : List ℕ) (a : Answer) (n : MaybeRecord) (rec : List ℕ) {p : Payment}
+    → shownUnlessRefused a (recordShown agreed n rec) ≡ decoded.Payment p
     → (a ≡ answer.Accepted) × (n ≡ Is layout.Payment)
-shown-payment answer.Accepted (Is layout.Header) rec h = (refl, cc)
-shown-payment answer.Accepted (Is layout.Payment) rec h = (refl, refl)
-shown-payment answer.Accepted (Is layout.Trailer) rec h = (refl, cc)
-shown-payment answer.Accepted Other rec h = (refl, cc)
-shown-payment (answer.Refused why place) n rec h = (cc, cc)
+shown-payment agreed answer.Accepted (Is layout.Header) rec h = (refl, cc)
+shown-payment agreed answer.Accepted (Is layout.Payment) rec h = (refl, refl)
+shown-payment agreed answer.Accepted (Is layout.Trailer) rec h = (refl, cc)
+shown-payment agreed answer.Accepted Other rec h = (refl, cc)
+shown-payment agreed (answer.Refused why place) n rec h = (cc, cc)
 
-module _ (t : Terms) (rec : List ℕ) {p : Payment} (is : decodedRecord t (bodyOf rec) ≡ decoded.Payment p) where
+module _ (agreed : List ℕ) (s : Session) (rec : List ℕ) {p : Payment} (is : decodedRecordUnder (sessionTerms agreed s) (bodyOf rec) ≡ decoded.Payment p) where
   pub payment-named : namedBy (getD rec 0 0) ≡ Is layout.Payment
   payment-named =
       ap namedBy (sym (first-in rec))
-      ∙ shown-payment (recordAnswer t (bodyOf rec)) (namedBy (getD (bodyOf rec) 0 0)) (bodyOf rec) is .1
+      ∙ shown-payment agreed (recordAnswer (sessionTerms agreed s) (bodyOf rec)) (namedBy (getD (bodyOf rec) 0 0)) (bodyOf rec) is .1
 
-  -- in an open session of its version, with a file and a slot that take it, and with the end that its form has
-  module _ (s : Session) (terms : sessionTerms s ≡ t) (opened : s .opened ≡ true)
+  -- in an open session, with a file and a slot that take it, and with the end that its form has
+  module _ (opened : s .opened ≡ true)
       (long : fitsLength true (s .file .lined) rec ≡ true) (ended : endAnswer true (s .file .lined) rec ≡ answer.Accepted)
       (fits : fileAnswer (s .file) (p .received) ≡ answer.Accepted)
       {at : ℕ} (found : at ≡ indexOf (p .barcode .issuer) (lanesOf (s .work))) {e : SlotResult} (posted : e ≡ slotResultOf (slotAt (s .work) at) (laneOfPayment p))
       (accepted : e .answer ≡ answer.Accepted) where
-    pub payment-taken : takeAnswer s rec ≡ answer.Accepted
+    pub payment-taken : takeAnswer agreed s rec ≡ answer.Accepted
     payment-taken =
         let b : postAnswer (s .work) (laneOfPayment p) ≡ answer.Accepted =
         sym (ap (λ (x : PostResult). x .answer) (put-back (s .work) (laneOfPayment p) at e found posted)) ∙ accepted in
-        rw (terms, is, opened, long, payment-named, fits, b, ended)
+        rw (is, opened, long, payment-named, fits, b, ended)
 
     pub payment-leaves : _≡_ {A = Session}
         (record {
@@ -80,9 +80,9 @@ module _ (t : Terms) (rec : List ℕ) {p : Payment} (is : decodedRecord t (bodyO
           opened = s .opened;
           file = fileWith (s .file) (p .received);
         })
-        (nextSession s rec)
+        (nextSession agreed s rec)
     payment-leaves =
-        rw (terms, is, posted-board (s .work) (laneOfPayment p) (put-back (s .work) (laneOfPayment p) at e found posted) accepted)
+        rw (is, posted-board (s .work) (laneOfPayment p) (put-back (s .work) (laneOfPayment p) at e found posted) accepted)
 
 -- what `accepted_payment` reads is a payment
 record PaidTo (d : Decoded) (i : Issuer) (x : ℕ) : Type 0 where
@@ -98,18 +98,18 @@ paid-to (decoded.Trailer t) e = let z : _≡_ {A = ℕ} 0 1 = cc in absurd (omeg
 paid-to (decoded.Refused why place) e = let z : _≡_ {A = ℕ} 0 1 = cc in absurd (omega arith)
 
 -- what was read, and the file that took it
-pub next-is : {opened more : Bool} {before : Progress} {bytes : List ℕ} {end : ℕ} → opened ≡ true
+pub next-is : (agreed : List ℕ) {opened more : Bool} {before : Progress} {bytes : List ℕ} {end : ℕ} → opened ≡ true
     → before .at + leastLeft more ≤ length bytes → end ≡ before .at + lengthOf (before .file .lined) → end ≤ length bytes
     → endAnswer true (before .file .lined) (take (end - before .at) (drop (before .at) bytes)) ≡ answer.Accepted
     → {d : PaymentDue} {i : Issuer} {x : ℕ}
-    → d ≡ paymentDueOf (decodedRecord (told (before .file .version)) (take (before .at + recordLength - before .at) (drop (before .at) bytes)))
+    → d ≡ paymentDueOf (decodedRecordUnder (told (before .file .version) agreed) (take (before .at + recordLength - before .at) (drop (before .at) bytes)))
     → d ≡ due.To i x
     → {t : FileResult} → t ≡ fileResultOf (before .file) x → t .answer ≡ answer.Accepted → {l : Lane}
     → l ≡ laneOfOne i x
-    → Taken opened more before bytes l (record { file = t .file; records = before .records + 1; at = end })
-next-is {before = before} {bytes} {end} going enough ends inside ended read found {t} took fits paid =
+    → Taken agreed opened more before bytes l (record { file = t .file; records = before .records + 1; at = end })
+next-is agreed {before = before} {bytes} {end} going enough ends inside ended read found {t} took fits paid =
     let own : before .at + recordLength - before .at ≡ recordLength = omega arith in
-    let payment = paid-to (decodedRecord (told (before .file .version)) (take recordLength (drop (before .at) bytes))) (sym (rw own at read) ∙ found) in
+    let payment = paid-to (decodedRecordUnder (told (before .file .version) agreed) (take recordLength (drop (before .at) bytes))) (sym (rw own at read) ∙ found) in
     let took′ : t ≡ fileResultOf (before .file) (payment .shown .received) = rw (payment .received) took in
     record {
       going = going;
@@ -125,20 +125,20 @@ next-is {before = before} {bytes} {end} going enough ends inside ended read foun
       counts = refl;
     }
 
-pub next-told : {opened more : Bool} {before next : Progress} {bytes : List ℕ} {paid : Lane} {r : MaybePayment}
-    → NextPaymentOf opened more before bytes r → r ≡ maybe.Is paid next
-    → Taken opened more before bytes paid next
-next-told h e = rw e at h
+pub next-told : (agreed : List ℕ) {opened more : Bool} {before next : Progress} {bytes : List ℕ} {paid : Lane} {r : MaybePayment}
+    → NextPaymentOf agreed opened more before bytes r → r ≡ maybe.Is paid next
+    → Taken agreed opened more before bytes paid next
+next-told agreed h e = rw e at h
 
 -- one more payment posted in place: the run goes on behind it
-pub one-more : (self : Session) (more : Bool) (bytes : List ℕ) (b : LeadingPayments) → LeadingPaymentsOf self more bytes b
+pub one-more : (agreed : List ℕ) (self : Session) (more : Bool) (bytes : List ℕ) (b : LeadingPayments) → LeadingPaymentsOf agreed self more bytes b
     → {paid : Lane} {next : Progress}
-    → Taken (self .opened) more (b .progress) bytes paid next
+    → Taken agreed (self .opened) more (b .progress) bytes paid next
     → {at : ℕ} → at ≡ indexOf (paid .issuer) (lanesOf (b .work)) → {e : SlotResult}
     → e ≡ slotResultOf (slotAt (b .work) at) paid → e .answer ≡ answer.Accepted
-    → LeadingPaymentsOf self more bytes
+    → LeadingPaymentsOf agreed self more bytes
     (record { work = record { lanes = set (b .work .lanes) at (e .slot .lane); used = e .slot .used; total = e .slot .total }; progress = next })
-one-more self more bytes b inv {paid} {next} took {at} found {e} posted accepted =
+one-more agreed self more bytes b inv {paid} {next} took {at} found {e} posted accepted =
     let s = withLeading self b in
     let from = b .progress .at in
     let lined = b .progress .file .lined in
@@ -151,25 +151,25 @@ one-more self more bytes b inv {paid} {next} took {at} found {e} posted accepted
     let l = length-drop from bytes in
     let long : length piece ≡ lengthOf lined = length-take-le (next .at - from) (drop from bytes) (omega (arith, took .ends, took .inside)) ∙ omega (arith, took .ends) in
     let body : bodyOf piece ≡ take recordLength (drop from bytes) = take-take recordLength (next .at - from) (drop from bytes) (omega (arith, took .ends, some)) in
-    let is : decodedRecord (sessionTerms s) (bodyOf piece) ≡ decoded.Payment p = ap (decodedRecord (sessionTerms s)) body ∙ took .is in
+    let is : decodedRecordUnder (sessionTerms agreed s) (bodyOf piece) ≡ decoded.Payment p = ap (decodedRecordUnder (sessionTerms agreed s)) body ∙ took .is in
     let found′ : at ≡ indexOf (p .barcode .issuer) (lanesOf (b .work)) = rw (took .lane) at found in
     let posted′ : e ≡ slotResultOf (slotAt (b .work) at) (laneOfPayment p) = rw (took .lane) at posted in
     let fits-it = fits-form lined piece long in
-    let accepts : takeAnswer s piece ≡ answer.Accepted =
-    payment-taken (sessionTerms s) piece is s refl (took .going) fits-it (took .ended) (took .fits) found′ posted′ accepted in
+    let accepts : takeAnswer agreed s piece ≡ answer.Accepted =
+    payment-taken agreed s piece is (took .going) fits-it (took .ended) (took .fits) found′ posted′ accepted in
     let next′ =
-    payment-leaves (sessionTerms s) piece is s refl (took .going) fits-it (took .ended) (took .fits) found′ posted′ accepted
-    ∙ ap (λ (a : Answer). ifAccepted a (nextSession s piece) s) (sym accepts) in
+    payment-leaves agreed s piece is (took .going) fits-it (took .ended) (took .fits) found′ posted′ accepted
+    ∙ ap (λ (a : Answer). ifAccepted a (nextSession agreed s piece) s) (sym accepts) in
     let end : next .at ≡ from + min size (length bytes - from) = omega (arith, took .ends, took .inside, own) in
     let inside : from < length bytes = omega (arith, took .ends, took .inside, some) in
     let first : getD piece 0 0 ≡ getD bytes from 0 =
     ap (λ (x : List ℕ). getD x 0 0) (piece-part bytes from size inside (omega (arith, own, some)) end)
     ∙ piece-first bytes from size inside (omega (arith, own, some)) end in
     let none : filesClosed (namedBy (getD bytes from 0)) ≡ 0 =
-    ap (λ (x : ℕ). filesClosed (namedBy x)) (sym first) ∙ ap filesClosed (payment-named (sessionTerms s) piece is) in
+    ap (λ (x : ℕ). filesClosed (namedBy x)) (sym first) ∙ ap filesClosed (payment-named agreed s piece is) in
     record {
       within = took .inside;
       few = omega (arith, inv .few, took .ends, some, took .counts);
       rest =
-          rw (took .counts, took .file, next′) (run-goes self s more bytes from (b .progress .records) 0 (inv .rest) inside (omega (arith, took .enough)) end {t = takeOf s piece} refl accepts (sym none));
+          rw (took .counts, took .file, next′) (run-goes agreed self s more bytes from (b .progress .records) 0 (inv .rest) inside (omega (arith, took .enough)) end {t = takeUnder agreed s piece} refl accepts (sym none));
     }

@@ -21,8 +21,8 @@ use Rattle.session.specs.declared.Session.{Session}
 use Rattle.session.specs.declared.RunResult.{RunResult}
 use Rattle.session.specs.declared.TakeResult.{TakeResult}
 use Rattle.session.specs.declared.leading.LeadingPayments.{LeadingPayments}
-use Rattle.session.specs.Sessions.{takeAnswer, nextSession, takeOf}
-use Rattle.session.specs.Runs.{pieceLength, pieceOf, leastLeft, piecesUpTo, piecesOf, filesClosed, emptyRun, addCounts, runOf}
+use Rattle.session.specs.Sessions.{takeAnswer, nextSession, takeUnder}
+use Rattle.session.specs.Runs.{pieceLength, pieceOf, leastLeft, piecesUpTo, piecesOf, filesClosed, emptyRun, addCounts, runUnder}
 use Rattle.session.specs.LeadingPayments.{withLeading, LeadingPaymentsOf}
 
 -- a piece is not empty, and needs a byte
@@ -35,49 +35,49 @@ least-some false = omega arith
 
 -- The pieces.
 
-none-up-to : (n : ℕ) (s : Session) (more : Bool) (bytes : List ℕ) → length bytes < leastLeft more → piecesUpTo n s more bytes ≡ []
-none-up-to zero s more bytes h = refl
-none-up-to (suc n) s more bytes h = rw (lt-ltb (length bytes) (leastLeft more) h)
+none-up-to : (agreed : List ℕ) (n : ℕ) (s : Session) (more : Bool) (bytes : List ℕ) → length bytes < leastLeft more → piecesUpTo agreed n s more bytes ≡ []
+none-up-to agreed zero s more bytes h = refl
+none-up-to agreed (suc n) s more bytes h = rw (lt-ltb (length bytes) (leastLeft more) h)
 
 -- more fuel than bytes changes nothing
-fuel : (n m : ℕ) (s : Session) (more : Bool) (bytes : List ℕ) → length bytes ≤ n → length bytes ≤ m
-    → piecesUpTo n s more bytes ≡ piecesUpTo m s more bytes
-fuel zero m s more bytes h k = sym (none-up-to m s more bytes (omega (arith, least-some more)))
-fuel (suc n) zero s more bytes h k = none-up-to (suc n) s more bytes (omega (arith, least-some more))
-fuel (suc n) (suc m) s more bytes h k =
+fuel : (agreed : List ℕ) (n m : ℕ) (s : Session) (more : Bool) (bytes : List ℕ) → length bytes ≤ n → length bytes ≤ m
+    → piecesUpTo agreed n s more bytes ≡ piecesUpTo agreed m s more bytes
+fuel agreed zero m s more bytes h k = sym (none-up-to agreed m s more bytes (omega (arith, least-some more)))
+fuel agreed (suc n) zero s more bytes h k = none-up-to agreed (suc n) s more bytes (omega (arith, least-some more))
+fuel agreed (suc n) (suc m) s more bytes h k =
     let size = pieceLength s bytes in
     let l = length-drop size bytes in
     ap (λ (ps : List (List ℕ)). cond (ltb (length bytes) (leastLeft more)) [] (pieceOf s bytes ∷ ps))
-    (fuel n m (takeOf s (pieceOf s bytes) .session) more (drop size bytes) (omega (arith, piece-some s bytes)) (omega (arith, piece-some s bytes)))
+    (fuel agreed n m (takeUnder agreed s (pieceOf s bytes) .session) more (drop size bytes) (omega (arith, piece-some s bytes)) (omega (arith, piece-some s bytes)))
 
-pub pieces-cons : (s : Session) (more : Bool) (bytes : List ℕ) → leastLeft more ≤ length bytes
-    → piecesOf s more bytes
-    ≡ pieceOf s bytes ∷ piecesOf (takeOf s (pieceOf s bytes) .session) more (drop (pieceLength s bytes) bytes)
-pieces-cons s more [] h = absurd (omega (arith, least-some more))
-pieces-cons s more (b ∷ bytes) h =
+pub pieces-cons : (agreed : List ℕ) (s : Session) (more : Bool) (bytes : List ℕ) → leastLeft more ≤ length bytes
+    → piecesOf agreed s more bytes
+    ≡ pieceOf s bytes ∷ piecesOf agreed (takeUnder agreed s (pieceOf s bytes) .session) more (drop (pieceLength s bytes) bytes)
+pieces-cons agreed s more [] h = absurd (omega (arith, least-some more))
+pieces-cons agreed s more (b ∷ bytes) h =
     let all = b ∷ bytes in
     let size = pieceLength s all in
     let l = length-drop size all in
     rw (le-ltb (length all) (leastLeft more) h)
     (ap (λ (ps : List (List ℕ)). pieceOf s all ∷ ps)
-    (fuel (length bytes) (length (drop size all)) (takeOf s (pieceOf s all) .session) more (drop size all) (omega (arith, piece-some s all)) (omega arith)))
+    (fuel agreed (length bytes) (length (drop size all)) (takeUnder agreed s (pieceOf s all) .session) more (drop size all) (omega (arith, piece-some s all)) (omega arith)))
 
 -- The run: no piece is left, the next is refused, or the run goes on behind it.
 
-pub run-none : (s : Session) (more : Bool) (bytes : List ℕ) → length bytes < leastLeft more → runOf s more bytes ≡ emptyRun Accepted s
-run-none s more bytes h = rw (none-up-to (length bytes) s more bytes h)
+pub run-none : (agreed : List ℕ) (s : Session) (more : Bool) (bytes : List ℕ) → length bytes < leastLeft more → runUnder agreed s more bytes ≡ emptyRun Accepted s
+run-none agreed s more bytes h = rw (none-up-to agreed (length bytes) s more bytes h)
 
-module _ (s : Session) (more : Bool) (bytes : List ℕ) (enough : leastLeft more ≤ length bytes) where
-  pub run-refused : {a : Answer} {why : Reason} {p : ℕ} → a ≡ takeAnswer s (pieceOf s bytes)
-      → a ≡ Refused why p → runOf s more bytes ≡ emptyRun a s
+module _ (agreed : List ℕ) (s : Session) (more : Bool) (bytes : List ℕ) (enough : leastLeft more ≤ length bytes) where
+  pub run-refused : {a : Answer} {why : Reason} {p : ℕ} → a ≡ takeAnswer agreed s (pieceOf s bytes)
+      → a ≡ Refused why p → runUnder agreed s more bytes ≡ emptyRun a s
   run-refused {a} {why} {p} e f =
-      let g : takeAnswer s (pieceOf s bytes) ≡ Refused why p = sym e ∙ f in rw (pieces-cons s more bytes enough, g, f)
+      let g : takeAnswer agreed s (pieceOf s bytes) ≡ Refused why p = sym e ∙ f in rw (pieces-cons agreed s more bytes enough, g, f)
 
-  pub run-on : takeAnswer s (pieceOf s bytes) ≡ Accepted
-      → runOf s more bytes
+  pub run-on : takeAnswer agreed s (pieceOf s bytes) ≡ Accepted
+      → runUnder agreed s more bytes
       ≡ addCounts 1 (filesClosed (namedBy (getD (pieceOf s bytes) 0 0))) (length (pieceOf s bytes))
-      (runOf (nextSession s (pieceOf s bytes)) more (drop (pieceLength s bytes) bytes))
-  run-on g = rw (pieces-cons s more bytes enough, g)
+      (runUnder agreed (nextSession agreed s (pieceOf s bytes)) more (drop (pieceLength s bytes) bytes))
+  run-on g = rw (pieces-cons agreed s more bytes enough, g)
 
 -- The counts.
 
@@ -144,30 +144,30 @@ module _ (bytes : List ℕ) (at : ℕ) where
 
 -- The loop at an index, after so many records and files: nothing is left, it goes on behind payments, it stops, or it
 -- goes on behind one record.
-module _ (self s : Session) (more : Bool) (bytes : List ℕ) (at records files : ℕ)
-    (inv : addCounts records files at (runOf s more (drop at bytes)) ≡ runOf self more bytes) where
+module _ (agreed : List ℕ) (self s : Session) (more : Bool) (bytes : List ℕ) (at records files : ℕ)
+    (inv : addCounts records files at (runUnder agreed s more (drop at bytes)) ≡ runUnder agreed self more bytes) where
   pub run-ends : length bytes - at < leastLeft more
-      → _≡_ {A = RunResult} (record { answer = Accepted; session = s; records = records; files = files; bytes = at }) (runOf self more bytes)
+      → _≡_ {A = RunResult} (record { answer = Accepted; session = s; records = records; files = files; bytes = at }) (runUnder agreed self more bytes)
   run-ends h =
       counts-empty records files at Accepted s
-      ∙ ap (addCounts records files at) (sym (run-none s more (drop at bytes) (omega (arith, length-drop at bytes, h)))) ∙ inv
+      ∙ ap (addCounts records files at) (sym (run-none agreed s more (drop at bytes) (omega (arith, length-drop at bytes, h)))) ∙ inv
 
-  pub run-paid : {p : LeadingPayments} → LeadingPaymentsOf s more (take (length bytes - at) (drop at bytes)) p
+  pub run-paid : {p : LeadingPayments} → LeadingPaymentsOf agreed s more (take (length bytes - at) (drop at bytes)) p
       → addCounts (records + p .progress .records) files (at + p .progress .at)
-      (runOf (withLeading s p) more (drop (at + p .progress .at) bytes))
-      ≡ runOf self more bytes
+      (runUnder agreed (withLeading s p) more (drop (at + p .progress .at) bytes))
+      ≡ runUnder agreed self more bytes
   run-paid {p} h =
       let n = p .progress .records in
       let k = p .progress .at in
-      let r = runOf (withLeading s p) more (drop k (drop at bytes)) in
-      let rest : addCounts n 0 k r ≡ runOf s more (drop at bytes) = rw (whole-part bytes at) at (h .rest) in
+      let r = runUnder agreed (withLeading s p) more (drop k (drop at bytes)) in
+      let rest : addCounts n 0 k r ≡ runUnder agreed s more (drop at bytes) = rw (whole-part bytes at) at (h .rest) in
       let none : addCounts records files at (addCounts n 0 k r) ≡ addCounts (records + n) files (at + k) r =
       counts-add records files at n 0 k r ∙ rw (add-zero files) in
       rw (← drop-drop k at bytes) (sym none ∙ ap (addCounts records files at) rest ∙ inv)
 
   module _ (inside : at < length bytes) (enough : leastLeft more ≤ length bytes - at) {end : ℕ}
       (e : end ≡ at + min (pieceLength s (drop at bytes)) (length bytes - at)) {t : TakeResult}
-      (took : t ≡ takeOf s (take (end - at) (drop at bytes))) where
+      (took : t ≡ takeUnder agreed s (take (end - at) (drop at bytes))) where
     abbrev size : ℕ
     size = pieceLength s (drop at bytes)
 
@@ -180,23 +180,23 @@ module _ (self s : Session) (more : Bool) (bytes : List ℕ) (at records files :
     left : leastLeft more ≤ length (drop at bytes)
     left = omega (arith, length-drop at bytes, enough)
 
-    answered : t .answer ≡ takeAnswer s piece
-    answered = ap (λ (x : TakeResult). x .answer) took ∙ ap (takeAnswer s) (piece-part bytes at size inside some e)
+    answered : t .answer ≡ takeAnswer agreed s piece
+    answered = ap (λ (x : TakeResult). x .answer) took ∙ ap (takeAnswer agreed s) (piece-part bytes at size inside some e)
 
     pub run-stops : {why : Reason} {p : ℕ} → t .answer ≡ Refused why p
-        → _≡_ {A = RunResult} (record { answer = t .answer; session = s; records = records; files = files; bytes = at }) (runOf self more bytes)
+        → _≡_ {A = RunResult} (record { answer = t .answer; session = s; records = records; files = files; bytes = at }) (runUnder agreed self more bytes)
     run-stops f =
         counts-empty records files at (t .answer) s
-        ∙ ap (addCounts records files at) (sym (run-refused s more (drop at bytes) left answered f)) ∙ inv
+        ∙ ap (addCounts records files at) (sym (run-refused agreed s more (drop at bytes) left answered f)) ∙ inv
 
     pub run-goes : {k : ℕ} → t .answer ≡ Accepted → k ≡ filesClosed (namedBy (getD bytes at 0))
-        → addCounts (records + 1) (files + k) end (runOf (t .session) more (drop end bytes)) ≡ runOf self more bytes
+        → addCounts (records + 1) (files + k) end (runUnder agreed (t .session) more (drop end bytes)) ≡ runUnder agreed self more bytes
     run-goes {k} f g =
-        let a : takeAnswer s piece ≡ Accepted = sym answered ∙ f in
-        let next : t .session ≡ nextSession s piece =
+        let a : takeAnswer agreed s piece ≡ Accepted = sym answered ∙ f in
+        let next : t .session ≡ nextSession agreed s piece =
         ap (λ (x : TakeResult). x .session) took
-        ∙ ap (λ (x : List ℕ). takeOf s x .session) (piece-part bytes at size inside some e) ∙ rw a in
+        ∙ ap (λ (x : List ℕ). takeUnder agreed s x .session) (piece-part bytes at size inside some e) ∙ rw a in
         let n : filesClosed (namedBy (getD piece 0 0)) ≡ k =
         ap (λ (b : ℕ). filesClosed (namedBy b)) (piece-first bytes at size inside some e) ∙ sym g in
-        rw (next, ← piece-rest bytes at size inside some e, ← n, ← piece-end bytes at size inside some e, ← counts-add records files at 1 (filesClosed (namedBy (getD piece 0 0))) (length piece) (runOf (nextSession s piece) more (drop size (drop at bytes))))
-        (ap (addCounts records files at) (sym (run-on s more (drop at bytes) left a)) ∙ inv)
+        rw (next, ← piece-rest bytes at size inside some e, ← n, ← piece-end bytes at size inside some e, ← counts-add records files at 1 (filesClosed (namedBy (getD piece 0 0))) (length piece) (runUnder agreed (nextSession agreed s piece) more (drop size (drop at bytes))))
+        (ap (addCounts records files at) (sym (run-on agreed s more (drop at bytes) left a)) ∙ inv)

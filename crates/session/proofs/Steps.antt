@@ -19,10 +19,10 @@ use Rattle.board.specs.declared.PostResult.{PostResult}
 use Rattle.board.specs.Boards.{postAnswer, boardWith, postResultOf}
 use Rattle.layout.specs.Layouts.{namedBy}
 use Rattle.record.specs.declared.Decoded.{Decoded}
-use Rattle.record.specs.Values.{decodedRecord}
+use Rattle.record.specs.Values.{decodedRecordUnder}
 use Rattle.session.specs.declared.Session.{Session}
 use Rattle.session.specs.declared.TakeResult.{TakeResult}
-use Rattle.session.specs.Sessions.{sessionTerms, sessionExpects, sessionAnswer, sessionWith, takeResult, recordResult, takeOf}
+use Rattle.session.specs.Sessions.{sessionTerms, sessionExpects, sessionAnswer, sessionWith, takeResult, recordResult, takeUnder}
 
 -- an answer passed on, with the old session or with the next
 pub took-refused : {a b : Answer} {why : Reason} {p : ℕ} (new old : Session) → a ≡ b → a ≡ Refused why p
@@ -62,19 +62,19 @@ taken-file {r} f x e h =
     ap (λ (t : FileResult). t .file) e ∙ rw g
 
 -- a record by what it was decoded as
-pub decoded-as : (s : Session) (ended : Bool) (ending : Answer) (rec : List ℕ) {e d : Decoded} {r : TakeResult}
-    → e ≡ decodedRecord (sessionTerms s) rec → e ≡ d → r ≡ recordResult s ended ending d
-    → r ≡ recordResult s ended ending (decodedRecord (sessionTerms s) rec)
-decoded-as s ended ending rec {e} {d} q f h = let g : decodedRecord (sessionTerms s) rec ≡ d = sym q ∙ f in rw g h
+pub decoded-as : (agreed : List ℕ) (s : Session) (ended : Bool) (ending : Answer) (rec : List ℕ) {e d : Decoded} {r : TakeResult}
+    → e ≡ decodedRecordUnder (sessionTerms agreed s) rec → e ≡ d → r ≡ recordResult s ended ending d
+    → r ≡ recordResult s ended ending (decodedRecordUnder (sessionTerms agreed s) rec)
+decoded-as agreed s ended ending rec {e} {d} q f h = let g : decodedRecordUnder (sessionTerms agreed s) rec ≡ d = sym q ∙ f in rw g h
 
 -- a record whose length fits and which is expected: what it is decoded as decides, and its end
-pub take-is : (s : Session) (rec : List ℕ) {ended : Bool} {ending : Answer} {r : TakeResult}
+pub take-is : (agreed : List ℕ) (s : Session) (rec : List ℕ) {ended : Bool} {ending : Answer} {r : TakeResult}
     → fitsLength (s .opened) (s .file .lined) rec ≡ true → sessionExpects (s .opened) (namedBy (getD rec 0 0)) ≡ true
     → ending ≡ endAnswer (s .opened) (s .file .lined) rec → ended ≡ hasLineEnd rec
-    → r ≡ recordResult s ended ending (decodedRecord (sessionTerms s) (bodyOf rec))
-    → r ≡ takeOf s rec
-take-is s rec {r = r} fits expected e f took =
-    let d = decodedRecord (sessionTerms s) (bodyOf rec) in
+    → r ≡ recordResult s ended ending (decodedRecordUnder (sessionTerms agreed s) (bodyOf rec))
+    → r ≡ takeUnder agreed s rec
+take-is agreed s rec {r = r} fits expected e f took =
+    let d = decodedRecordUnder (sessionTerms agreed s) (bodyOf rec) in
     let ending = endAnswer (s .opened) (s .file .lined) rec in
     let new = sessionWith s (hasLineEnd rec) d in
     let own : r ≡ takeResult (sessionAnswer s d then ending) new s = rw (← f, ← e) took in

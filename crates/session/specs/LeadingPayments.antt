@@ -9,7 +9,7 @@ use Rattle.layout.specs.Layouts.{recordLength}
 use Rattle.kinds.specs.Terms.{told}
 use Rattle.record.specs.declared.Payment.{Payment}
 use Rattle.record.specs.declared.Decoded.the-variants as decoded
-use Rattle.record.specs.Values.{decodedRecord}
+use Rattle.record.specs.Values.{decodedRecordUnder}
 use Rattle.file.specs.Files.{fileAnswer, fileWith}
 use Rattle.file.specs.Forms.{linedLength, lengthOf, endAnswer}
 use Rattle.board.specs.declared.Lane.{Lane}
@@ -19,22 +19,22 @@ use Rattle.session.specs.declared.leading.MaybePayment.{MaybePayment}
 use Rattle.session.specs.declared.leading.MaybePayment.the-variants.{Is, Other}
 use Rattle.session.specs.declared.leading.LeadingPayments.{LeadingPayments}
 use Rattle.session.specs.Sessions.{laneOfPayment}
-use Rattle.session.specs.Runs.{leastLeft, addCounts, runOf}
+use Rattle.session.specs.Runs.{leastLeft, addCounts, runUnder}
 
 -- the bytes that must be left for one more record of an open file of this form: a record's, or 152 if more are to follow
 abbrev pub recordNeeds : Bool → Bool → ℕ
 recordNeeds lined more = cond more linedLength (lengthOf lined)
 
 -- a payment that the open file takes: its record starts where the progress before it ended, and is there whole
-pub record Taken (opened more : Bool) (before : Progress) (bytes : List ℕ) (payment : Lane) (next : Progress) :
-    Type 0 where
+pub record Taken (agreed : List ℕ) (opened more : Bool) (before : Progress) (bytes : List ℕ) (payment : Lane)
+    (next : Progress) : Type 0 where
   pub going : opened ≡ true
   pub enough : before .at + leastLeft more ≤ length bytes
   pub ends : next .at ≡ before .at + lengthOf (before .file .lined)
   pub inside : next .at ≤ length bytes
   pub shown : Payment
   pub is :
-      decodedRecord (told (before .file .version)) (take recordLength (drop (before .at) bytes))
+      decodedRecordUnder (told (before .file .version) agreed) (take recordLength (drop (before .at) bytes))
       ≡ decoded.Payment shown
   pub ended :
       endAnswer true (before .file .lined) (take (next .at - before .at) (drop (before .at) bytes)) ≡ Accepted
@@ -44,19 +44,20 @@ pub record Taken (opened more : Bool) (before : Progress) (bytes : List ℕ) (pa
   pub counts : next .records ≡ before .records + 1
 
 -- unspecified if there is no such payment: `take` then answers
-abbrev pub NextPaymentOf : Bool → Bool → Progress → List ℕ → MaybePayment → Type 0
-NextPaymentOf opened more before bytes (Is payment next) = Taken opened more before bytes payment next
-NextPaymentOf opened more before bytes Other = Unit {0}
+abbrev pub NextPaymentOf : List ℕ → Bool → Bool → Progress → List ℕ → MaybePayment → Type 0
+NextPaymentOf agreed opened more before bytes (Is payment next) = Taken agreed opened more before bytes payment next
+NextPaymentOf agreed opened more before bytes Other = Unit {0}
 
 -- the session with what the payments left of its working board and its file
 abbrev pub withLeading : Session → LeadingPayments → Session
 withLeading s p = record { shown = s .shown; work = p .work; opened = s .opened; file = p .progress .file }
 
 -- payments at the front were taken: what is left to run, with their number and bytes added, is the whole run
-pub record LeadingPaymentsOf (s : Session) (more : Bool) (bytes : List ℕ) (p : LeadingPayments) : Type 0 where
+pub record LeadingPaymentsOf (agreed : List ℕ) (s : Session) (more : Bool) (bytes : List ℕ) (p : LeadingPayments) :
+    Type 0 where
   pub within : p .progress .at ≤ length bytes
   pub few : p .progress .records ≤ p .progress .at
   pub rest :
       addCounts (p .progress .records) 0 (p .progress .at)
-      (runOf (withLeading s p) more (drop (p .progress .at) bytes))
-      ≡ runOf s more bytes
+      (runUnder agreed (withLeading s p) more (drop (p .progress .at) bytes))
+      ≡ runUnder agreed s more bytes

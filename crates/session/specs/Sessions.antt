@@ -11,12 +11,13 @@ use Rattle.layout.specs.declared.MaybeRecord.{MaybeRecord}
 use Rattle.layout.specs.declared.MaybeRecord.the-variants.{Is, Other}
 use Rattle.layout.specs.declared.Record.the-variants as layout
 use Rattle.layout.specs.Layouts.{recordLength, namedBy}
+use Rattle.barcode.specs.Agreed.{listAnswer}
 use Rattle.record.specs.declared.Payment.{Payment}
 use Rattle.record.specs.declared.Trailer.{Trailer}
 use Rattle.record.specs.declared.Decoded.{Decoded}
 use Rattle.record.specs.declared.Decoded.the-variants as decoded
 use Rattle.kinds.specs.Terms.{Terms, told}
-use Rattle.record.specs.Values.{decodedRecord}
+use Rattle.record.specs.Values.{decodedRecordUnder}
 use Rattle.file.specs.declared.File.{File}
 use Rattle.file.specs.declared.Figures.{Figures}
 use Rattle.file.specs.Forms.{bodyOf, hasLineEnd, fitsLength, endAnswer}
@@ -52,9 +53,9 @@ freshSession = closedAt freshBoard
 abbrev pub openedAt : Board → ℕ → Bool → Session
 openedAt b version lined = record { shown = b; work = b; opened = true; file = freshFile version lined }
 
--- what the session knows of the records to come: the version of its open file
-abbrev pub sessionTerms : Session → Terms
-sessionTerms s = told (s .file .version)
+-- what is known of the records to come: the version of the open file, and the list lent with each of them
+abbrev pub sessionTerms : List ℕ → Session → Terms
+sessionTerms agreed s = told (s .file .version) agreed
 
 -- with no file open A is expected; in an open file G or Z
 abbrev pub sessionExpects : Bool → MaybeRecord → Bool
@@ -114,21 +115,25 @@ trailerResult s shown ending = takeResult (figuresAnswer (s .file) shown then en
 abbrev pub recordResult : Session → Bool → Answer → Decoded → TakeResult
 recordResult s ended ending d = takeResult (sessionAnswer s d then ending) (sessionWith s ended d) s
 
--- taking a record: 1; then, of its first 150 bytes, 9, its own refusals, under the version of the open file, and the
--- session's; last 22
-abbrev pub takeAnswer : Session → List ℕ → Answer
-takeAnswer s rec =
+-- taking a record, under a list of agreed issuers that was judged: 1; then, of its first 150 bytes, 9, its own
+-- refusals, under the version of the open file, and the session's; last 22
+abbrev pub takeAnswer : List ℕ → Session → List ℕ → Answer
+takeAnswer agreed s rec =
     require (fitsLength (s .opened) (s .file .lined) rec) WrongLength 0
     then require (sessionExpects (s .opened) (namedBy (getD rec 0 0))) NotExpected 1
-    then sessionAnswer s (decodedRecord (sessionTerms s) (bodyOf rec))
+    then sessionAnswer s (decodedRecordUnder (sessionTerms agreed s) (bodyOf rec))
     then endAnswer (s .opened) (s .file .lined) rec
 
 -- the session with a record, if it is accepted
-abbrev pub nextSession : Session → List ℕ → Session
-nextSession s rec = sessionWith s (hasLineEnd rec) (decodedRecord (sessionTerms s) (bodyOf rec))
+abbrev pub nextSession : List ℕ → Session → List ℕ → Session
+nextSession agreed s rec = sessionWith s (hasLineEnd rec) (decodedRecordUnder (sessionTerms agreed s) (bodyOf rec))
 
-abbrev pub takeOf : Session → List ℕ → TakeResult
-takeOf s rec = takeResult (takeAnswer s rec) (nextSession s rec) s
+abbrev pub takeUnder : List ℕ → Session → List ℕ → TakeResult
+takeUnder agreed s rec = takeResult (takeAnswer agreed s rec) (nextSession agreed s rec) s
+
+-- as a caller asks it: 25 before everything, whatever the record. A session keeps no list: each record has its own.
+abbrev pub takeOf : List ℕ → Session → List ℕ → TakeResult
+takeOf agreed s rec = takeResult (listAnswer agreed then takeAnswer agreed s rec) (nextSession agreed s rec) s
 
 -- abandoning drops an open file and does nothing otherwise
 abbrev pub abandonOf : Session → Session

@@ -1,14 +1,14 @@
 // The fast path of a run: the accepted payments at the front of a slice, posted in place on one copy of the working
-// board. It mirrors what `Session::take` (taking.rt) does with an accepted payment: the length, that the kind is
-// expected, `record::decode`, `File::take`, `Board::post`, `check_end`. Everything else, refused payments included, is
-// left to `Session::take`: no refusal is made here, so the order of these checks does not matter. It cuts as `run` does:
-// `record_needs` and `file::record_length` mirror `least_left` and `cut_length` (ends.rt).
-// What must change together: if `take` checks one more thing of a payment, so does `next_payment`; if a payment changes
-// one more member of the session, so does the loop, and `run` (running.rt) takes it over from `LeadingPayments`.
-// The proof that ties them is proofs/Payments.antt: by `payment-taken` and `payment-leaves`, a payment posted here is
-// accepted by `takeAnswer` and leaves the session that `take` leaves, `nextSession`; by `one-more` it is the next piece.
-// What is slow and so avoided: a board by value is 2 KB, and each call that takes one copies it. So the loop itself
-// reads and stores lanes, and the board's functions get numbers and one lane (board: src/searching.rt, `Slot::post`).
+// board. It mirrors what `Session::take_judged` (taking.rt) does with an accepted payment: the length, that the kind is
+// expected, `record::judged::decode`, `File::take`, `Board::post`, `check_end`. Everything else, refused payments
+// included, is left to `Session::take_judged`: no refusal is made here, so the order of these checks does not matter.
+// It cuts as `run_judged` does: `record_needs` and `file::record_length` mirror `least_left` and `cut_length` (ends.rt). What
+// must change together: if `take_judged` checks one more thing of a payment, so does `next_payment`; if a payment changes one
+// more member of the session, so does the loop, and `run_judged` (running.rt) takes it over from `LeadingPayments`. The proof
+// that ties them is proofs/Payments.antt: by `payment-taken` and `payment-leaves`, a payment posted here is accepted by
+// `takeAnswer` and leaves the session that `take_judged` leaves, `nextSession`; by `one-more` it is the next piece. What is
+// slow and so avoided: a board by value is 2 KB, and each call that takes one copies it. So the loop itself reads and
+// stores lanes, and the board's functions get numbers and one lane (board: src/searching.rt, `Slot::post`).
 ghost use mathlib.Core.Path.{_≡_};
 ghost use Prim.Native.Nat.{_≤_};
 ghost use lib.ListN.{length};
@@ -26,6 +26,7 @@ use board::SlotResult;
 use board::Tally;
 use file::File;
 use record::PaymentDue;
+use record::judged;
 
 // How far the payments came: the open file with them, their number, and the index behind the last.
 pub(crate) struct Progress {
@@ -71,9 +72,15 @@ fn payment_lane(issuer: Issuer, received: u64) -> Lane
 }
 
 // The next payment, if the file is open, its record is there whole and accepted, and the file takes it.
-fn next_payment(opened: bool, more: bool, done: Progress, bytes: &[u8]) -> MaybePayment
+fn next_payment(
+    opened: bool,
+    more: bool,
+    done: Progress,
+    bytes: &[u8],
+    agreed: &[u64],
+) -> MaybePayment
     requires { ⌜ (done .records ≤ done .at) × (done .at ≤ length (now bytes)) ⌝ }
-    ensures { λ r. ⌜ NextPaymentOf opened more done (now (bytes .entry)) r ⌝ }
+    ensures { λ r. ⌜ NextPaymentOf (now (agreed .entry)) opened more done (now (bytes .entry)) r ⌝ }
 {
     let at = done.at;
     let file = done.file;
@@ -87,10 +94,8 @@ fn next_payment(opened: bool, more: bool, done: Progress, bytes: &[u8]) -> Maybe
     let Answer::Accepted = ends::check_end(true, file.lined, &bytes[at..end]) else {
         return MaybePayment::Other;
     };
-    let PaymentDue::To(issuer, received) = record::accepted_payment(
-        &bytes[at..at + layout::LENGTH],
-        file.version,
-    ) else {
+    let due = judged::accepted_payment(&bytes[at..at + layout::LENGTH], file.version, agreed);
+    let PaymentDue::To(issuer, received) = due else {
         return MaybePayment::Other;
     };
     let taken = file.take(received);
@@ -123,16 +128,21 @@ fn post_at(at: usize, lane: Lane, used: usize, total: Tally, payment: Lane) -> S
 
 impl Session {
     // Takes the accepted payments at the front, up to the first record of any other kind, or refused, or not expected.
-    pub(crate) fn take_leading_payments(self, bytes: &[u8], more: bool) -> LeadingPayments
-        ensures { λ r. ⌜ LeadingPaymentsOf self more (now (bytes .entry)) r ⌝ }
+    pub(crate) fn take_leading_payments(
+        self,
+        bytes: &[u8],
+        more: bool,
+        agreed: &[u64],
+    ) -> LeadingPayments
+        ensures { λ r. ⌜ LeadingPaymentsOf (now (agreed .entry)) self more (now (bytes .entry)) r ⌝ }
     {
         let mut work = self.work;
         let mut progress = no_progress(self.file);
         // Where each issuer's lane was found last. No payment moves a lane, so an index once found stays right.
         let mut cache = [0u8; board::CACHE_LENGTH];
         loop {
-            let MaybePayment::Is(payment, next) = next_payment(self.opened, more, progress, bytes)
-            else {
+            let found = next_payment(self.opened, more, progress, bytes, agreed);
+            let MaybePayment::Is(payment, next) = found else {
                 break;
             };
             let entry = board::cache_index(payment.issuer);

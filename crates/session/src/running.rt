@@ -1,7 +1,7 @@
 // Many records of one slice, in one call.
 ghost use mathlib.Core.Path.{_≡_};
 ghost use Prim.Native.Nat.{_≤_};
-ghost use Rattle.session.specs.Runs.{filesClosed, runOf};
+ghost use Rattle.session.specs.Runs.{filesClosed, runUnder, runOf};
 use crate::RunResult;
 use crate::Session;
 use crate::ends;
@@ -25,13 +25,9 @@ fn files_closed(named: MaybeRecord) -> u64
 }
 
 impl Session {
-    // Takes records one after the other, up to the first refusal or the end: each 150 bytes, or 152 in a lined file, one
-    // whose header is followed by CR and LF. If `more` bytes are to follow, it takes nothing once fewer than 152 are
-    // left: hand what is left, at the front of what follows, to the next run. Else the last piece may be shorter, and is
-    // refused as `take` refuses it. The same as one `take` each, but faster (leading.rt). No bytes: accepted, no
-    // records.
-    pub fn run(self, bytes: &[u8], more: bool) -> RunResult
-        ensures { λ r. ⌜ r ≡ runOf self more (now (bytes .entry)) ⌝ }
+    // The run under a list that was judged.
+    fn run_judged(self, bytes: &[u8], more: bool, agreed: &[u64]) -> RunResult
+        ensures { λ r. ⌜ r ≡ runUnder (now (agreed .entry)) self more (now (bytes .entry)) ⌝ }
     {
         let mut session = self;
         let mut answer = Answer::Accepted;
@@ -39,7 +35,7 @@ impl Session {
         let mut files: u64 = 0;
         let mut at: usize = 0;
         loop {
-            let paid = session.take_leading_payments(&bytes[at..], more);
+            let paid = session.take_leading_payments(&bytes[at..], more, agreed);
             let work = paid.work;
             let file = paid.progress.file;
             session.work = work;
@@ -50,7 +46,7 @@ impl Session {
                 break;
             }
             let end = at + ends::cut_length(session.opened, session.file.lined, &bytes[at..]);
-            let took = session.take(&bytes[at..end]);
+            let took = session.take_judged(&bytes[at..end], agreed);
             answer = took.answer;
             let Answer::Accepted = answer else {
                 break;
@@ -66,6 +62,27 @@ impl Session {
             records,
             files,
             bytes: at,
+        }
+    }
+
+    // Takes records one after the other, up to the first refusal or the end: each 150 bytes, or 152 in a lined file, one
+    // whose header is followed by CR and LF. If `more` bytes are to follow, it takes nothing once fewer than 152 are
+    // left: hand what is left, at the front of what follows, to the next run. Else the last piece may be shorter, and is
+    // refused as `take` refuses it. The same as one `take` each, but faster (leading.rt), and the list is judged once:
+    // under a wrong one the run is refused 25 and takes nothing. No bytes: accepted, no records.
+    pub fn run(self, bytes: &[u8], more: bool, agreed: &[u64]) -> RunResult
+        ensures { λ r. ⌜ r ≡ runOf (now (agreed .entry)) self more (now (bytes .entry)) ⌝ }
+    {
+        let list = barcode::check_list(agreed);
+        match list {
+            Answer::Accepted => self.run_judged(bytes, more, agreed),
+            Answer::Refused(_, _) => RunResult {
+                answer: list,
+                session: self,
+                records: 0,
+                files: 0,
+                bytes: 0,
+            },
         }
     }
 }

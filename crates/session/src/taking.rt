@@ -1,10 +1,10 @@
 // One record at a time, in the order of SPEC.md, "Refusals".
 ghost use mathlib.Core.Path.{_≡_};
-ghost use Rattle.record.specs.Values.{decodedRecord};
+ghost use Rattle.record.specs.Values.{decodedRecordUnder};
 ghost use Rattle.board.specs.Lanes.{laneOfOne};
 ghost use Rattle.session.specs.Sessions.{freshSession, openedAt, sessionTerms, sessionExpects, paymentResult};
-ghost use Rattle.session.specs.Sessions.{takeResult, postingResult, trailerResult, recordResult, takeOf};
-ghost use Rattle.session.specs.Sessions.{abandonOf, finishOf};
+ghost use Rattle.session.specs.Sessions.{takeResult, postingResult, trailerResult, recordResult, takeUnder};
+ghost use Rattle.session.specs.Sessions.{takeOf, abandonOf, finishOf};
 use crate::Session;
 use crate::TakeResult;
 use crate::ends;
@@ -146,10 +146,11 @@ impl Session {
 
     // Takes the 150 bytes of a record whose kind is expected; `ended` is whether CR and LF follow it, and `ending` the
     // answer to what follows it. The record's own refusal, or what the session makes of it.
-    fn take_expected(self, rec: &[u8], ended: bool, ending: Answer) -> TakeResult
-        ensures { λ r. ⌜ r ≡ recordResult self ended ending (decodedRecord (sessionTerms self) (now (rec .entry))) ⌝ }
+    fn take_expected(self, rec: &[u8], ended: bool, ending: Answer, agreed: &[u64]) -> TakeResult
+        ensures { λ r. ⌜ r ≡ recordResult self ended ending
+            (decodedRecordUnder (sessionTerms (now (agreed .entry)) self) (now (rec .entry))) ⌝ }
     {
-        match record::decode(rec, self.file.version) {
+        match record::judged::decode(rec, self.file.version, agreed) {
             Decoded::Refused(why, place) => TakeResult {
                 answer: Answer::Refused(why, place),
                 session: self,
@@ -166,11 +167,10 @@ impl Session {
         }
     }
 
-    // Takes one record of any bytes and any length, with CR and LF behind it in a lined file: the session with it, or
-    // the first refusal (1, 9, the record's own, then 13 to 18, then 22) and the session as it was. For many records
-    // use `run`: it copies no board for a payment.
-    pub fn take(self, rec: &[u8]) -> TakeResult
-        ensures { λ r. ⌜ r ≡ takeOf self (now (rec .entry)) ⌝ }
+    // Takes one record under a list of agreed issuers that was judged: the session with it, or the first refusal (1, 9,
+    // the record's own, then 13 to 18, then 22) and the session as it was.
+    pub(crate) fn take_judged(self, rec: &[u8], agreed: &[u64]) -> TakeResult
+        ensures { λ r. ⌜ r ≡ takeUnder (now (agreed .entry)) self (now (rec .entry)) ⌝ }
     {
         let lined = self.file.lined;
         if !ends::fits_length(self.opened, lined, rec) {
@@ -186,7 +186,28 @@ impl Session {
             };
         }
         let ending = ends::check_end(self.opened, lined, rec);
-        self.take_expected(&rec[..Self::RECORD], file::has_line_end(rec), ending)
+        self.take_expected(
+            &rec[..Self::RECORD],
+            file::has_line_end(rec),
+            ending,
+            agreed,
+        )
+    }
+
+    // Takes one record of any bytes and any length, with CR and LF behind it in a lined file: the session with it, or
+    // the first refusal, 25 for the list before everything, and the session as it was. The list is that of this record
+    // alone. For many records use `run`: it judges the list once and copies no board for a payment.
+    pub fn take(self, rec: &[u8], agreed: &[u64]) -> TakeResult
+        ensures { λ r. ⌜ r ≡ takeOf (now (agreed .entry)) self (now (rec .entry)) ⌝ }
+    {
+        let list = barcode::check_list(agreed);
+        match list {
+            Answer::Accepted => self.take_judged(rec, agreed),
+            Answer::Refused(_, _) => TakeResult {
+                answer: list,
+                session: self,
+            },
+        }
     }
 
     // The session without its open file: the board shown stays, and a header is expected. With no file open, the very

@@ -31,23 +31,23 @@ take-trailer-requires c κs = search needs
 
 returns : tie.Need-returns
 returns c =
-    let a = c .before .before .before .before .before .args in
-    decoded-as (a .self) (a .ended) (a .ending) (a .rec .now) (c .before .before .before .decode .ensures) (c .before .why .given .1) refl
+    let a = c .before .before .before .before .before .before .args in
+    decoded-as (a .agreed .now) (a .self) (a .ended) (a .ending) (a .rec .now) (c .before .before .before .decode .ensures) (c .before .why .given .1) refl
 
 returns-2 : tie.Need-returns-2
 returns-2 c =
-    let a = c .before .before .before .before .before .before .args in
-    decoded-as (a .self) (a .ended) (a .ending) (a .rec .now) (c .before .before .before .before .decode .ensures) (c .before .before .h .given .1) (c .take-header .ensures)
+    let a = c .before .before .before .before .before .before .before .args in
+    decoded-as (a .agreed .now) (a .self) (a .ended) (a .ending) (a .rec .now) (c .before .before .before .before .decode .ensures) (c .before .before .h .given .1) (c .take-header .ensures)
 
 returns-3 : tie.Need-returns-3
 returns-3 c =
-    let a = c .before .before .before .before .before .before .args in
-    decoded-as (a .self) (a .ended) (a .ending) (a .rec .now) (c .before .before .before .before .decode .ensures) (c .before .before .p .given .1) (c .take-payment .ensures)
+    let a = c .before .before .before .before .before .before .before .args in
+    decoded-as (a .agreed .now) (a .self) (a .ended) (a .ending) (a .rec .now) (c .before .before .before .before .decode .ensures) (c .before .before .p .given .1) (c .take-payment .ensures)
 
 returns-4 : tie.Need-returns-4
 returns-4 c =
-    let a = c .before .before .before .before .before .before .args in
-    decoded-as (a .self) (a .ended) (a .ending) (a .rec .now) (c .before .before .before .before .decode .ensures) (c .before .before .t .given .1) (c .take-trailer .ensures)
+    let a = c .before .before .before .before .before .before .before .args in
+    decoded-as (a .agreed .now) (a .self) (a .ended) (a .ending) (a .rec .now) (c .before .before .before .before .decode .ensures) (c .before .before .t .given .1) (c .take-trailer .ensures)
 
 pub take-expected-spec : {M : Type 1} → statement M
 take-expected-spec =

@@ -14,42 +14,42 @@ use Rattle.board.proofs.Caches.{Caches, zeros-cache, cached-starts, caches-on}
 use Rattle.file.proofs.Forms.{at-least-bare}
 use Rattle.session.proofs.Payments.{next-told, one-more}
 use Rattle.session.proofs.Runs.{counts-none}
-use Rattle.session.specs.Runs.{runOf}
+use Rattle.session.specs.Runs.{runUnder}
 use Rattle.session.specs.LeadingPayments.{LeadingPaymentsOf}
 use Rattle.session.proofs.Session.take_leading_payments.Statement.{statement}
 use Rattle.session.proofs.Session.take_leading_payments.Tie as tie
 
 abbrev Inv-loop2 : tie.InvT-loop2
-Inv-loop2 self bytes more work progress cache payment next entry guess range at₀ at = Searched work (payment .issuer) (range .to) at
+Inv-loop2 self bytes more agreed work progress cache payment next entry guess range at₀ at = Searched work (payment .issuer) (range .to) at
 
 abbrev μ-loop2 : tie.MeasureT-loop2
-μ-loop2 self bytes more work progress cache payment next entry guess range at₀ at = range .to - at
+μ-loop2 self bytes more agreed work progress cache payment next entry guess range at₀ at = range .to - at
 
 abbrev Inv-loop : tie.InvT-loop
-Inv-loop self bytes more work₀ progress₀ cache₀ work progress cache =
+Inv-loop self bytes more agreed work₀ progress₀ cache₀ work progress cache =
     (length (work .lanes) ≡ mostLanes) × (length cache ≡ cacheLength) × Caches work cache
-    × LeadingPaymentsOf self more bytes (record { work = work; progress = progress })
+    × LeadingPaymentsOf agreed self more bytes (record { work = work; progress = progress })
 
 abbrev μ-loop : tie.MeasureT-loop
-μ-loop self bytes more work₀ progress₀ cache₀ work progress cache = length bytes - progress .at
+μ-loop self bytes more agreed work₀ progress₀ cache₀ work progress cache = length bytes - progress .at
 
 no-progress-requires : tie.Need-no-progress-requires Inv-loop2 μ-loop2 Inv-loop μ-loop
 no-progress-requires c κs = search needs
 
 loop-holds : tie.Need-loop-holds Inv-loop2 μ-loop2 Inv-loop μ-loop
 loop-holds c =
-    let a = c .before .before .before .args in (
-      sym (length-map (a .self .work .lanes) _) ∙ c .before .before .before .good .0 .1 .1 .1 .0 .1 .1 .0 .1 .0 .1,
+    let a = c .before .before .before .before .args in (
+      sym (length-map (a .self .work .lanes) _) ∙ c .before .before .before .before .good .0 .1 .1 .1 .0 .1 .1 .0 .1 .0 .1,
       refl,
       zeros-cache (a .self .work) cacheLength,
-      rw (c .no-progress .ensures) (record { within = omega arith; few = omega arith; rest = counts-none (runOf (a .self) (a .more) (a .bytes .now)) }),
+      rw (c .no-progress .ensures) (record { within = omega arith; few = omega arith; rest = counts-none (runUnder (a .agreed .now) (a .self) (a .more) (a .bytes .now)) }),
     )
 
 next-payment-requires : tie.Need-next-payment-requires Inv-loop2 μ-loop2 Inv-loop μ-loop
 next-payment-requires c κs = let inv = c .loop .inv .3 in (inv .few, inv .within)
 
-enum-known-payment : tie.Need-enum-known-payment Inv-loop2 μ-loop2 Inv-loop μ-loop
-enum-known-payment c = search needs
+enum-known-found : tie.Need-enum-known-found Inv-loop2 μ-loop2 Inv-loop μ-loop
+enum-known-found c = search needs
 
 enum-told : tie.Need-enum-told Inv-loop2 μ-loop2 Inv-loop μ-loop
 enum-told c = search needs
@@ -77,7 +77,7 @@ loop2-holds : tie.Need-loop2-holds Inv-loop2 μ-loop2 Inv-loop μ-loop
 loop2-holds c =
     let o = c .before .before .before .before .before .before .before .loop in
     let cached = o .inv .2 (c .before .before .cache-index .result) in
-    cached-starts (o .work) (o .inv .0) (c .before .before .before .before .payment .given .0 .0 .issuer) _ (cached .0) (cached .1) (c .search-range .ensures)
+    cached-starts (o .work) (o .inv .0) (c .before .before .before .before .found .given .0 .0 .issuer) _ (cached .0) (cached .1) (c .search-range .ensures)
 
 mul-is-of : tie.Need-mul-is-of Inv-loop2 μ-loop2 Inv-loop μ-loop
 mul-is-of c = search needs
@@ -99,7 +99,7 @@ loop2-again c =
     let l = c .before .before .before .before .before .loop2 in
     let found = c .before .before .before .before .before .before in
     let o = found .before .before .before .before .before .before .before .loop in
-    search-on (o .work) (o .inv .0) (found .before .before .before .before .payment .given .0 .0 .issuer) (found .search-range .result .to) (l .at) (l .inv) (c .before .before .before .if1 .taken) (sym (c .before .is-of .ensures) ∙ not-true _ (c .if2 .taken))
+    search-on (o .work) (o .inv .0) (found .before .before .before .before .found .given .0 .0 .issuer) (found .search-range .result .to) (l .at) (l .inv) (c .before .before .before .if1 .taken) (sym (c .before .is-of .ensures) ∙ not-true _ (c .if2 .taken))
 
 mul-post-at : tie.Need-mul-post-at Inv-loop2 μ-loop2 Inv-loop μ-loop
 mul-post-at c = search needs
@@ -131,7 +131,7 @@ array-write-cache c = search needs
 loop-less : tie.Need-loop-less Inv-loop2 μ-loop2 Inv-loop μ-loop
 loop-less c =
     let read = c .before .before .before .before .before .before .before .before .before .before .before .before .before .before .before in
-    let took = next-told (read .before .before .next-payment .ensures) (read .payment .given .1) in
+    let took = next-told _ (read .before .before .next-payment .ensures) (read .found .given .1) in
     omega (arith, took .inside, took .ends, at-least-bare (read .before .before .before .loop .progress .file .lined))
 
 loop-again : tie.Need-loop-again Inv-loop2 μ-loop2 Inv-loop μ-loop
@@ -142,9 +142,9 @@ loop-again c =
     let start = searched .before .before .before .before .before .before .before in
     let o = start .loop in
     let read = searched .before .before .before .before in
-    let took = next-told (read .before .before .next-payment .ensures) (read .payment .given .1) in
-    let p = read .payment .given .0 .0 in
-    let a = start .before .before .before .before .args in
+    let took = next-told _ (read .before .before .next-payment .ensures) (read .found .given .1) in
+    let p = read .found .given .0 .0 in
+    let a = start .before .before .before .before .before .args in
     let left = c .before .before .before .before .before .before .before in
     let found : l .at ≡ indexOf (p .issuer) (lanesOf (o .work)) =
     ⊎-elim (λ v. search-hits (o .work) (o .inv .0) (p .issuer) to (l .at) (l .inv) (v .0 .taken) (sym (v .2 .ensures) ∙ not-false _ (v .3 .left)))
@@ -156,7 +156,7 @@ loop-again c =
       length-set (o .work .lanes) (l .at) _ ∙ o .inv .0,
       length-set (o .cache) (entry .result) (l .at) ∙ o .inv .1,
       caches-on (o .work) (o .inv .0) p (l .at) found (left .if3 .left) posted accepted (o .cache) (entry .result) (omega (arith, entry .ensures, o .inv .1)) (o .inv .2),
-      one-more (a .self) (a .more) (a .bytes .now) (record { work = o .work; progress = o .progress }) (o .inv .3) took found posted accepted,
+      one-more (a .agreed .now) (a .self) (a .more) (a .bytes .now) (record { work = o .work; progress = o .progress }) (o .inv .3) took found posted accepted,
     )
 
 returns : tie.Need-returns Inv-loop2 μ-loop2 Inv-loop μ-loop
@@ -179,7 +179,7 @@ take-leading-payments-spec =
     no-progress-requires
     loop-holds
     next-payment-requires
-    enum-known-payment
+    enum-known-found
     enum-told
     cache-index-requires
     array-read-guess

@@ -28,7 +28,7 @@ record-length-requires c κs = search needs
 add-end : tie.Need-add-end
 add-end c =
     let enough = c .before in
-    let start = enough .before .before .before .before .before in
+    let start = enough .before .before .before .before .before .before in
     let a = start .args in
     record { fits = omega (arith, c .record-length .ensures, enough .if2 .left, enough .before .record-needs .ensures, needs-record (a .more) (a .done .file .lined), start .pre .1) }
 
@@ -41,7 +41,7 @@ part-check-end-start c = search needs
 part-check-end-end : tie.Need-part-check-end-end
 part-check-end-end c =
     let enough = c .before in
-    let start = enough .before .before .before .before .before in
+    let start = enough .before .before .before .before .before .before in
     let a = start .args in
     omega (arith, c .record-length .ensures, enough .if2 .left, enough .before .record-needs .ensures, needs-record (a .more) (a .done .file .lined), start .pre .1)
 
@@ -70,15 +70,15 @@ part-accepted-payment-end : tie.Need-part-accepted-payment-end
 part-accepted-payment-end c =
     let sized = c .before .before .before .before in
     let enough = sized .before in
-    let start = enough .before .before .before .before .before in
+    let start = enough .before .before .before .before .before .before in
     let a = start .args in
     omega (arith, enough .if2 .left, enough .before .record-needs .ensures, needs-record (a .more) (a .done .file .lined), at-least-bare (a .done .file .lined), start .pre .1)
 
 accepted-payment-requires : tie.Need-accepted-payment-requires
 accepted-payment-requires c κs = search needs
 
-enum-known-issuer : tie.Need-enum-known-issuer
-enum-known-issuer c = search needs
+enum-known-due : tie.Need-enum-known-due
+enum-known-due c = search needs
 
 enum-told-3 : tie.Need-enum-told-3
 enum-told-3 c = search needs
@@ -100,7 +100,7 @@ returns-5 c = search needs
 
 add-records : tie.Need-add-records
 add-records c =
-    let start = c .before .before .before .before .before .before .before .before .before .before .before .before .before .before .before .before .before .before .before .before in
+    let start = c .before .before .before .before .before .before .before .before .before .before .before .before .before .before .before .before .before .before .before .before .before in
     record { fits = omega (arith, start .pre .0) }
 
 payment-lane-requires : tie.Need-payment-lane-requires
@@ -114,15 +114,15 @@ returns-6 c =
     let sized = checked .before .before in
     let enough = sized .before in
     let needed = enough .before in
-    let start = needed .before .before .before .before in
+    let start = needed .before .before .before .before .before in
     let a = start .args in
     let size = sized .record-length .ensures in
     let least = needs-least (a .more) (a .done .file .lined) in
     let own = needs-record (a .more) (a .done .file .lined) in
-    next-is {opened = a .opened} {more = a .more} {before = a .done} {bytes = a .bytes .now} {end = a .done .at + sized .record-length .result}
+    next-is (a .agreed .now) {opened = a .opened} {more = a .more} {before = a .done} {bytes = a .bytes .now} {end = a .done .at + sized .record-length .result}
     (not-false _ (needed .before .if1 .left)) (omega (arith, least, needed .record-needs .ensures, enough .if2 .left, start .pre .1)) (omega (arith, size))
     (omega (arith, own, size, needed .record-needs .ensures, enough .if2 .left, start .pre .1)) (sym (checked .check-end .ensures) ∙ read .before .before .enum-told .given .1)
-    (read .accepted-payment .ensures) (took .before .before .issuer .given .1)
+    (read .accepted-payment .ensures) (took .before .before .due .given .1)
     (took .take .ensures) (c .before .before .before .enum-told4 .given .1) (c .payment-lane .ensures)
 
 pub next-payment-spec : {M : Type 1} → statement M
@@ -147,7 +147,7 @@ next-payment-spec =
     part-accepted-payment-start
     part-accepted-payment-end
     accepted-payment-requires
-    enum-known-issuer
+    enum-known-due
     enum-told-3
     returns-4
     take-requires
