@@ -32,7 +32,7 @@ use Rattle.file.proofs.Files.{closing-accepts, figures-fit}
 use Rattle.writer.specs.declared.Writer.{Writer}
 use Rattle.writer.specs.Writers.{writerTerms, callAnswer, countBytes, trailerBytes}
 use Rattle.writer.specs.Promises.{WrittenAmountsAreRead, TrailerShowsTheFigures}
-use Rattle.writer.proofs.Written.{making-is, written-is-accepted}
+use Rattle.writer.proofs.Written.{making-is, written-alone, make-passes}
 
 -- One field: what is written for two amounts is as long, and tells them apart.
 module _ (w : ℕ) (g : List ℕ) (m n : ℕ) where
@@ -118,7 +118,7 @@ read-back t r given amounts size e =
 pub written-amounts-are-read : WrittenAmountsAreRead
 unfolding layoutOf rowAt table
 written-amounts-are-read t given received tariff size e =
-    let back = read-back t Payment given (received ∷ tariff ∷ []) size e in
+    let back = read-back t Payment given (received ∷ tariff ∷ []) size (make-passes t Payment given (received ∷ tariff ∷ []) size e .1) in
     (ap (λ (l : List ℕ). getD l 0 0) back, ap (λ (l : List ℕ). getD l 1 0) back)
 
 -- The trailer: its count is its field bytes, its total its one amount.
@@ -131,19 +131,19 @@ unfolding givenLength layoutOf
 count-written w c = number-of-digits 6 (figuresOf (w .file) .count) (figures-fit (w .file) (closing-accepts (w .file) .0 c) .0)
 
 total-back : (w : Writer)
-    → makeAnswer (writerTerms w) Trailer (countBytes w) (figuresOf (w .file) .total ∷ 0 ∷ []) recordLength ≡ Accepted
+    → makeAnswer (writerTerms [] w) Trailer (countBytes w) (figuresOf (w .file) .total ∷ 0 ∷ []) recordLength ≡ Accepted
     → trailerShown (trailerBytes w) .total ≡ w .file .total
 unfolding layoutOf rowAt table
 total-back w e =
     ap (λ (l : List ℕ). getD l 0 0)
-    (read-back (writerTerms w) Trailer (countBytes w) (figuresOf (w .file) .total ∷ 0 ∷ []) recordLength e)
+    (read-back (writerTerms [] w) Trailer (countBytes w) (figuresOf (w .file) .total ∷ 0 ∷ []) recordLength e)
 
 pub trailer-shows-the-figures : TrailerShowsTheFigures
 trailer-shows-the-figures w size e =
     let amounts = figuresOf (w .file) .total ∷ 0 ∷ [] in
     let call = callAnswer w Trailer (givenLength Trailer) size in
-    let make = makeAnswer (writerTerms w) Trailer (countBytes w) amounts recordLength in
+    let make = makeAnswer (writerTerms [] w) Trailer (countBytes w) amounts recordLength in
     let behind-call = then-accepts call (closingAnswer (w .file) then make) .0 e .1 in
     let both = then-accepts (closingAnswer (w .file)) make .0 behind-call in
-    let joined = written-is-accepted (writerTerms w) Trailer (countBytes w) amounts recordLength (both .1) .1 in
+    let joined = written-alone (writerTerms [] w) Trailer (countBytes w) amounts recordLength (both .1) .1 in
     (ap numberOf (sym (count-back (trailerBytes w)) ∙ joined) ∙ count-written w (both .0), total-back w (both .1))

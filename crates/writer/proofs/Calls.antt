@@ -34,7 +34,7 @@ use Rattle.writer.specs.declared.Writer.{Writer}
 use Rattle.writer.specs.declared.WriteResult.{WriteResult}
 use Rattle.writer.specs.Writers.{writerTerms, writerExpects, fitsBuffer, isLinedBuffer, callAnswer, writeResult}
 use Rattle.writer.specs.Writers.{headerAnswer, headerWritten, headerBytes}
-use Rattle.writer.specs.Writers.{paymentAnswer, paymentWritten, paymentBytes}
+use Rattle.writer.specs.Writers.{paymentAnswer, paymentUnder, paymentBytes}
 use Rattle.writer.specs.Writers.{countBytes, trailerAnswer, trailerWritten, trailerBytes}
 use Rattle.writer.specs.Promises.{RefusalKeepsWriter}
 use Rattle.writer.proofs.Buffers.{fitting-size}
@@ -101,7 +101,7 @@ unwritten = replicate recordLength 0
 
 -- A: the call, then the fields.
 module _ (w : Writer) (given out : List ℕ) {call making a : Answer} {made : List ℕ} (c : call ≡ callAnswer w Header (length given) (length out))
-    (m : making ≡ makeAnswer (writerTerms w) Header given (0 ∷ 0 ∷ []) recordLength) (b : made ≡ ifAccepted making (headerBytes given) unwritten) (t : a ≡ call then making) where
+    (m : making ≡ makeAnswer (writerTerms [] w) Header given (0 ∷ 0 ∷ []) recordLength) (b : made ≡ ifAccepted making (headerBytes given) unwritten) (t : a ≡ call then making) where
   header-answers : a ≡ headerAnswer w given (length out)
   header-answers = t ∙ rw (c, m)
 
@@ -115,17 +115,17 @@ module _ (w : Writer) (given out : List ℕ) {call making a : Answer} {made : Li
   header-ends ev ef = finished w out header-answers (λ h. rw (ef, ev, header-made h)) header-made
 
 -- G: the call, the fields, then the file's limits.
-module _ (w : Writer) (given : List ℕ) (received tariff : ℕ) (out : List ℕ) {call making both a : Answer} {made : List ℕ} {taken : FileResult}
-    (c : call ≡ callAnswer w Payment (length given) (length out)) (m : making ≡ makeAnswer (writerTerms w) Payment given (received ∷ tariff ∷ []) recordLength)
+module _ (agreed : List ℕ) (w : Writer) (given : List ℕ) (received tariff : ℕ) (out : List ℕ) {call making both a : Answer} {made : List ℕ} {taken : FileResult}
+    (c : call ≡ callAnswer w Payment (length given) (length out)) (m : making ≡ makeAnswer (writerTerms agreed w) Payment given (received ∷ tariff ∷ []) recordLength)
     (b : made ≡ ifAccepted making (paymentBytes given received tariff) unwritten) (k : taken ≡ fileResultOf (w .file) received)
     (s : both ≡ making then taken .answer) (t : a ≡ call then both) where
-  payment-answers : a ≡ paymentAnswer w given received tariff (length out)
+  payment-answers : a ≡ paymentAnswer agreed w given received tariff (length out)
   payment-answers = t ∙ rw (s, c, m, k)
 
-  payment-parts : paymentAnswer w given received tariff (length out) ≡ Accepted → (making ≡ Accepted) × (taken .answer ≡ Accepted)
+  payment-parts : paymentAnswer agreed w given received tariff (length out) ≡ Accepted → (making ≡ Accepted) × (taken .answer ≡ Accepted)
   payment-parts h = then-accepts making (taken .answer) .0 (sym s ∙ then-accepts call both .0 (sym t ∙ payment-answers ∙ h) .1)
 
-  payment-counted : paymentAnswer w given received tariff (length out) ≡ Accepted
+  payment-counted : paymentAnswer agreed w given received tariff (length out) ≡ Accepted
       → _≡_ {A = Writer} (record { stage = w .stage; file = taken .file }) (record { stage = w .stage; file = fileWith (w .file) received })
   payment-counted h =
       let accepted = sym (ap (λ (f : FileResult). f .answer) k) ∙ payment-parts h .1 in
@@ -133,7 +133,7 @@ module _ (w : Writer) (given : List ℕ) (received tariff : ℕ) (out : List ℕ
 
   pub payment-ends : {r : WriteResult} {new : List ℕ}
       → r ≡ writeResult a (record { stage = w .stage; file = taken .file }) w → new ≡ ifAccepted a (inBuffer out made) out
-      → (r ≡ paymentWritten w given received tariff (length out))
+      → (r ≡ paymentUnder agreed w given received tariff (length out))
       × (new ≡ ifAccepted (r .answer) (inBuffer out (paymentBytes given received tariff)) out)
   payment-ends = finished w out payment-answers payment-counted (λ h. b ∙ accepted-takes making (paymentBytes given received tariff) unwritten (payment-parts h .0))
 
@@ -146,7 +146,7 @@ module _ (w : Writer) (out digits : List ℕ) {call width making both a : Answer
     (c : call ≡ callAnswer w Trailer 6 (length out)) (k : closed ≡ closeResultOf (w .file))
     (n : length digits ≡ 6) (q : width ≡ putNumberAnswer (length digits) 0 6 (closed .figures .count))
     (p : count ≡ ifAccepted width (putAt 0 (digitsOf 6 (closed .figures .count)) digits) digits)
-    (m : making ≡ makeAnswer (writerTerms w) Trailer count (closed .figures .total ∷ 0 ∷ []) recordLength)
+    (m : making ≡ makeAnswer (writerTerms [] w) Trailer count (closed .figures .total ∷ 0 ∷ []) recordLength)
     (b : made ≡ ifAccepted making (madeOf (layoutOf Trailer) count (closed .figures .total ∷ 0 ∷ [])) unwritten)
     (s : both ≡ closed .answer then making) (t : a ≡ call then both) where
   figures-are : closingAnswer (w .file) ≡ Accepted → closed .figures ≡ figuresOf (w .file)
@@ -163,7 +163,7 @@ module _ (w : Writer) (out digits : List ℕ) {call width making both a : Answer
   trailer-answers : a ≡ trailerAnswer w (length out)
   trailer-answers =
       let call-is : call ≡ callAnswer w Trailer (givenLength Trailer) (length out) = c ∙ ap (λ (d : ℕ). callAnswer w Trailer d (length out)) six in
-      let make = makeAnswer (writerTerms w) Trailer (countBytes w) (figuresOf (w .file) .total ∷ 0 ∷ []) recordLength in
+      let make = makeAnswer (writerTerms [] w) Trailer (countBytes w) (figuresOf (w .file) .total ∷ 0 ∷ []) recordLength in
       let rest : both ≡ closingAnswer (w .file) then make =
       s ∙ rw (ap (λ (r : CloseResult). r .answer) k)
       (then-if (closingAnswer (w .file)) (λ h. m ∙ rw (count-is h, figures-are h))) in

@@ -15,12 +15,12 @@ use Rattle.layout.specs.declared.MaybeRecord.the-variants.{Is}
 use Rattle.layout.specs.declared.Record.the-variants.{Trailer}
 use Rattle.layout.specs.Layouts.{recordLength, namedBy, noField, layoutOf, givenLength, joinedOf, rowAt, table, countRow, totalRow}
 use Rattle.layout.proofs.Layouts.{row-lies}
-use Rattle.kinds.specs.Terms.{Terms, termsAnswer}
+use Rattle.kinds.specs.Terms.{Terms, versionAnswer}
 use Rattle.record.specs.Records.{fieldBytes, layoutAnswer, recordAnswer, isPayment}
 use Rattle.record.specs.Values.{trailerShown}
 use Rattle.record.proofs.FieldBytes.{part-length}
 use Rattle.record.proofs.KindRules.{digits}
-use Rattle.record.proofs.Shown.{layout-accepts, other-records-ignore-terms}
+use Rattle.record.proofs.Shown.{layout-accepts, other-ignores, check-passes}
 use Rattle.fields.specs.Promises.{amountsIn}
 use Rattle.fields.specs.Making.{madeOf, makingAnswer, makeAnswer}
 use Rattle.file.specs.Files.{figuresOf, closingAnswer}
@@ -58,7 +58,7 @@ module _ (w : Writer) (t : Terms) (rec : List ℕ) (accepts : recordAnswer t rec
   abbrev amounts : List ℕ
   amounts = trailerShown rec .total ∷ 0 ∷ []
 
-  right : (length rec ≡ recordLength) × (termsAnswer t Trailer ≡ Accepted) × (layoutAnswer t Trailer rec ≡ Accepted)
+  right : (length rec ≡ recordLength) × (versionAnswer (t .version) Trailer ≡ Accepted) × (layoutAnswer t Trailer rec ≡ Accepted)
   right = body w t Trailer rec amounts accepts named
 
   count-is : trailerShown rec .count ≡ w .file .taken + 2 → countBytes w ≡ joinedOf Trailer rec
@@ -77,8 +77,8 @@ module _ (w : Writer) (t : Terms) (rec : List ℕ) (accepts : recordAnswer t rec
 
 pub fields-write-the-trailer : FieldsWriteTheTrailer
 fields-write-the-trailer any w rec accepted named opened c d =
-    let t = writerTerms w in
-    let accepts = other-records-ignore-terms t any rec (ap isPayment named) ∙ accepted in
+    let t = writerTerms [] w in
+    let accepts = other-ignores t any rec (ap isPayment named) ∙ check-passes any rec accepted in
     let amounts = trailerShown rec .total ∷ 0 ∷ [] in
     let given = joinedOf Trailer rec in
     let n = right w t rec accepts named .0 in

@@ -18,12 +18,13 @@ use Rattle.layout.specs.declared.Record.{Record}
 use Rattle.layout.specs.declared.Record.the-variants.{Header, Payment, Trailer}
 use Rattle.layout.specs.Layouts.{recordLength, markOf, namedBy, layoutOf, planOf, widthsOf, givenLength, joinedOf, rowAt, table}
 use Rattle.layout.proofs.Layouts.{mark-names}
-use Rattle.kinds.specs.Terms.{Terms, termsAnswer}
+use Rattle.barcode.specs.Agreed.{listAnswer}
+use Rattle.kinds.specs.Terms.{Terms, versionAnswer}
 use Rattle.record.specs.Records.{layoutAnswer, recordAnswer, isPayment}
 use Rattle.record.specs.Values.{paymentShown}
 use Rattle.fields.specs.Promises.{amountsIn}
-use Rattle.fields.specs.Making.{madeOf, makingAnswer, makeAnswer}
-use Rattle.record.proofs.Shown.{accepted-named, named-is, other-records-ignore-terms}
+use Rattle.fields.specs.Making.{madeOf, makingAnswer, makeAnswer, makeCheck}
+use Rattle.record.proofs.Shown.{accepted-named, named-is, other-ignores, check-passes}
 use Rattle.fields.proofs.Trips.{fields-make-the-record, made-is-accepted}
 use Rattle.file.specs.Forms.{lengthOf}
 use Rattle.writer.specs.declared.Writer.{Writer}
@@ -38,28 +39,39 @@ first-byte Payment given amounts = refl
 first-byte Trailer given amounts = refl
 
 -- a record of 150 bytes that its own first byte names
-accepted : (t : Terms) (r : Record) (rec : List ℕ) → length rec ≡ recordLength → getD rec 0 0 ≡ markOf r → termsAnswer t r ≡ Accepted
+accepted : (t : Terms) (r : Record) (rec : List ℕ) → length rec ≡ recordLength → getD rec 0 0 ≡ markOf r → versionAnswer (t .version) r ≡ Accepted
     → layoutAnswer t r rec ≡ Accepted → recordAnswer t rec ≡ Accepted
 accepted t r rec n m v b =
-    named-is t r rec n (ap namedBy m ∙ mark-names r .0) ∙ then-accepts (termsAnswer t r) (layoutAnswer t r rec) .1 (v, b)
+    named-is t r rec n (ap namedBy m ∙ mark-names r .0) ∙ then-accepts (versionAnswer (t .version) r) (layoutAnswer t r rec) .1 (v, b)
 
 -- an accepted making: as many field bytes as the record takes, its terms, and every field accepted
 pub making-is : (t : Terms) (r : Record) (given amounts : List ℕ) (size : ℕ) → makeAnswer t r given amounts size ≡ Accepted
-    → (length given ≡ givenLength r) × (termsAnswer t r ≡ Accepted) × (makingAnswer t (layoutOf r) given amounts ≡ Accepted)
+    → (length given ≡ givenLength r) × (versionAnswer (t .version) r ≡ Accepted) × (makingAnswer t (layoutOf r) given amounts ≡ Accepted)
 unfolding makeAnswer
 making-is t r given amounts size e =
     let lengths = eqb size recordLength && eqb (length given) (givenLength r) in
     let making = makingAnswer t (layoutOf r) given amounts in
-    let both = then-accepts (require lengths WrongLength 0) (termsAnswer t r then making) .0 e in
+    let both = then-accepts (require lengths WrongLength 0) (versionAnswer (t .version) r then making) .0 e in
     let right = require-accepts lengths WrongLength 0 .0 (both .0) in
-    let rest = then-accepts (termsAnswer t r) making .0 (both .1) in
+    let rest = then-accepts (versionAnswer (t .version) r) making .0 (both .1) in
     (eqb-true (length given) (givenLength r) (and-eq-true-iff (eqb size recordLength) (eqb (length given) (givenLength r)) .0 right .1), rest .0, rest .1)
 
-pub written-is-accepted : WrittenIsAccepted
-written-is-accepted t r given amounts size e =
+pub written-alone : (t : Terms) (r : Record) (given amounts : List ℕ) (size : ℕ) → makeAnswer t r given amounts size ≡ Accepted
+    → (recordAnswer t (madeOf (layoutOf r) given amounts) ≡ Accepted) × (joinedOf r (madeOf (layoutOf r) given amounts) ≡ given)
+written-alone t r given amounts size e =
     let making = making-is t r given amounts size e in
     let made = made-is-accepted t r given amounts (making .0) (making .2) in
     (accepted t r (madeOf (layoutOf r) given amounts) (made .0) (first-byte r given amounts) (making .1) (made .1), made .2)
+
+pub make-passes : (t : Terms) (r : Record) (given amounts : List ℕ) (size : ℕ) → makeCheck t r given amounts size ≡ Accepted
+    → (listAnswer (t .agreed) ≡ Accepted) × (makeAnswer t r given amounts size ≡ Accepted)
+make-passes t r given amounts size e = then-accepts (listAnswer (t .agreed)) (makeAnswer t r given amounts size) .0 e
+
+pub written-is-accepted : WrittenIsAccepted
+written-is-accepted t r given amounts size e =
+    let told = make-passes t r given amounts size e in
+    let alone = written-alone t r given amounts size (told .1) in
+    (rw (told .0) (alone .0), alone .1)
 
 -- The field bytes of a record are as many as the writer is given.
 
@@ -87,7 +99,7 @@ joined-length r rec n = gathered-length (planOf r) rec (rw n (lies-inside r))
 
 -- The fields of an accepted record, with any amounts that make it as its own do.
 module _ (w : Writer) (t : Terms) (r : Record) (rec amounts : List ℕ) (accepts : recordAnswer t rec ≡ Accepted) (named : namedBy (getD rec 0 0) ≡ Is r) where
-  pub body : (length rec ≡ recordLength) × (termsAnswer t r ≡ Accepted) × (layoutAnswer t r rec ≡ Accepted)
+  pub body : (length rec ≡ recordLength) × (versionAnswer (t .version) r ≡ Accepted) × (layoutAnswer t r rec ≡ Accepted)
   body = accepted-named t r rec accepts named
 
   pub made : (makingAnswer t (layoutOf r) (joinedOf r rec) (amountsIn (layoutOf r) rec) ≡ Accepted)
@@ -112,15 +124,15 @@ header-amounts : (t : Terms) (rec : List ℕ)
 unfolding layoutOf
 header-amounts t rec = (refl, refl)
 
-payment-amounts : (rec : List ℕ) → amountsIn (layoutOf Payment) rec ≡ paymentShown rec .received ∷ paymentShown rec .tariff ∷ []
+payment-amounts : (agreed rec : List ℕ) → amountsIn (layoutOf Payment) rec ≡ paymentShown agreed rec .received ∷ paymentShown agreed rec .tariff ∷ []
 unfolding layoutOf rowAt table
-payment-amounts rec = refl
+payment-amounts agreed rec = refl
 
 pub fields-write-the-header : FieldsWriteTheHeader
 fields-write-the-header any w lined rec accepted named fresh =
-    let t = writerTerms w in
+    let t = writerTerms [] w in
     let size = lengthOf lined in
-    let accepts = other-records-ignore-terms t any rec (ap isPayment named) ∙ accepted in
+    let accepts = other-ignores t any rec (ap isPayment named) ∙ check-passes any rec accepted in
     let both = made w t Header rec (0 ∷ 0 ∷ []) accepts named in
     let same = header-amounts t rec in
     let bytes : headerBytes (joinedOf Header rec) ≡ rec = sym (same .1) ∙ both .1 in
@@ -132,20 +144,22 @@ fields-write-the-header any w lined rec accepted named fresh =
     (written, bytes, rw (written, bytes, form-of-length lined))
 
 pub payments-written-under-a-version : PaymentsWrittenUnderAVersion
-unfolding makeAnswer termsAnswer
-payments-written-under-a-version w given received tariff opened n none =
-    rw (open-fits w opened, opened, n, eq-eqb (givenLength Payment) (givenLength Payment) refl, none)
+unfolding makeAnswer versionAnswer
+payments-written-under-a-version agreed w given received tariff right opened n none =
+    rw (right, open-fits w opened, opened, n, eq-eqb (givenLength Payment) (givenLength Payment) refl, none)
 
 pub fields-write-the-payment : FieldsWriteThePayment
-fields-write-the-payment w rec accepts named opened limits =
-    let t = writerTerms w in
+fields-write-the-payment agreed w rec accepted named opened limits =
+    let t = writerTerms agreed w in
+    let accepts = check-passes t rec accepted in
+    let list = then-accepts (listAnswer agreed) (recordAnswer t rec) .0 accepted .0 in
     let size = lengthOf (w .file .lined) in
-    let amounts = paymentShown rec .received ∷ paymentShown rec .tariff ∷ [] in
+    let amounts = paymentShown agreed rec .received ∷ paymentShown agreed rec .tariff ∷ [] in
     let given = joinedOf Payment rec in
     let both = made w t Payment rec amounts accepts named in
-    let same = payment-amounts rec in
+    let same = payment-amounts agreed rec in
     let expected : writerExpects (w .stage) Payment ≡ true = rw opened in
     let call = call-accepted w t Payment rec amounts accepts named size (open-fits w opened) expected in
     let making : makingAnswer t (layoutOf Payment) given amounts ≡ Accepted = rw same at (both .0) in
     let make = makes w t Payment rec amounts accepts named making in
-    (rw (call, make, limits), ap (madeOf (layoutOf Payment) given) (sym same) ∙ both .1)
+    (rw (list, call, make, limits), ap (madeOf (layoutOf Payment) given) (sym same) ∙ both .1)

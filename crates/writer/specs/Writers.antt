@@ -8,6 +8,7 @@ use Rattle.answer.specs.declared.Reason.the-variants.{WrongLength, NotExpected}
 use Rattle.answer.specs.declared.Answer.{Answer}
 use Rattle.answer.specs.Orders.{require, _then_, ifAccepted}
 use Rattle.decimal.specs.Numbers.{digitsOf}
+use Rattle.barcode.specs.Agreed.{listAnswer}
 use Rattle.layout.specs.declared.Record.{Record}
 use Rattle.layout.specs.declared.Record.the-variants.{Header, Payment, Trailer}
 use Rattle.layout.specs.Layouts.{recordLength, layoutOf, givenLength}
@@ -55,15 +56,15 @@ callAnswer w r given size =
 abbrev pub writeResult : Answer → Writer → Writer → WriteResult
 writeResult a new old = record { answer = a; writer = ifAccepted a new old }
 
--- the version of its file, which its header named
-abbrev pub writerTerms : Writer → Terms
-writerTerms w = told (w .file .version)
+-- the version of its file, which its header named, and the list that is lent; header and trailer are lent none
+abbrev pub writerTerms : List ℕ → Writer → Terms
+writerTerms agreed w = told (w .file .version) agreed
 
 -- A: the fields; the file is then open under the version that they name, in the form of its buffer. The
 -- bytes defined here and below are those of the record: a lined file has CR and LF behind them (`inForm`).
 abbrev pub headerAnswer : Writer → List ℕ → ℕ → Answer
 headerAnswer w given size =
-    callAnswer w Header (length given) size then makeAnswer (writerTerms w) Header given (0 ∷ 0 ∷ []) recordLength
+    callAnswer w Header (length given) size then makeAnswer (writerTerms [] w) Header given (0 ∷ 0 ∷ []) recordLength
 
 abbrev pub headerBytes : List ℕ → List ℕ
 headerBytes given = madeOf (layoutOf Header) given (0 ∷ 0 ∷ [])
@@ -73,17 +74,27 @@ headerWritten w given size =
     writeResult (headerAnswer w given size)
     (record { stage = Open; file = freshFile (versionIn (headerBytes given)) (isLinedBuffer size) }) w
 
--- G: 10 for a writer in an arbitrary state whose version is another number than 4 and 6, the fields, 21 in the money
--- fields' turn, then 15 and 16
-abbrev pub paymentAnswer : Writer → List ℕ → ℕ → ℕ → ℕ → Answer
-paymentAnswer w given received tariff size =
+-- G, under a list of agreed issuers that was judged: 10 for a writer in an arbitrary state whose version is another
+-- number than 4 and 6, the fields, 21 in the money fields' turn, then 15 and 16
+abbrev pub paymentAnswer : List ℕ → Writer → List ℕ → ℕ → ℕ → ℕ → Answer
+paymentAnswer agreed w given received tariff size =
     callAnswer w Payment (length given) size
-    then makeAnswer (writerTerms w) Payment given (received ∷ tariff ∷ []) recordLength
+    then makeAnswer (writerTerms agreed w) Payment given (received ∷ tariff ∷ []) recordLength
     then fileAnswer (w .file) received
 
-abbrev pub paymentWritten : Writer → List ℕ → ℕ → ℕ → ℕ → WriteResult
-paymentWritten w given received tariff size =
-    writeResult (paymentAnswer w given received tariff size)
+abbrev pub paymentUnder : List ℕ → Writer → List ℕ → ℕ → ℕ → ℕ → WriteResult
+paymentUnder agreed w given received tariff size =
+    writeResult (paymentAnswer agreed w given received tariff size)
+    (record { stage = w .stage; file = fileWith (w .file) received }) w
+
+-- as a caller asks it: 25 before everything, of a closed writer too
+abbrev pub paymentCheck : List ℕ → Writer → List ℕ → ℕ → ℕ → ℕ → Answer
+paymentCheck agreed w given received tariff size =
+    listAnswer agreed then paymentAnswer agreed w given received tariff size
+
+abbrev pub paymentWritten : List ℕ → Writer → List ℕ → ℕ → ℕ → ℕ → WriteResult
+paymentWritten agreed w given received tariff size =
+    writeResult (paymentCheck agreed w given received tariff size)
     (record { stage = w .stage; file = fileWith (w .file) received }) w
 
 abbrev pub paymentBytes : List ℕ → ℕ → ℕ → List ℕ
@@ -98,7 +109,7 @@ abbrev pub trailerAnswer : Writer → ℕ → Answer
 trailerAnswer w size =
     callAnswer w Trailer (givenLength Trailer) size
     then closingAnswer (w .file)
-    then makeAnswer (writerTerms w) Trailer (countBytes w) (figuresOf (w .file) .total ∷ 0 ∷ []) recordLength
+    then makeAnswer (writerTerms [] w) Trailer (countBytes w) (figuresOf (w .file) .total ∷ 0 ∷ []) recordLength
 
 abbrev pub trailerWritten : Writer → ℕ → WriteResult
 trailerWritten w size = writeResult (trailerAnswer w size) (record { stage = Closed; file = w .file }) w

@@ -1,4 +1,5 @@
-// A return file written record by record (SPEC.md, "Writer"): A, then each G, then Z with the file's own figures.
+// A return file written record by record (SPEC.md, "Writer"): A, then each G, under the list of agreed issuers that the
+// caller lends, then Z with the file's own figures.
 ghost use mathlib.Core.Bool.{_||_};
 ghost use mathlib.Core.Path.{_≡_};
 ghost use lib.Dec.{eqb};
@@ -10,7 +11,8 @@ ghost use Rattle.file.specs.Forms.{inForm, linedLength, lengthOf};
 ghost use Rattle.record.specs.Values.{versionIn};
 ghost use Rattle.writer.specs.Writers.{freshWriter, writerExpects, fitsBuffer, isLinedBuffer};
 ghost use Rattle.writer.specs.Writers.{callAnswer, writeResult};
-ghost use Rattle.writer.specs.Writers.{headerWritten, headerBytes, paymentWritten, paymentBytes};
+ghost use Rattle.writer.specs.Writers.{headerWritten, headerBytes, paymentUnder, paymentWritten};
+ghost use Rattle.writer.specs.Writers.{paymentBytes};
 ghost use Rattle.writer.specs.Writers.{trailerWritten, trailerBytes};
 use answer::Answer;
 use answer::Reason;
@@ -174,8 +176,17 @@ impl Writer {
             (now (out .entry)) ⌝ }
     {
         let call = self.check_call(Record::Header, fields.len(), out.len());
+        let none = [0u64; 0];
         let mut made = [0u8; Self::RECORD];
-        let making = fields::make(Record::Header, fields, self.file.version, 0, 0, &mut made);
+        let making = fields::judged::make(
+            Record::Header,
+            fields,
+            self.file.version,
+            0,
+            0,
+            &none,
+            &mut made,
+        );
         let answer = answer::first_refusal(call, making);
         let opened = Writer {
             stage: Stage::Open,
@@ -184,11 +195,16 @@ impl Writer {
         self.finish(answer, opened, &made, out)
     }
 
-    // Writes a payment with these 121 field bytes and amounts into the caller's buffer, as long as the header's, and
-    // counts it. A refusal leaves buffer and writer unchanged: 1, 9, 10 at 80 for a writer in an arbitrary state whose
-    // version is another number than 4 and 6, then the fields with 21 in an amount's turn, then 15 and 16.
-    pub fn payment(self, fields: &[u8], received: u64, tariff: u64, out: &mut [u8]) -> WriteResult
-        ensures answer { λ r. ⌜ r ≡ paymentWritten self (now (fields .entry)) received tariff
+    // The payment under a list of agreed issuers that was judged.
+    fn payment_judged(
+        self,
+        fields: &[u8],
+        received: u64,
+        tariff: u64,
+        agreed: &[u64],
+        out: &mut [u8],
+    ) -> WriteResult
+        ensures answer { λ r. ⌜ r ≡ paymentUnder (now (agreed .entry)) self (now (fields .entry)) received tariff
             (length (now (out .entry))) ⌝ }
         ensures bytes { λ r. ⌜ now (out .exit) ≡ ifAccepted (r .answer)
             (inForm (isLinedBuffer (length (now (out .entry)))) (paymentBytes (now (fields .entry)) received tariff))
@@ -196,12 +212,13 @@ impl Writer {
     {
         let call = self.check_call(Record::Payment, fields.len(), out.len());
         let mut made = [0u8; Self::RECORD];
-        let making = fields::make(
+        let making = fields::judged::make(
             Record::Payment,
             fields,
             self.file.version,
             received,
             tariff,
+            agreed,
             &mut made,
         );
         let stage = self.stage;
@@ -215,6 +232,34 @@ impl Writer {
             file: counted,
         };
         self.finish(answer, next, &made, out)
+    }
+
+    // Writes a payment with these 121 field bytes and amounts into the caller's buffer, as long as the header's, and
+    // counts it. A refusal leaves buffer and writer unchanged: 25 for the list, 1, 9, 10 at 80 for a writer in an
+    // arbitrary state whose version is another number than 4 and 6, then the fields with 21 in an amount's turn, then
+    // 15 and 16.
+    pub fn payment(
+        self,
+        fields: &[u8],
+        received: u64,
+        tariff: u64,
+        agreed: &[u64],
+        out: &mut [u8],
+    ) -> WriteResult
+        ensures answer { λ r. ⌜ r ≡ paymentWritten (now (agreed .entry)) self (now (fields .entry)) received tariff
+            (length (now (out .entry))) ⌝ }
+        ensures bytes { λ r. ⌜ now (out .exit) ≡ ifAccepted (r .answer)
+            (inForm (isLinedBuffer (length (now (out .entry)))) (paymentBytes (now (fields .entry)) received tariff))
+            (now (out .entry)) ⌝ }
+    {
+        let list = barcode::check_list(agreed);
+        match list {
+            Answer::Accepted => self.payment_judged(fields, received, tariff, agreed, out),
+            Answer::Refused(_, _) => WriteResult {
+                answer: list,
+                writer: self,
+            },
+        }
     }
 
     // Writes the trailer with the file's own count and total into the caller's buffer, as long as the header's; then
@@ -232,13 +277,15 @@ impl Writer {
         let figures = closed.figures;
         let mut count = [48u8; Self::COUNT];
         decimal::put_number(figures.count, Self::COUNT, &mut count, 0);
+        let none = [0u64; 0];
         let mut made = [0u8; Self::RECORD];
-        let making = fields::make(
+        let making = fields::judged::make(
             Record::Trailer,
             &count,
             file.version,
             figures.total,
             0,
+            &none,
             &mut made,
         );
         let answer = answer::first_refusal(call, answer::first_refusal(closing, making));

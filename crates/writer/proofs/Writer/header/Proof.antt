@@ -12,6 +12,9 @@ check-call-requires c κs = search needs
 slice-aggregate-make : tie.Need-slice-aggregate-make
 slice-aggregate-make c = search needs
 
+slice-aggregate-make-2 : tie.Need-slice-aggregate-make-2
+slice-aggregate-make-2 c = search needs
+
 make-requires : tie.Need-make-requires
 make-requires c κs = search needs
 
@@ -34,9 +37,9 @@ finish-requires : tie.Need-finish-requires
 finish-requires c κs =
     let choosing = c .before .before .before .before .before in
     let making = choosing .before .before in
-    let calling = making .before .before in
+    let calling = making .before .before .before in
     let a = calling .before .before .before .args in
-    let made = making .make .kept .1 .1 .1 .1 .1 .0 in (
+    let made = making .make .kept .1 .1 .1 .1 .1 .1 .0 in (
       made,
       size-is (a .self) Header (length (a .fields .now)) (length (a .out .now))
           (making .make .result) (calling .check-call .ensures) (choosing .first-refusal .ensures),
@@ -51,7 +54,7 @@ returns c =
     let opening = ending .before .before .before in
     let choosing = opening .before .before .before in
     let making = choosing .before .before in
-    let calling = making .before .before in
+    let calling = making .before .before .before in
     let a = calling .before .before .before .args in
     header-ends (a .self) (a .fields .now) (a .out .now) (calling .check-call .ensures) (making .make .ensures .0)
     (making .make .ensures .1) (choosing .first-refusal .ensures) (opening .before .version-in .ensures) (opening .new .ensures)
@@ -63,6 +66,7 @@ header-spec =
     (tie.spec
     check-call-requires
     slice-aggregate-make
+    slice-aggregate-make-2
     make-requires
     first-refusal-requires
     slice-aggregate-version-in

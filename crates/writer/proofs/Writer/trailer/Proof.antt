@@ -25,6 +25,9 @@ slice-aggregate-make c = search needs
 slice-aggregate-make-2 : tie.Need-slice-aggregate-make-2
 slice-aggregate-make-2 c = search needs
 
+slice-aggregate-make-3 : tie.Need-slice-aggregate-make-3
+slice-aggregate-make-3 c = search needs
+
 make-requires : tie.Need-make-requires
 make-requires c κs = search needs
 
@@ -41,9 +44,9 @@ finish-requires : tie.Need-finish-requires
 finish-requires c κs =
     let choosing = c .before .before in
     let making = choosing .before .before .before in
-    let calling = making .before .before .before .before .before .before .before .before .before in
+    let calling = making .before .before .before .before .before .before .before .before .before .before in
     let a = calling .before .before .args in
-    let made = making .make .kept .1 .1 .1 .1 .1 .0 in (
+    let made = making .make .kept .1 .1 .1 .1 .1 .1 .0 in (
       made,
       size-is (a .self) Trailer 6 (length (a .out .now))
           (choosing .before .first-refusal .result) (calling .check-call .ensures) (choosing .first-refusal2 .ensures),
@@ -57,7 +60,7 @@ returns c =
     let ending = c .before .before in
     let choosing = ending .before .before .before in
     let making = choosing .before .before .before in
-    let counting = making .before .before .before .before in
+    let counting = making .before .before .before .before .before in
     let closing = counting .before .before .before in
     let calling = closing .before .before in
     let a = calling .before .before .args in
@@ -76,6 +79,7 @@ trailer-spec =
     put-number-requires
     slice-aggregate-make
     slice-aggregate-make-2
+    slice-aggregate-make-3
     make-requires
     first-refusal-requires
     first-refusal-requires-2
