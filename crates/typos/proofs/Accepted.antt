@@ -23,7 +23,7 @@ use Rattle.barcode.specs.Codes.{digitAt, modulusOf, firstThreeAnswer, prefixAns
 use Rattle.barcode.proofs.Codes.{prefix-accepts, good, accepted}
 use Rattle.line.specs.Lines.{boxes, codeOf, boxRight, checksAnswer}
 use Rattle.line.proofs.Lines.{code-length}
-use Rattle.line.proofs.RoundTrips.{code-byte, same-first-three, line-is-boxes-and-code}
+use Rattle.line.proofs.Boxes.{code-byte, same-first-three, line-is-boxes-and-code}
 use Rattle.typos.specs.Typos.{Passes, Names, boxAt, wholeOf, PassesByChecks}
 
 pub passes-by-checks : PassesByChecks

@@ -6,3 +6,4 @@ pub mod OneTen
 pub mod Pieces
 pub mod Samples
 pub mod ZeroNine
+pub mod UnderLists

@@ -3,14 +3,15 @@ use Prim.Native.Nat.{ℕ}
 use mathlib.Core.List.{List, [], _∷_}
 use mathlib.Core.Path.{_≡_}
 use lib.ListN.{set}
-use Rattle.answer.specs.declared.Reason.the-variants.{WrongBoxCheck, WrongGeneralCheck}
+use Rattle.answer.specs.declared.Reason.the-variants.{WrongBoxCheck, WrongGeneralCheck, NoDate}
 use Rattle.answer.specs.declared.Answer.{Answer}
 use Rattle.answer.specs.declared.Answer.the-variants.{Accepted, Refused}
 use Rattle.answer.specs.Orders.{Each}
 use Rattle.decimal.specs.Numbers.{digitsOf}
 use Rattle.modulus.specs.declared.Modulus.the-variants.{Eleven}
 use Rattle.modulus.specs.Checks.{exchanged}
-use Rattle.line.specs.Lines.{lineLength, lineAnswer}
+use Rattle.barcode.specs.Agreed.{keyOf}
+use Rattle.line.specs.Lines.{lineLength, lineAnswer, lineCheck}
 use Rattle.typos.specs.Typos.{Passes, boxRemainder, codeRemainder}
 
 -- Promises.
@@ -77,3 +78,40 @@ borders =
 abbrev pub BordersHold : Type 0
 BordersHold =
     Each (λ (b : Border). Passes (b .line) × (lineAnswer (exchanged (b .line) (b .index)) ≡ b .exchange)) borders
+
+-- Under a list: a line whose free field starts with a date, and its issuer on the list.
+abbrev pub dated : List ℕ
+dated = digitsOf lineLength 817000000007_010936592012_909010000000_000000000000
+
+abbrev pub datedAgreed : List ℕ
+datedAgreed = keyOf (record { segment = 1; number = 3659 }) ∷ []
+
+-- 9 and 0 exchanged in the date of a line, at places 25 and 26: it passes its checks and the date is none. With its
+-- issuer agreed it is refused 11 at 21, under the empty list accepted.
+abbrev pub DatedExchangeIsRefused : Type 0
+DatedExchangeIsRefused =
+    (lineCheck datedAgreed dated ≡ Accepted)
+    × (lineCheck datedAgreed (exchanged dated 24) ≡ Refused NoDate 21)
+    × (lineCheck [] (exchanged dated 24) ≡ Accepted)
+
+-- under modulo 11, a digit of the date changed from 4 to 0, at place 29: the same
+abbrev pub datedEleven : List ℕ
+datedEleven = digitsOf lineLength 878000000008_009221932023_110040211200_210121020029
+
+abbrev pub elevenAgreed : List ℕ
+elevenAgreed = keyOf (record { segment = 7; number = 2193 }) ∷ []
+
+abbrev pub DatedChangeIsRefused : Type 0
+DatedChangeIsRefused =
+    (lineCheck elevenAgreed datedEleven ≡ Accepted)
+    × (lineCheck elevenAgreed (set datedEleven 28 48) ≡ Refused NoDate 21)
+    × (lineCheck [] (set datedEleven 28 48) ≡ Accepted)
+
+-- the typo in the segment, 2 to 9, makes it the line of an issuer that agreed: refused 11; of one that did not:
+-- accepted
+abbrev pub SegmentTypoMeetsAnAgreement : Type 0
+SegmentTypoMeetsAnAgreement =
+    let agreed = keyOf (record { segment = 9; number = 5199 }) ∷ [] in
+    (lineCheck agreed segmented ≡ Accepted)
+    × (lineCheck agreed (set segmented 1 57) ≡ Refused NoDate 21)
+    × (lineCheck [] (set segmented 1 57) ≡ Accepted)

@@ -17,7 +17,7 @@ use Rattle.modulus.specs.Checks.{remainderOf, exchanged, ZeroAndNine, BetweenZe
 use Rattle.barcode.specs.Codes.{digitAt, product, isSegment, modulusOf, checked, prefixAnswer, generalRight}
 use Rattle.line.specs.Lines.{lineLength, boxDigits, boxes, codeOf, boxRight, lineAnswer}
 
--- the line is accepted
+-- the line passes its checks: it is accepted under the empty list (UnderLists.antt has every list)
 abbrev pub Passes : List ℕ → Type 0
 Passes line = lineAnswer line ≡ Accepted
 
