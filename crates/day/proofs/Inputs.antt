@@ -10,6 +10,7 @@ use lib.Seq.{drop-append-le, drop-drop}
 use Rattle.answer.specs.declared.Answer.{Answer}
 use Rattle.answer.specs.declared.Answer.the-variants.{Accepted, Refused}
 use Rattle.answer.proofs.Orders.{not-both}
+use Rattle.barcode.proofs.Lists.{empty-is-right}
 use Rattle.session.specs.declared.Session.{Session}
 use Rattle.session.specs.declared.RunResult.{RunResult}
 use Rattle.session.specs.Runs.{addCounts, runOf, bytesOf}
@@ -18,24 +19,24 @@ use Rattle.session.proofs.Feeding.{run-is-its-takes, feeding-is-one-run}
 use Rattle.day.specs.Days.{freshDay, runBufferOf, leftOf, endedOf}
 use Rattle.day.specs.Inputs.{pageOfDay, runUntilRefused, BuffersPrintOnePage}
 
-pub taken-within : (s : Session) (more : Bool) (bytes : List ℕ) → runOf s more bytes .bytes ≤ length bytes
+pub taken-within : (s : Session) (more : Bool) (bytes : List ℕ) → runOf [] s more bytes .bytes ≤ length bytes
 taken-within s more bytes =
-    let n = runOf s more bytes .bytes in
-    let takes = run-is-its-takes s more bytes in
+    let n = runOf [] s more bytes .bytes in
+    let takes = run-is-its-takes [] s more bytes empty-is-right in
     let size : n ≡ length (take n bytes) = sym (takes .3) ∙ ap length (takes .2) in
     omega (arith, size, length-take n bytes)
 
 -- what a buffer and the bytes that follow it leave is what is left of those that the buffer left and of those that
 -- follow
 pub left-then :
-    (s : Session) (front rest : List ℕ) → runOf s true front .answer ≡ Accepted
-    → leftOf (runOf s true front .session) (leftOf s front ++ rest) ≡ leftOf s (front ++ rest)
+    (s : Session) (front rest : List ℕ) → runOf [] s true front .answer ≡ Accepted
+    → leftOf (runOf [] s true front .session) (leftOf s front ++ rest) ≡ leftOf s (front ++ rest)
 left-then s front rest a =
-    let r = runOf s true front in
-    let n = runOf (r .session) true (leftOf s front ++ rest) .bytes in
+    let r = runOf [] s true front in
+    let n = runOf [] (r .session) true (leftOf s front ++ rest) .bytes in
     ap (drop n) (sym (drop-append-le (r .bytes) front rest (taken-within s true front)))
     ∙ drop-drop n (r .bytes) (front ++ rest)
-    ∙ ap (λ (r : RunResult). drop (r .bytes) (front ++ rest)) (feeding-is-one-run s true front rest .0 a)
+    ∙ ap (λ (r : RunResult). drop (r .bytes) (front ++ rest)) (feeding-is-one-run [] s true front rest .0 a)
 
 -- a buffer of a day, and the bytes that follow it
 module _ (day : RunResult) (more : Bool) (front rest : List ℕ) where
@@ -49,13 +50,13 @@ module _ (day : RunResult) (more : Bool) (front rest : List ℕ) where
       ran .answer ≡ Accepted
       → runBufferOf ran more (leftOf (day .session) front ++ rest) ≡ runBufferOf day more (front ++ rest)
   accepted-then a =
-      let r = runOf (day .session) true front in
-      let behind = runOf (r .session) more (leftOf (day .session) front ++ rest) in
+      let r = runOf [] (day .session) true front in
+      let behind = runOf [] (r .session) more (leftOf (day .session) front ++ rest) in
       sym (counts-add (day .records) (day .files) (day .bytes) (r .records) (r .files) (r .bytes) behind)
-      ∙ ap counted (feeding-is-one-run (day .session) more front rest .0 a)
+      ∙ ap counted (feeding-is-one-run [] (day .session) more front rest .0 a)
 
   pub refused-then : (ran .answer ≡ Accepted → ⊥) → ran ≡ runBufferOf day more (front ++ rest)
-  refused-then a = ap counted (feeding-is-one-run (day .session) more front rest .1 a)
+  refused-then a = ap counted (feeding-is-one-run [] (day .session) more front rest .1 a)
 
 -- a buffer behind what was left before it, and those that follow
 module _ (day : RunResult) (left b : List ℕ) (bs : List (List ℕ)) (last : List ℕ) where

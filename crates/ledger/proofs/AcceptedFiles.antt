@@ -15,7 +15,8 @@ use Rattle.layout.specs.declared.MaybeRecord.the-variants.{Is, Other}
 use Rattle.layout.specs.declared.Record.{Record}
 use Rattle.layout.specs.declared.Record.the-variants.{Header, Payment, Trailer}
 use Rattle.layout.specs.Layouts.{recordLength, namedBy}
-use Rattle.kinds.specs.Terms.{Terms}
+use Rattle.barcode.specs.Agreed.{RightList, listAnswer}
+use Rattle.kinds.specs.Terms.{told}
 use Rattle.record.specs.Records.{recordAnswer}
 use Rattle.record.specs.Values.{versionIn, recordShown, shownUnlessRefused}
 use Rattle.file.specs.Forms.{inForm, bodyOf, hasLineEnd, fitsLength, endAnswer, isTakenLined}
@@ -30,23 +31,26 @@ use Rattle.ledger.proofs.Sessions.{own-accepts}
 use Rattle.ledger.proofs.WholeFiles.{taken, right-under-any-terms}
 
 -- a record that was accepted, with whatever follows it
-pub record TakenRight (s : Session) (rec : List ℕ) : Type 0 where
-  pub own : recordAnswer (sessionTerms s) (bodyOf rec) ≡ Accepted
-  pub state : sessionAnswer s (shownUnlessRefused (recordAnswer (sessionTerms s) (bodyOf rec)) (recordShown (namedBy (getD (bodyOf rec) 0 0)) (bodyOf rec))) ≡ Accepted
+pub record TakenRight (agreed : List ℕ) (s : Session) (rec : List ℕ) : Type 0 where
+  pub list : RightList agreed
+  pub own : recordAnswer (sessionTerms agreed s) (bodyOf rec) ≡ Accepted
+  pub state : sessionAnswer s (shownUnlessRefused (recordAnswer (sessionTerms agreed s) (bodyOf rec)) (recordShown agreed (namedBy (getD (bodyOf rec) 0 0)) (bodyOf rec))) ≡ Accepted
   pub expected : sessionExpects (s .opened) (namedBy (getD rec 0 0)) ≡ true
   pub long : length (bodyOf rec) ≡ recordLength
   pub form : rec ≡ inForm (isTakenLined (s .opened) (s .file .lined) rec) (bodyOf rec)
 
-pub taken-right : (s : Session) (rec : List ℕ) → takeAnswer s rec ≡ Accepted → TakenRight s rec
-taken-right s rec e =
+pub taken-right : (agreed : List ℕ) (s : Session) (rec : List ℕ) → takeOf agreed s rec .answer ≡ Accepted → TakenRight agreed s rec
+taken-right agreed s rec e =
     let body = bodyOf rec in
-    let own = recordAnswer (sessionTerms s) body in
-    let shown = recordShown (namedBy (getD body 0 0)) body in
-    let fits = passed (fitsLength (s .opened) (s .file .lined) rec) WrongLength 0 e in
+    let own = recordAnswer (sessionTerms agreed s) body in
+    let shown = recordShown agreed (namedBy (getD body 0 0)) body in
+    let judged = then-accepts (listAnswer agreed) (takeAnswer agreed s rec) .0 e in
+    let fits = passed (fitsLength (s .opened) (s .file .lined) rec) WrongLength 0 (judged .1) in
     let met = passed (sessionExpects (s .opened) (namedBy (getD rec 0 0))) NotExpected 1 (fits .1) in
     let both = then-accepts (sessionAnswer s (shownUnlessRefused own shown)) (endAnswer (s .opened) (s .file .lined) rec) .0 (met .1) in
     let form = fitting-is-in-form (s .opened) (s .file .lined) rec .0 (fits .0, both .1) in
     record {
+      list = judged .0;
       own = own-accepts s own shown (both .0);
       state = both .0;
       expected = met .0;
@@ -61,47 +65,49 @@ header-expected (Is Trailer) e = never e
 header-expected Other e = never e
 
 -- the record in what was taken, by its kind
-right-body : (s : Session) (r : Record) (rec : List ℕ) → TakenRight s rec → namedBy (getD rec 0 0) ≡ Is r → IsRight (sessionTerms s) r (bodyOf rec)
-right-body s r rec h n = (h .own, ap namedBy (first-in rec) ∙ n)
+right-body : (agreed : List ℕ) (s : Session) (r : Record) (rec : List ℕ) → TakenRight agreed s rec → namedBy (getD rec 0 0) ≡ Is r → IsRight (sessionTerms agreed s) r (bodyOf rec)
+right-body agreed s r rec h n = (h .own, ap namedBy (first-in rec) ∙ n)
 
--- in an open file of this form, under these terms: payments that are accepted keep it open, the terms and the form
-rest-right : (t : Terms) (lined : Bool) (z : List ℕ) → namedBy (getD z 0 0) ≡ Is Trailer → (recs : List (List ℕ)) (s : Session)
-    → Each (λ (rec : List ℕ). namedBy (getD rec 0 0) ≡ Is Payment) recs → s .opened ≡ true → s .file .lined ≡ lined → sessionTerms s ≡ t
-    → AllAccepted (answersOf s (map taking (recs ++ (z ∷ []))))
-    → Each (IsRight t Payment) (map bodyOf recs) × IsRight t Trailer (bodyOf z)
+-- in an open file of this form and version: payments that are accepted keep it open, and both
+rest-right : (agreed : List ℕ) (version : ℕ) (lined : Bool) (z : List ℕ) → namedBy (getD z 0 0) ≡ Is Trailer → (recs : List (List ℕ)) (s : Session)
+    → Each (λ (rec : List ℕ). namedBy (getD rec 0 0) ≡ Is Payment) recs → s .opened ≡ true → s .file .lined ≡ lined → s .file .version ≡ version
+    → AllAccepted (answersOf s (map (taking agreed) (recs ++ (z ∷ []))))
+    → let t = told version agreed in
+    Each (IsRight t Payment) (map bodyOf recs) × IsRight t Trailer (bodyOf z)
     × (recs ++ (z ∷ []) ≡ allInForm lined (map bodyOf recs ++ (bodyOf z ∷ [])))
-rest-right t lined z last [] s h opened form terms e =
-    let own = taken-right s z (e .0) in
+rest-right agreed version lined z last [] s h opened form under e =
+    let own = taken-right agreed s z (e .0) in
     let in-form : z ≡ inForm lined (bodyOf z) = rw (opened, form) at (own .form) in
-    (tt, rw terms at (right-body s Trailer z own last), ap (λ (l : List ℕ). l ∷ []) in-form)
-rest-right t lined z last (rec ∷ recs) s h opened form terms e =
-    let own = taken-right s rec (e .0) in
+    (tt, rw under at (right-body agreed s Trailer z own last), ap (λ (l : List ℕ). l ∷ []) in-form)
+rest-right agreed version lined z last (rec ∷ recs) s h opened form under e =
+    let own = taken-right agreed s rec (e .0) in
     let body = bodyOf rec in
-    let right = right-body s Payment rec own (h .0) in
+    let right = right-body agreed s Payment rec own (h .0) in
+    let shown = recordShown agreed (Is Payment) body in
     let in-form : rec ≡ inForm lined body = rw (opened, form) at (own .form) in
-    let takes = ap (takeOf s) in-form ∙ taken s lined Payment body right opened (λ x. sym form) in
-    let accepts : sessionAnswer s (recordShown (Is Payment) body) ≡ Accepted = sym (ap (λ (x : TakeResult). x .answer) takes) ∙ e .0 in
-    let next : takeOf s rec .session ≡ sessionWithPayment s (laneOfRecord body) =
-    ap (λ (x : TakeResult). x .session) takes
-    ∙ accepted-takes (sessionAnswer s (recordShown (Is Payment) body)) (sessionWith s lined (recordShown (Is Payment) body)) s accepts in
-    let later = rest-right t lined z last recs (sessionWithPayment s (laneOfRecord body)) (h .1) opened form terms (rw next at (e .1)) in
-    ((rw terms at right, later .0), later .1, ap₂ (λ (x : List ℕ) (l : List (List ℕ)). x ∷ l) in-form (later .2))
+    let takes = ap (takeOf agreed s) in-form ∙ taken agreed (own .list) s lined Payment body right opened (λ x. sym form) in
+    let accepts : sessionAnswer s shown ≡ Accepted = sym (ap (λ (x : TakeResult). x .answer) takes) ∙ e .0 in
+    let next : takeOf agreed s rec .session ≡ sessionWithPayment s (laneOfRecord body) =
+    ap (λ (x : TakeResult). x .session) takes ∙ accepted-takes (sessionAnswer s shown) (sessionWith s lined shown) s accepts in
+    let later = rest-right agreed version lined z last recs (sessionWithPayment s (laneOfRecord body)) (h .1) opened form under (rw next at (e .1)) in
+    ((rw under at right, later .0), later .1, ap₂ (λ (x : List ℕ) (l : List (List ℕ)). x ∷ l) in-form (later .2))
 
 pub accepted-file-is-whole : AcceptedFileIsWhole
-accepted-file-is-whole s a recs z closed payments last e =
-    let own = taken-right s a (e .0) in
+accepted-file-is-whole agreed s a recs z closed payments last e =
+    let own = taken-right agreed s a (e .0) in
     let body = bodyOf a in
     let lined = hasLineEnd a in
     let named : namedBy (getD a 0 0) ≡ Is Header = header-expected (namedBy (getD a 0 0)) (rw closed at (own .expected)) in
-    let right = right-body s Header a own named in
+    let right = right-body agreed s Header a own named in
     let in-form : a ≡ inForm lined body = rw closed at (own .form) in
     let start = openedAt (s .shown) (versionIn body) lined in
-    let takes : takeOf s a ≡ record { answer = Accepted; session = start } =
-    ap (takeOf s) in-form ∙ taken s lined Header body right (ap not closed) (λ x. unequal x closed) in
-    let next : takeOf s a .session ≡ start = ap (λ (x : TakeResult). x .session) takes in
-    let later = rest-right (headerTerms body) lined z last recs start payments refl refl refl (rw next at (e .1)) in (
+    let takes : takeOf agreed s a ≡ record { answer = Accepted; session = start } =
+    ap (takeOf agreed s) in-form ∙ taken agreed (own .list) s lined Header body right (ap not closed) (λ x. unequal x closed) in
+    let next : takeOf agreed s a .session ≡ start = ap (λ (x : TakeResult). x .session) takes in
+    let later = rest-right agreed (versionIn body) lined z last recs start payments refl refl refl (rw next at (e .1)) in (
       record {
-        header = right-under-any-terms (sessionTerms s) (headerTerms body) Header body refl right;
+        list = own .list;
+        header = right-under-any-terms (sessionTerms agreed s) (headerTerms agreed body) Header body refl right;
         payments = later .0;
         trailer = later .1;
       },

@@ -19,8 +19,10 @@ use Rattle.layout.specs.declared.MaybeRecord.{MaybeRecord}
 use Rattle.layout.specs.declared.MaybeRecord.the-variants.{Is, Other}
 use Rattle.layout.specs.declared.Record.the-variants.{Header, Payment, Trailer}
 use Rattle.layout.specs.Layouts.{namedBy}
+use Rattle.barcode.specs.Agreed.{listAnswer}
+use Rattle.kinds.specs.Terms.{told}
 use Rattle.record.specs.Records.{recordAnswer}
-use Rattle.record.specs.Values.{versionIn, paymentShown, trailerShown, recordShown, shownUnlessRefused, decodedRecord}
+use Rattle.record.specs.Values.{versionIn, trailerShown, recordShown, shownUnlessRefused, decodedRecordUnder}
 use Rattle.file.specs.Files.{mostPayments, mostCentavos, freshFile, fileAnswer, figuresAnswer}
 use Rattle.file.specs.Forms.{bodyOf, hasLineEnd, fitsLength, endAnswer}
 use Rattle.file.proofs.Forms.{first-in}
@@ -32,14 +34,14 @@ use Rattle.board.proofs.Posting.{fit, with-sound, post-places, stays-sound}
 use Rattle.board.proofs.Boards.{answers-as-payments}
 use Rattle.session.specs.declared.Session.{Session}
 use Rattle.session.specs.Sessions.{freshSession, openedAt, closedAt, sessionTerms, sessionExpects, figuresIn, payAnswer, sessionWithPayment, sessionAnswer, sessionWith, takeAnswer, nextSession, takeOf, abandonOf}
-use Rattle.ledger.specs.Ledgers.{Opened, Filed, Ledger, freshLedger, paymentRecords, openRecords, laneOfRecord, lanesOfRecords, receivedIn, limitsAnswer, isOpen, isOpenLined, ledgerExpects, ledgerTerms, filedWith, paymentStateAnswer, trailerStateAnswer, stateAnswer, ledgerAnswer, withRecord, nextLedger, Step, taking, abandoning, ledgerStep, ledgerAfter, ledgerAnswers}
+use Rattle.ledger.specs.Ledgers.{Opened, Filed, Ledger, freshLedger, paymentRecords, openRecords, laneOfRecord, lanesOfRecords, receivedBy, receivedIn, limitsAnswer, isOpen, isOpenLined, ledgerExpects, openVersion, ledgerTerms, filedWith, paymentStateAnswer, trailerStateAnswer, stateAnswer, ledgerAnswer, ledgerCheck, withRecord, nextLedger, Step, taking, abandoning, ledgerStep, ledgerAfter, ledgerAnswers}
 use Rattle.ledger.specs.Promises.{sessionStep, sessionAfter, answersOf, allRecords, Agrees, SessionAgrees, AnswersAreTheLedgers, NextAnswerIsTheLedgers}
 use Rattle.ledger.proofs.Records.{lanes-joined, limits-are-the-boards}
 
 -- The answers.
 
 -- a session, and a ledger by its parts
-module _ (s : Session) (files : List Filed) (rec : List ℕ) where
+module _ (agreed : List ℕ) (s : Session) (files : List Filed) (rec : List ℕ) where
   payment-answer : (f : Opened) → Agrees s (record { accepted = files; opened = some f })
       → payAnswer s (laneOfRecord rec) ≡ paymentStateAnswer files f rec
   unfolding fileAnswer
@@ -50,7 +52,7 @@ module _ (s : Session) (files : List Filed) (rec : List ℕ) where
       ∙ limits-are-the-boards before rec in
       rw (limits, h .taken, h .total)
       (then-groups (require (ltb (length (f .payments)) mostPayments) FileFull 1)
-      (require (leb (receivedIn (f .payments) + paymentShown rec .received) mostCentavos) FileTotalPassed receivedPlace)
+      (require (leb (receivedIn (f .payments) + receivedBy rec) mostCentavos) FileTotalPassed receivedPlace)
       (limitsAnswer (before ++ (rec ∷ []))))
 
   trailer-answer : (f : Opened) → Agrees s (record { accepted = files; opened = some f })
@@ -59,7 +61,7 @@ module _ (s : Session) (files : List Filed) (rec : List ℕ) where
   trailer-answer f h = rw (h .taken, h .total)
 
   record-answer : (o : Option Opened) (n : MaybeRecord) (a : Answer) → Agrees s (record { accepted = files; opened = o })
-      → require (sessionExpects (s .opened) n) NotExpected 1 then sessionAnswer s (shownUnlessRefused a (recordShown n rec))
+      → require (sessionExpects (s .opened) n) NotExpected 1 then sessionAnswer s (shownUnlessRefused a (recordShown agreed n rec))
       ≡ require (ledgerExpects o n) NotExpected 1 then a then stateAnswer files o n rec
   record-answer none (Is Header) Accepted h = rw (h .opened)
   record-answer none (Is Header) (Refused why p) h = rw (h .opened)
@@ -74,21 +76,26 @@ module _ (s : Session) (files : List Filed) (rec : List ℕ) where
   record-answer (some f) Other a h = refl
 
 -- a record with its end
-pub answer-agrees : (s : Session) (k : Ledger) (rec : List ℕ) → Agrees s k → takeAnswer s rec ≡ ledgerAnswer k rec
-answer-agrees s k rec h =
+pub answer-agrees : (agreed : List ℕ) (s : Session) (k : Ledger) (rec : List ℕ) → Agrees s k → takeAnswer agreed s rec ≡ ledgerAnswer agreed k rec
+answer-agrees agreed s k rec h =
     let n = namedBy (getD rec 0 0) in
     let body = bodyOf rec in
-    let own = recordAnswer (ledgerTerms (k .opened)) body in
+    let terms : sessionTerms agreed s ≡ ledgerTerms agreed (k .opened) = ap (λ (v : ℕ). told v agreed) (h .version) in
+    let own = recordAnswer (ledgerTerms agreed (k .opened)) body in
     let state = stateAnswer (k .accepted) (k .opened) n body in
     let ending = endAnswer (s .opened) (s .file .lined) rec in
-    let shown = sessionAnswer s (shownUnlessRefused own (recordShown n body)) in
+    let shown = sessionAnswer s (shownUnlessRefused own (recordShown agreed n body)) in
     let expects = require (sessionExpects (s .opened) n) NotExpected 1 in
     let met = require (ledgerExpects (k .opened) n) NotExpected 1 in
     let same : expects then (shown then ending) ≡ met then (own then (state then ending)) =
-    sym (then-groups expects shown ending) ∙ ap (λ (a : Answer). a then ending) (record-answer s (k .accepted) body (k .opened) n own h)
+    sym (then-groups expects shown ending) ∙ ap (λ (a : Answer). a then ending) (record-answer agreed s (k .accepted) body (k .opened) n own h)
     ∙ then-groups met (own then state) ending ∙ ap (λ (a : Answer). met then a) (then-groups own state ending) in
-    rw (first-in rec, h .terms, ← h .opened, ← h .lined)
+    rw (first-in rec, terms, ← h .opened, ← h .lined)
     (ap (λ (a : Answer). require (fitsLength (s .opened) (s .file .lined) rec) WrongLength 0 then a) same)
+
+-- as a caller asks both
+pub check-agrees : (agreed : List ℕ) (s : Session) (k : Ledger) (rec : List ℕ) → Agrees s k → takeOf agreed s rec .answer ≡ ledgerCheck agreed k rec
+check-agrees agreed s k rec h = ap (λ (a : Answer). listAnswer agreed then a) (answer-agrees agreed s k rec h)
 
 -- The records of a ledger, one more at the end.
 
@@ -100,7 +107,7 @@ records-joined (g ∷ files) f =
     sym (append-assoc (g .payments) (paymentRecords files) (f .payments))
 
 pub received-joined : (recs : List (List ℕ)) (rec : List ℕ)
-    → receivedIn (recs ++ (rec ∷ [])) ≡ receivedIn recs + paymentShown rec .received
+    → receivedIn (recs ++ (rec ∷ [])) ≡ receivedIn recs + receivedBy rec
 received-joined [] rec = omega arith
 received-joined (r ∷ recs) rec = omega (arith, received-joined recs rec)
 
@@ -109,7 +116,7 @@ received-joined (r ∷ recs) rec = omega (arith, received-joined recs rec)
 -- both boards are those of the accepted files
 at-rest : (b : Board) (files : List Filed) (o : Option Opened)
     → lanesOf b ≡ lanesFrom (lanesOfRecords (paymentRecords files)) → SoundBoard b → openRecords o ≡ []
-    → Agrees (record { shown = b; work = b; opened = isOpen o; file = freshFile (ledgerTerms o .version) (isOpenLined o) }) (record { accepted = files; opened = o })
+    → Agrees (record { shown = b; work = b; opened = isOpen o; file = freshFile (openVersion o) (isOpenLined o) }) (record { accepted = files; opened = o })
 at-rest b files o e sound none-yet =
     record {
       opened = refl;
@@ -117,13 +124,13 @@ at-rest b files o e sound none-yet =
       work = rw (none-yet, append-nil (paymentRecords files)) e;
       taken = rw none-yet;
       total = rw none-yet;
-      terms = refl;
+      version = refl;
       lined = refl;
       soundShown = sound;
       soundWork = sound;
     }
 
-module _ (s : Session) (files : List Filed) (ended : Bool) (rec : List ℕ) where
+module _ (agreed : List ℕ) (s : Session) (files : List Filed) (ended : Bool) (rec : List ℕ) where
   opens : (o : Option Opened) → Agrees s (record { accepted = files; opened = o })
       → Agrees (openedAt (s .shown) (versionIn rec) ended) (withRecord files none (Is Header) ended rec)
   opens o h =
@@ -145,7 +152,7 @@ module _ (s : Session) (files : List Filed) (ended : Bool) (rec : List ℕ) wher
     pays e =
         let before = paymentRecords files ++ f .payments in
         let posted =
-        then-accepts (fileAnswer (s .file) (paymentShown rec .received))
+        then-accepts (fileAnswer (s .file) (receivedBy rec))
         (postAnswer (s .work) (laneOfRecord rec)) .0 e .1 in
         record {
           opened = h .opened;
@@ -158,7 +165,7 @@ module _ (s : Session) (files : List Filed) (ended : Bool) (rec : List ℕ) wher
               ap (λ (recs : List (List ℕ)). lanesFrom (lanesOfRecords recs)) (sym more);
           taken = omega (arith, h .taken, length-append (f .payments) (rec ∷ []));
           total = omega (arith, h .total, received-joined (f .payments) rec);
-          terms = h .terms;
+          version = h .version;
           lined = h .lined;
           soundShown = h .soundShown;
           soundWork =
@@ -167,8 +174,8 @@ module _ (s : Session) (files : List Filed) (ended : Bool) (rec : List ℕ) wher
 
   followed : (o : Option Opened) (n : MaybeRecord) (a : Answer) → Agrees s (record { accepted = files; opened = o })
       → sessionExpects (s .opened) n ≡ true
-      → sessionAnswer s (shownUnlessRefused a (recordShown n rec)) ≡ Accepted
-      → Agrees (sessionWith s ended (shownUnlessRefused a (recordShown n rec))) (withRecord files o n ended rec)
+      → sessionAnswer s (shownUnlessRefused a (recordShown agreed n rec)) ≡ Accepted
+      → Agrees (sessionWith s ended (shownUnlessRefused a (recordShown agreed n rec))) (withRecord files o n ended rec)
   followed o n (Refused why p) h x e = not-both _ refl e
   followed o Other Accepted h x e = absurd (false≢true x)
   followed none (Is Header) Accepted h x e = opens none h
@@ -186,26 +193,27 @@ module _ (s : Session) (files : List Filed) (ended : Bool) (rec : List ℕ) wher
       split (λ (r : Session). Agrees r (record { accepted = files; opened = none })) (s .opened) (λ t. drops (some f) h)
       (λ t. absurd (false≢true (sym t ∙ h .opened)))
 
-pub take-agrees : (s : Session) (k : Ledger) (rec : List ℕ) → Agrees s k
-    → Agrees (takeOf s rec .session) (ledgerStep k (taking rec))
-take-agrees s k rec h = rw (← answer-agrees s k rec h) (go (takeAnswer s rec) refl)
+pub take-agrees : (agreed : List ℕ) (s : Session) (k : Ledger) (rec : List ℕ) → Agrees s k
+    → Agrees (takeOf agreed s rec .session) (ledgerStep k (taking agreed rec))
+take-agrees agreed s k rec h = rw (← check-agrees agreed s k rec h) (go (listAnswer agreed then takeAnswer agreed s rec) refl)
   where
-    go : (a : Answer) → takeAnswer s rec ≡ a
-        → Agrees (ifAccepted a (nextSession s rec) s) (ifAccepted a (nextLedger k rec) k)
+    go : (a : Answer) → listAnswer agreed then takeAnswer agreed s rec ≡ a
+        → Agrees (ifAccepted a (nextSession agreed s rec) s) (ifAccepted a (nextLedger k rec) k)
     go (Refused why p) e = h
     go Accepted e =
         let n = namedBy (getD rec 0 0) in
-        let own = recordAnswer (sessionTerms s) (bodyOf rec) in
-        let fits = passed (fitsLength (s .opened) (s .file .lined) rec) WrongLength 0 e .1 in
+        let own = recordAnswer (sessionTerms agreed s) (bodyOf rec) in
+        let took = then-accepts (listAnswer agreed) (takeAnswer agreed s rec) .0 e .1 in
+        let fits = passed (fitsLength (s .opened) (s .file .lined) rec) WrongLength 0 took .1 in
         let met = passed (sessionExpects (s .opened) n) NotExpected 1 fits in
         let accepts =
-        then-accepts (sessionAnswer s (decodedRecord (sessionTerms s) (bodyOf rec))) (endAnswer (s .opened) (s .file .lined) rec) .0 (met .1) .0 in
+        then-accepts (sessionAnswer s (decodedRecordUnder (sessionTerms agreed s) (bodyOf rec))) (endAnswer (s .opened) (s .file .lined) rec) .0 (met .1) .0 in
         rw (first-in rec)
-        (followed s (k .accepted) (hasLineEnd rec) (bodyOf rec) (k .opened) n own h (met .0) (rw (first-in rec) at accepts))
+        (followed agreed s (k .accepted) (hasLineEnd rec) (bodyOf rec) (k .opened) n own h (met .0) (rw (first-in rec) at accepts))
 
 step-agrees : (s : Session) (k : Ledger) (step : Step) → Agrees s k → Agrees (sessionStep s step) (ledgerStep k step)
-step-agrees s k (taking rec) h = take-agrees s k rec h
-step-agrees s k abandoning h = abandoned s (k .accepted) false [] (k .opened) h
+step-agrees s k (taking agreed rec) h = take-agrees agreed s k rec h
+step-agrees s k abandoning h = abandoned [] s (k .accepted) false [] (k .opened) h
 
 -- Any list of steps.
 
@@ -216,15 +224,15 @@ steps-agree (step ∷ steps) s k h = steps-agree steps (sessionStep s step) (led
 
 answers-agree : (steps : List Step) (s : Session) (k : Ledger) → Agrees s k → answersOf s steps ≡ ledgerAnswers k steps
 answers-agree [] s k h = refl
-answers-agree (taking rec ∷ steps) s k h =
-    ap₂ (λ (a : Answer) (rest : List Answer). a ∷ rest) (answer-agrees s k rec h)
-    (answers-agree steps (sessionStep s (taking rec)) (ledgerStep k (taking rec)) (step-agrees s k (taking rec) h))
+answers-agree (taking agreed rec ∷ steps) s k h =
+    ap₂ (λ (a : Answer) (rest : List Answer). a ∷ rest) (check-agrees agreed s k rec h)
+    (answers-agree steps (sessionStep s (taking agreed rec)) (ledgerStep k (taking agreed rec)) (step-agrees s k (taking agreed rec) h))
 answers-agree (abandoning ∷ steps) s k h =
     answers-agree steps (sessionStep s abandoning) (ledgerStep k abandoning) (step-agrees s k abandoning h)
 
 pub fresh-agrees : Agrees freshSession freshLedger
 fresh-agrees =
-    record { opened = refl; shown = refl; work = refl; taken = refl; total = refl; terms = refl; lined = refl; soundShown = stays-sound .0; soundWork = stays-sound .0 }
+    record { opened = refl; shown = refl; work = refl; taken = refl; total = refl; version = refl; lined = refl; soundShown = stays-sound .0; soundWork = stays-sound .0 }
 
 pub session-agrees : SessionAgrees
 session-agrees steps = steps-agree steps freshSession freshLedger fresh-agrees
@@ -233,5 +241,5 @@ pub answers-are-the-ledgers : AnswersAreTheLedgers
 answers-are-the-ledgers steps = answers-agree steps freshSession freshLedger fresh-agrees
 
 pub next-answer-is-the-ledgers : NextAnswerIsTheLedgers
-next-answer-is-the-ledgers steps rec =
-    answer-agrees (sessionAfter freshSession steps) (ledgerAfter freshLedger steps) rec (session-agrees steps)
+next-answer-is-the-ledgers steps agreed rec =
+    check-agrees agreed (sessionAfter freshSession steps) (ledgerAfter freshLedger steps) rec (session-agrees steps)

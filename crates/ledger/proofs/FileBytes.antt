@@ -11,23 +11,25 @@ use lib.Seq.{take-at, drop-at, getD-take, getD-append-add}
 use Rattle.answer.specs.declared.Answer.{Answer}
 use Rattle.answer.specs.declared.Answer.the-variants.{Accepted, Refused}
 use Rattle.answer.specs.Orders.{ifAccepted, Each}
-use Rattle.answer.proofs.Orders.{accepted-takes}
+use Rattle.answer.proofs.Orders.{then-accepts, accepted-takes}
 use Rattle.answer.proofs.Tests.{unequal}
 use Rattle.layout.specs.declared.MaybeRecord.the-variants.{Is, Other}
 use Rattle.layout.specs.declared.Record.{Record}
 use Rattle.layout.specs.declared.Record.the-variants.{Header, Payment, Trailer}
 use Rattle.layout.specs.Layouts.{recordLength, namedBy}
+use Rattle.barcode.specs.Agreed.{listAnswer}
 use Rattle.kinds.specs.Terms.{Terms}
-use Rattle.record.specs.Values.{decodedRecord}
+use Rattle.record.specs.Values.{decodedRecordUnder}
 use Rattle.record.proofs.Shown.{accepted-is}
 use Rattle.file.specs.Forms.{endOf, inForm, linedLength, lengthOf, hasLineEnd, isNextLined}
 use Rattle.file.proofs.Forms.{length-in, ended-in, not-ended}
 use Rattle.board.specs.Boards.{boardWithAll}
 use Rattle.session.specs.declared.Session.{Session}
 use Rattle.session.specs.declared.RunResult.{RunResult}
-use Rattle.session.specs.Sessions.{closedAt, sessionTerms, takeAnswer, nextSession, takeOf}
+use Rattle.session.specs.Sessions.{closedAt, sessionTerms, takeAnswer, nextSession, takeUnder, takeOf}
 use Rattle.session.specs.Runs.{pieceLength, pieceOf, piecesOf, filesClosed, addCounts, stoppedIfRefused, runAll, bytesOf}
 use Rattle.session.proofs.Runs.{pieces-cons}
+use Rattle.session.proofs.Feeding.{run-right}
 use Rattle.ledger.specs.Ledgers.{lanesOfRecords, headerTerms, taking}
 use Rattle.ledger.specs.Promises.{sessionAfter, answersOf}
 use Rattle.ledger.specs.WholeFiles.{IsRight, recordsOf, allInForm, AllAccepted}
@@ -67,8 +69,8 @@ ahead false rec (next ∷ recs) n h =
     no-cr (take linedLength bytes) (λ e. h .0 .1 refl (sym at ∙ e))
 
 pub pieces-are-the-records : PiecesAreTheRecords
-pieces-are-the-records s lined [] form h = refl
-pieces-are-the-records s lined (rec ∷ recs) form h =
+pieces-are-the-records agreed s lined [] form h = refl
+pieces-are-the-records agreed s lined (rec ∷ recs) form h =
     let rest = bytesOf (allInForm lined recs) in
     let bytes = inForm lined rec ++ rest in
     let n = h .0 .0 in
@@ -80,21 +82,21 @@ pieces-are-the-records s lined (rec ∷ recs) form h =
     let left : drop (pieceLength s bytes) bytes ≡ rest =
     ap (λ (k : ℕ). drop k bytes) size ∙ drop-at (inForm lined rec) rest (lengthOf lined) own in
     let enough : 1 ≤ length bytes = omega (arith, length-append (inForm lined rec) rest, length-append rec (endOf lined), n) in
-    pieces-cons s false bytes enough
-    ∙ ap₂ (λ (r l : List ℕ). r ∷ piecesOf (takeOf s r .session) false l) piece left
+    pieces-cons agreed s false bytes enough
+    ∙ ap₂ (λ (r l : List ℕ). r ∷ piecesOf agreed (takeUnder agreed s r .session) false l) piece left
     ∙ ap (λ (rs : List (List ℕ)). inForm lined rec ∷ rs)
-    (pieces-are-the-records (takeOf s (inForm lined rec) .session) lined recs (keeps (takeAnswer s (inForm lined rec))) (h .1))
+    (pieces-are-the-records agreed (takeUnder agreed s (inForm lined rec) .session) lined recs (keeps (takeAnswer agreed s (inForm lined rec))) (h .1))
   where
     piece-form : (t : Bool) → s .opened ≡ t → isNextLined (s .opened) (s .file .lined) (inForm lined rec ++ bytesOf (allInForm lined recs)) ≡ lined
     piece-form true e = rw e (form e)
     piece-form false e = rw e (ahead lined rec recs (h .0 .0) (h .1))
 
-    keeps : (a : Answer) → ifAccepted a (nextSession s (inForm lined rec)) s .opened ≡ true
-        → ifAccepted a (nextSession s (inForm lined rec)) s .file .lined ≡ lined
+    keeps : (a : Answer) → ifAccepted a (nextSession agreed s (inForm lined rec)) s .opened ≡ true
+        → ifAccepted a (nextSession agreed s (inForm lined rec)) s .file .lined ≡ lined
     keeps (Refused why p) e = form e
     keeps Accepted e =
-        let d = decodedRecord (sessionTerms s) rec in
-        let next = next-in s lined rec (h .0 .0) (λ x. sym (form x)) in
+        let d = decodedRecordUnder (sessionTerms agreed s) rec in
+        let next = next-in agreed s lined rec (h .0 .0) (λ x. sym (form x)) in
         rw next (sym (keeps-form s lined d (λ x. sym (form x)) (rw next at e)))
 
 -- Records that are all accepted.
@@ -106,17 +108,18 @@ closedIn (rec ∷ recs) = filesClosed (namedBy (getD rec 0 0)) + closedIn recs
 abbrev taken : Session → ℕ → ℕ → ℕ → RunResult
 taken s records files bytes = record { answer = Accepted; session = s; records = records; files = files; bytes = bytes }
 
-run-accepted : (recs : List (List ℕ)) (s : Session) → AllAccepted (answersOf s (map taking recs))
-    → runAll s recs ≡ taken (sessionAfter s (map taking recs)) (length recs) (closedIn recs) (length (bytesOf recs))
-run-accepted [] s h = refl
-run-accepted (rec ∷ recs) s h =
+run-accepted : (agreed : List ℕ) (recs : List (List ℕ)) (s : Session) → AllAccepted (answersOf s (map (taking agreed) recs))
+    → runAll agreed s recs ≡ taken (sessionAfter s (map (taking agreed) recs)) (length recs) (closedIn recs) (length (bytesOf recs))
+run-accepted agreed [] s h = refl
+run-accepted agreed (rec ∷ recs) s h =
     let c = filesClosed (namedBy (getD rec 0 0)) in
-    let after = sessionAfter (takeOf s rec .session) (map taking recs) in
-    let next : takeOf s rec .session ≡ nextSession s rec = accepted-takes (takeAnswer s rec) (nextSession s rec) s (h .0) in
+    let after = sessionAfter (takeOf agreed s rec .session) (map (taking agreed) recs) in
+    let own : takeAnswer agreed s rec ≡ Accepted = then-accepts (listAnswer agreed) (takeAnswer agreed s rec) .0 (h .0) .1 in
+    let next : takeOf agreed s rec .session ≡ nextSession agreed s rec = accepted-takes (takeOf agreed s rec .answer) (nextSession agreed s rec) s (h .0) in
     let one : 1 + length recs ≡ suc (length recs) = omega arith in
-    ap (λ (a : Answer). stoppedIfRefused a s (addCounts 1 c (length rec) (runAll (nextSession s rec) recs))) (h .0)
-    ∙ ap (λ (x : Session). addCounts 1 c (length rec) (runAll x recs)) (sym next)
-    ∙ ap (addCounts 1 c (length rec)) (run-accepted recs (takeOf s rec .session) (h .1))
+    ap (λ (a : Answer). stoppedIfRefused a s (addCounts 1 c (length rec) (runAll agreed (nextSession agreed s rec) recs))) own
+    ∙ ap (λ (x : Session). addCounts 1 c (length rec) (runAll agreed x recs)) (sym next)
+    ∙ ap (addCounts 1 c (length rec)) (run-accepted agreed recs (takeOf agreed s rec .session) (h .1))
     ∙ ap₂ (λ (n k : ℕ). taken after n (c + closedIn recs) k) one (sym (length-append rec (bytesOf recs)))
 
 -- A file's records.
@@ -151,18 +154,19 @@ one-closed lined t [] z h right = omega (arith, closes lined t Trailer z right)
 one-closed lined t (rec ∷ recs) z h right = omega (arith, closes lined t Payment rec (h .0), one-closed lined t recs z (h .1) right)
 
 pub file-bytes-run : FileBytesRun
-file-bytes-run s lined a recs z none-open whole e =
-    let t = headerTerms a in
+file-bytes-run agreed s lined a recs z none-open whole e =
+    let t = headerTerms agreed a in
     let records = recordsOf a recs z in
     let all = allInForm lined records in
     let pieces =
-    pieces-are-the-records s lined records (λ x. unequal x none-open)
+    pieces-are-the-records agreed s lined records (λ x. unequal x none-open)
     (joins lined t Header a (whole .header), all-join lined t recs z (whole .payments) (whole .trailer)) in
-    let left : sessionAfter s (map taking all) ≡ closedAt (boardWithAll (s .shown) (lanesOfRecords recs)) =
-    file-posted s lined a recs z none-open whole e in
+    let left : sessionAfter s (map (taking agreed) all) ≡ closedAt (boardWithAll (s .shown) (lanesOfRecords recs)) =
+    file-posted agreed s lined a recs z none-open whole e in
     let count : length all ≡ length recs + 2 = as-many lined records ∙ omega (arith, length-append recs (z ∷ [])) in
     let closed : closedIn all ≡ 1 =
     omega (arith, closes lined t Header a (whole .header), one-closed lined t recs z (whole .payments) (whole .trailer)) in
-    ap (runAll s) pieces ∙ run-accepted all s e
+    run-right agreed s false (bytesOf all) (whole .list)
+    ∙ ap (runAll agreed s) pieces ∙ run-accepted agreed all s e
     ∙ ap (λ (x : Session). taken x (length all) (closedIn all) (length (bytesOf all))) left
     ∙ ap₂ (λ (n c : ℕ). taken (closedAt (boardWithAll (s .shown) (lanesOfRecords recs))) n c (length (bytesOf all))) count closed

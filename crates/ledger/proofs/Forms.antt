@@ -13,9 +13,10 @@ use Rattle.answer.specs.Orders.{require, _then_, ifAccepted, Each}
 use Rattle.answer.proofs.Orders.{then-accepted}
 use Rattle.answer.proofs.Tests.{never, unequal}
 use Rattle.layout.specs.Layouts.{recordLength, namedBy}
+use Rattle.barcode.specs.Agreed.{listAnswer}
 use Rattle.record.specs.declared.Decoded.{Decoded}
 use Rattle.record.specs.declared.Decoded.the-variants as decoded
-use Rattle.record.specs.Values.{decodedRecord}
+use Rattle.record.specs.Values.{decodedRecordUnder}
 use Rattle.file.specs.Files.{fileAnswer, figuresAnswer}
 use Rattle.file.specs.Forms.{inForm, bodyOf}
 use Rattle.file.proofs.Forms.{body-in, ended-in, fits-in, ends-in}
@@ -29,28 +30,28 @@ use Rattle.ledger.proofs.WholeFiles.{first-of}
 use Rattle.ledger.proofs.AcceptedFiles.{taken-right}
 
 -- the answer of a session to a record of 150 bytes, but for its length and its end
-abbrev bodyAnswer : Session → List ℕ → Answer
-bodyAnswer s rec =
+abbrev bodyAnswer : List ℕ → Session → List ℕ → Answer
+bodyAnswer agreed s rec =
     require (sessionExpects (s .opened) (namedBy (getD rec 0 0))) NotExpected 1
-    then sessionAnswer s (decodedRecord (sessionTerms s) rec)
+    then sessionAnswer s (decodedRecordUnder (sessionTerms agreed s) rec)
 
 -- of a record in the form of the open file, nothing else decides
-module _ (s : Session) (lined : Bool) (rec : List ℕ) (n : length rec ≡ recordLength) (form : s .opened ≡ true → lined ≡ s .file .lined) where
-  pub answer-in : takeAnswer s (inForm lined rec) ≡ bodyAnswer s rec
+module _ (agreed : List ℕ) (s : Session) (lined : Bool) (rec : List ℕ) (n : length rec ≡ recordLength) (form : s .opened ≡ true → lined ≡ s .file .lined) where
+  pub answer-in : takeAnswer agreed s (inForm lined rec) ≡ bodyAnswer agreed s rec
   answer-in =
-      rw (fits-in (s .opened) (s .file .lined) rec n lined form, ends-in (s .opened) (s .file .lined) rec n lined form, first-of lined rec n, body-in rec n lined, then-accepted (sessionAnswer s (decodedRecord (sessionTerms s) rec)))
+      rw (fits-in (s .opened) (s .file .lined) rec n lined form, ends-in (s .opened) (s .file .lined) rec n lined form, first-of lined rec n, body-in rec n lined, then-accepted (sessionAnswer s (decodedRecordUnder (sessionTerms agreed s) rec)))
 
-  pub next-in : nextSession s (inForm lined rec) ≡ sessionWith s lined (decodedRecord (sessionTerms s) rec)
+  pub next-in : nextSession agreed s (inForm lined rec) ≡ sessionWith s lined (decodedRecordUnder (sessionTerms agreed s) rec)
   next-in = rw (body-in rec n lined, ended-in rec n lined)
 
 -- bare, with nothing behind it
-bare-answer : (s : Session) (rec : List ℕ) → length rec ≡ recordLength → (s .opened ≡ true → false ≡ s .file .lined)
-    → takeAnswer s rec ≡ bodyAnswer s rec
-bare-answer s rec n form = ap (takeAnswer s) (sym (append-nil rec)) ∙ answer-in s false rec n form
+bare-answer : (agreed : List ℕ) (s : Session) (rec : List ℕ) → length rec ≡ recordLength → (s .opened ≡ true → false ≡ s .file .lined)
+    → takeAnswer agreed s rec ≡ bodyAnswer agreed s rec
+bare-answer agreed s rec n form = ap (takeAnswer agreed s) (sym (append-nil rec)) ∙ answer-in agreed s false rec n form
 
-bare-next : (s : Session) (rec : List ℕ) → length rec ≡ recordLength → (s .opened ≡ true → false ≡ s .file .lined)
-    → nextSession s rec ≡ sessionWith s false (decodedRecord (sessionTerms s) rec)
-bare-next s rec n form = ap (nextSession s) (sym (append-nil rec)) ∙ next-in s false rec n form
+bare-next : (agreed : List ℕ) (s : Session) (rec : List ℕ) → length rec ≡ recordLength → (s .opened ≡ true → false ≡ s .file .lined)
+    → nextSession agreed s rec ≡ sessionWith s false (decodedRecordUnder (sessionTerms agreed s) rec)
+bare-next agreed s rec n form = ap (nextSession agreed s) (sym (append-nil rec)) ∙ next-in agreed s false rec n form
 
 -- The form of the open file decides nothing else.
 
@@ -61,10 +62,10 @@ state-bare s (decoded.Payment p) = refl
 state-bare s (decoded.Trailer t) = refl
 state-bare s (decoded.Refused why place) = refl
 
-answer-bare : (s : Session) (rec : List ℕ) → bodyAnswer s rec ≡ bodyAnswer (asBare s) rec
-answer-bare s rec =
+answer-bare : (agreed : List ℕ) (s : Session) (rec : List ℕ) → bodyAnswer agreed s rec ≡ bodyAnswer agreed (asBare s) rec
+answer-bare agreed s rec =
     ap (λ (a : Answer). require (sessionExpects (s .opened) (namedBy (getD rec 0 0))) NotExpected 1 then a)
-    (state-bare s (decodedRecord (sessionTerms s) rec))
+    (state-bare s (decodedRecordUnder (sessionTerms agreed s) rec))
 
 next-bare : (s : Session) (ended : Bool) (d : Decoded) → asBare (sessionWith s ended d) ≡ asBare (sessionWith (asBare s) false d)
 next-bare s ended (decoded.Header h) = refl
@@ -94,48 +95,50 @@ twins-next s u d h =
     }
 
 -- one record
-module _ (s u : Session) (h : Twins s u) (rec : List ℕ) (n : length rec ≡ recordLength) where
-  one-answer : takeAnswer s (inForm true rec) ≡ takeAnswer u rec
+module _ (agreed : List ℕ) (s u : Session) (h : Twins s u) (rec : List ℕ) (n : length rec ≡ recordLength) where
+  one-answer : takeAnswer agreed s (inForm true rec) ≡ takeAnswer agreed u rec
   one-answer =
-      answer-in s true rec n (h .lined) ∙ answer-bare s rec ∙ ap (λ (x : Session). bodyAnswer x rec) (h .same)
-      ∙ sym (answer-bare u rec) ∙ sym (bare-answer u rec n (h .bare))
+      answer-in agreed s true rec n (h .lined) ∙ answer-bare agreed s rec ∙ ap (λ (x : Session). bodyAnswer agreed x rec) (h .same)
+      ∙ sym (answer-bare agreed u rec) ∙ sym (bare-answer agreed u rec n (h .bare))
 
-  one-terms : sessionTerms s ≡ sessionTerms u
-  one-terms = ap sessionTerms (h .same)
+  one-terms : sessionTerms agreed s ≡ sessionTerms agreed u
+  one-terms = ap (sessionTerms agreed) (h .same)
 
-  twins-left : (a : Answer) → Twins (ifAccepted a (nextSession s (inForm true rec)) s) (ifAccepted a (nextSession u rec) u)
+  twins-left : (a : Answer) → Twins (ifAccepted a (nextSession agreed s (inForm true rec)) s) (ifAccepted a (nextSession agreed u rec) u)
   twins-left (Refused why p) = h
   twins-left Accepted =
-      let d = decodedRecord (sessionTerms u) rec in
-      let lined : nextSession s (inForm true rec) ≡ sessionWith s true d = next-in s true rec n (h .lined) ∙ rw one-terms in
-      rw (lined, bare-next u rec n (h .bare)) (twins-next s u d h)
+      let d = decodedRecordUnder (sessionTerms agreed u) rec in
+      let lined : nextSession agreed s (inForm true rec) ≡ sessionWith s true d = next-in agreed s true rec n (h .lined) ∙ rw one-terms in
+      rw (lined, bare-next agreed u rec n (h .bare)) (twins-next s u d h)
 
-  twins-taken : Twins (takeOf s (inForm true rec) .session) (takeOf u rec .session)
-  twins-taken = rw one-answer (twins-left (takeAnswer u rec))
+  twins-taken : Twins (takeOf agreed s (inForm true rec) .session) (takeOf agreed u rec .session)
+  twins-taken = rw one-answer (twins-left (takeOf agreed u rec .answer))
 
-both-agree : (recs : List (List ℕ)) (s u : Session) → Twins s u → Each (λ (rec : List ℕ). length rec ≡ recordLength) recs
-    → (answersOf s (map taking (allInForm true recs)) ≡ answersOf u (map taking recs))
-    × (asBare (sessionAfter s (map taking (allInForm true recs))) ≡ asBare (sessionAfter u (map taking recs)))
-both-agree [] s u h n = (refl, h .same)
-both-agree (rec ∷ recs) s u h n =
-    let later = both-agree recs (takeOf s (inForm true rec) .session) (takeOf u rec .session) (twins-taken s u h rec (n .0)) (n .1) in
-    (ap₂ (λ (a : Answer) (rest : List Answer). a ∷ rest) (one-answer s u h rec (n .0)) (later .0), later .1)
+both-agree : (agreed : List ℕ) (recs : List (List ℕ)) (s u : Session) → Twins s u → Each (λ (rec : List ℕ). length rec ≡ recordLength) recs
+    → (answersOf s (map (taking agreed) (allInForm true recs)) ≡ answersOf u (map (taking agreed) recs))
+    × (asBare (sessionAfter s (map (taking agreed) (allInForm true recs))) ≡ asBare (sessionAfter u (map (taking agreed) recs)))
+both-agree agreed [] s u h n = (refl, h .same)
+both-agree agreed (rec ∷ recs) s u h n =
+    let later = both-agree agreed recs (takeOf agreed s (inForm true rec) .session) (takeOf agreed u rec .session) (twins-taken agreed s u h rec (n .0)) (n .1) in
+    (ap₂ (λ (a : Answer) (rest : List Answer). (listAnswer agreed then a) ∷ rest) (one-answer agreed s u h rec (n .0)) (later .0), later .1)
 
 pub forms-agree : FormsAgree
-forms-agree s recs closed n =
-    both-agree recs s s (record { same = refl; lined = λ e. unequal e closed; bare = λ e. unequal e closed }) n
+forms-agree agreed s recs closed n =
+    both-agree agreed recs s s (record { same = refl; lined = λ e. unequal e closed; bare = λ e. unequal e closed }) n
 
 pub only-ended-records : OnlyEndedRecords
-only-ended-records s rec opened lined =
+only-ended-records agreed s rec opened lined =
     let body = bodyOf rec in
-    let same : (length body ≡ recordLength) → takeAnswer s (inForm true body) ≡ takeAnswer (asBare s) body = λ n.
-    answer-in s true body n (λ e. sym lined) ∙ answer-bare s body ∙ sym (bare-answer (asBare s) body n (λ e. refl)) in (
+    let same : (length body ≡ recordLength) → takeOf agreed s (inForm true body) .answer ≡ takeOf agreed (asBare s) body .answer = λ n.
+    ap (λ (a : Answer). listAnswer agreed then a)
+    (answer-in agreed s true body n (λ e. sym lined) ∙ answer-bare agreed s body ∙ sym (bare-answer agreed (asBare s) body n (λ e. refl))) in
+    let taken : List ℕ → Answer = λ x. takeOf agreed s x .answer in (
       λ e.
-          let own = taken-right s rec e in
+          let own = taken-right agreed s rec e in
           let form : rec ≡ inForm true body = rw (opened, lined) at (own .form) in
-          (sym (same (own .long)) ∙ ap (takeAnswer s) (sym form) ∙ e, form),
+          (sym (same (own .long)) ∙ ap taken (sym form) ∙ e, form),
       λ h.
-          let long = taken-right (asBare s) body (h .0) .long in
+          let long = taken-right agreed (asBare s) body (h .0) .long in
           let n : length body ≡ recordLength = ap length (sym (take-take recordLength recordLength rec (omega arith))) ∙ long in
-          ap (takeAnswer s) (h .1) ∙ same n ∙ h .0,
+          ap taken (h .1) ∙ same n ∙ h .0,
     )

@@ -20,25 +20,26 @@ use Rattle.layout.specs.declared.MaybeRecord.{MaybeRecord}
 use Rattle.layout.specs.declared.MaybeRecord.the-variants.{Is, Other}
 use Rattle.layout.specs.declared.Record.the-variants.{Header, Payment, Trailer}
 use Rattle.layout.specs.Layouts.{namedBy}
-use Rattle.kinds.specs.Terms.{Terms, told, isVersion}
+use Rattle.barcode.specs.Agreed.{listAnswer}
+use Rattle.barcode.proofs.Lists.{empty-is-right}
+use Rattle.kinds.specs.Terms.{told, isVersion}
 use Rattle.record.specs.Records.{recordAnswer}
-use Rattle.record.specs.Values.{paymentShown}
-use Rattle.record.proofs.Shown.{headers-name-a-version}
+use Rattle.record.proofs.Shown.{without-list, header-version}
 use Rattle.file.specs.declared.File.{File}
 use Rattle.file.specs.Files.{mostPayments, mostCentavos, noFile}
 use Rattle.file.specs.Forms.{bodyOf, hasLineEnd, fitsLength, endAnswer}
 use Rattle.file.proofs.Forms.{first-in}
-use Rattle.ledger.specs.Ledgers.{Opened, Filed, Ledger, freshLedger, openRecords, receivedIn, isOpen, isOpenLined, ledgerExpects, headerTerms, ledgerTerms, stateAnswer, ledgerAnswer, filedWith, withRecord, nextLedger, Step, taking, abandoning, ledgerStep, ledgerAfter}
+use Rattle.ledger.specs.Ledgers.{Opened, Filed, Ledger, freshLedger, openRecords, receivedBy, receivedIn, isOpen, isOpenLined, ledgerExpects, headerTerms, openVersion, ledgerTerms, stateAnswer, ledgerAnswer, ledgerCheck, filedWith, withRecord, nextLedger, Step, taking, abandoning, ledgerStep, ledgerAfter}
 use Rattle.ledger.specs.Promises.{reached, ledgerOf, Agrees, OpenFilesHaveAVersion}
 use Rattle.ledger.specs.WholeFiles.{IsRight, SoundFile, LedgerFilesAreWhole}
 use Rattle.ledger.proofs.Agreement.{received-joined, session-agrees}
 use Rattle.ledger.proofs.Sessions.{figures-accept}
 use Rattle.ledger.proofs.WholeFiles.{right-under-any-terms}
 
--- what holds of the open file
+-- what holds of the open file, read under the empty list
 record Right (f : Opened) : Type 0 where
-  header : IsRight (headerTerms (f .header)) Header (f .header)
-  payments : Each (IsRight (headerTerms (f .header)) Payment) (f .payments)
+  header : IsRight (headerTerms [] (f .header)) Header (f .header)
+  payments : Each (IsRight (headerTerms [] (f .header)) Payment) (f .payments)
   few : length (f .payments) ≤ mostPayments
   low : receivedIn (f .payments) ≤ mostCentavos
 
@@ -55,28 +56,28 @@ each-last P [] x h p = (p, tt)
 each-last P (y ∷ xs) x h p = (h .0, each-last P xs x (h .1) p)
 
 module _ (files : List Filed) (ended : Bool) (rec : List ℕ) (all : Each SoundFile files) where
-  with-payment : (f : Opened) → Right f → recordAnswer (headerTerms (f .header)) rec ≡ Accepted → namedBy (getD rec 0 0) ≡ Is Payment
+  with-payment : (f : Opened) → Right f → recordAnswer (headerTerms [] (f .header)) rec ≡ Accepted → namedBy (getD rec 0 0) ≡ Is Payment
       → stateAnswer files (some f) (Is Payment) rec ≡ Accepted
       → Kept (withRecord files (some f) (Is Payment) ended rec)
   with-payment f h own n e =
       let room = passed (ltb (length (f .payments)) mostPayments) FileFull 1 e in
       let less =
-      passed (leb (receivedIn (f .payments) + paymentShown rec .received) mostCentavos) FileTotalPassed receivedPlace
+      passed (leb (receivedIn (f .payments) + receivedBy rec) mostCentavos) FileTotalPassed receivedPlace
       (room .1) in
       let few = ltb-true (length (f .payments)) mostPayments (room .0) in
-      let low = leb-true (receivedIn (f .payments) + paymentShown rec .received) mostCentavos (less .0) in
+      let low = leb-true (receivedIn (f .payments) + receivedBy rec) mostCentavos (less .0) in
       record {
         files = all;
         opened =
             record {
               header = h .header;
-              payments = each-last (IsRight (headerTerms (f .header)) Payment) (f .payments) rec (h .payments) (own, n);
+              payments = each-last (IsRight (headerTerms [] (f .header)) Payment) (f .payments) rec (h .payments) (own, n);
               few = omega (arith, few, length-append (f .payments) (rec ∷ []));
               low = omega (arith, low, received-joined (f .payments) rec);
             };
       }
 
-  with-trailer : (f : Opened) → Right f → recordAnswer (headerTerms (f .header)) rec ≡ Accepted → namedBy (getD rec 0 0) ≡ Is Trailer
+  with-trailer : (f : Opened) → Right f → recordAnswer (headerTerms [] (f .header)) rec ≡ Accepted → namedBy (getD rec 0 0) ≡ Is Trailer
       → stateAnswer files (some f) (Is Trailer) rec ≡ Accepted
       → Kept (withRecord files (some f) (Is Trailer) ended rec)
   with-trailer f h own n e =
@@ -84,7 +85,7 @@ module _ (files : List Filed) (ended : Bool) (rec : List ℕ) (all : Each SoundF
         files =
             each-last SoundFile files (filedWith f rec) all
             (record {
-              whole = record { header = h .header; payments = h .payments; trailer = (own, n) };
+              whole = record { list = empty-is-right; header = h .header; payments = h .payments; trailer = (own, n) };
               few = h .few;
               low = h .low;
               figures = figures-accept f rec .0 e;
@@ -92,12 +93,12 @@ module _ (files : List Filed) (ended : Bool) (rec : List ℕ) (all : Each SoundF
         opened = tt;
       }
 
-  with-record : (o : Option Opened) (n : MaybeRecord) → recordAnswer (ledgerTerms o) rec ≡ Accepted → RightIfOpen o → namedBy (getD rec 0 0) ≡ n
+  with-record : (o : Option Opened) (n : MaybeRecord) → recordAnswer (ledgerTerms [] o) rec ≡ Accepted → RightIfOpen o → namedBy (getD rec 0 0) ≡ n
       → ledgerExpects o n ≡ true → stateAnswer files o n rec ≡ Accepted → Kept (withRecord files o n ended rec)
   with-record none (Is Header) own h is x e =
       record {
         files = all;
-        opened = record { header = right-under-any-terms (told 0) (headerTerms rec) Header rec refl (own, is); payments = tt; few = omega arith; low = omega arith };
+        opened = record { header = right-under-any-terms (told 0 []) (headerTerms [] rec) Header rec refl (own, is); payments = tt; few = omega arith; low = omega arith };
       }
   with-record none (Is Payment) own h is x e = absurd (false≢true x)
   with-record none (Is Trailer) own h is x e = absurd (false≢true x)
@@ -109,21 +110,21 @@ module _ (files : List Filed) (ended : Bool) (rec : List ℕ) (all : Each SoundF
 
 keeps : (k : Ledger) (step : Step) → Kept k → Kept (ledgerStep k step)
 keeps k abandoning h = record { files = h .files; opened = tt }
-keeps k (taking rec) h = go (ledgerAnswer k rec) refl
+keeps k (taking agreed rec) h = go (ledgerCheck agreed k rec) refl
   where
-    go : (a : Answer) → ledgerAnswer k rec ≡ a
+    go : (a : Answer) → ledgerCheck agreed k rec ≡ a
         → Kept (ifAccepted a (nextLedger k rec) k)
     go (Refused why p) e = h
     go Accepted e =
         let n = namedBy (getD rec 0 0) in
         let body = bodyOf rec in
-        let own = recordAnswer (ledgerTerms (k .opened)) body in
+        let own = recordAnswer (ledgerTerms agreed (k .opened)) body in
         let state = stateAnswer (k .accepted) (k .opened) n body in
         let ending = endAnswer (isOpen (k .opened)) (isOpenLined (k .opened)) rec in
-        let fits = passed (fitsLength (isOpen (k .opened)) (isOpenLined (k .opened)) rec) WrongLength 0 e in
+        let fits = passed (fitsLength (isOpen (k .opened)) (isOpenLined (k .opened)) rec) WrongLength 0 (then-accepts (listAnswer agreed) (ledgerAnswer agreed k rec) .0 e .1) in
         let met = passed (ledgerExpects (k .opened) n) NotExpected 1 (fits .1) in
         let two = then-accepts own (state then ending) .0 (met .1) in
-        with-record (k .accepted) (hasLineEnd rec) body (h .files) (k .opened) n (two .0) (h .opened) (ap namedBy (first-in rec)) (met .0)
+        with-record (k .accepted) (hasLineEnd rec) body (h .files) (k .opened) n (without-list (openVersion (k .opened)) agreed body (two .0)) (h .opened) (ap namedBy (first-in rec)) (met .0)
         (then-accepts state ending .0 (two .1) .0)
 
 all-keep : (k : Ledger) (steps : List Step) → Kept k → Kept (ledgerAfter k steps)
@@ -149,12 +150,12 @@ open-files-have-a-version steps = go (ledgerOf steps) (all-keep freshLedger step
       λ t.
           file-is (h .taken ∙ ap (λ (x : Option Opened). length (openRecords x)) e)
           (h .total ∙ ap (λ (x : Option Opened). receivedIn (openRecords x)) e)
-          (ap (λ (x : Terms). x .version) (h .terms ∙ ap ledgerTerms e)) (h .lined ∙ ap isOpenLined e),
+          (h .version ∙ ap openVersion e) (h .lined ∙ ap isOpenLined e),
     )
     by (some f) k e right h = (
       λ t.
-          let named = headers-name-a-version (headerTerms (f .header)) (f .header) (right .header .0) (right .header .1) in
-          ap isVersion (ap (λ (x : Terms). x .version) (h .terms ∙ ap ledgerTerms e)) ∙ named,
+          let named = header-version (headerTerms [] (f .header)) (f .header) (right .header .0) (right .header .1) in
+          ap isVersion (h .version ∙ ap openVersion e) ∙ named,
       λ t. absurd (false≢true (sym t ∙ h .opened ∙ ap isOpen e)),
     )
 

@@ -21,7 +21,7 @@ use Rattle.ledger.specs.Records.{LaneIsTheSessions, EqualIsTheBoards, Is
 -- Its lanes are the session's, its issuers the board's.
 
 pub lane-is-the-sessions : LaneIsTheSessions
-lane-is-the-sessions rec = refl
+lane-is-the-sessions agreed rec = refl
 
 pub equal-is-the-boards : EqualIsTheBoards
 equal-is-the-boards i j = refl

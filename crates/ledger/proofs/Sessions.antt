@@ -20,16 +20,17 @@ use Rattle.layout.specs.declared.MaybeRecord.{MaybeRecord}
 use Rattle.layout.specs.declared.MaybeRecord.the-variants.{Is, Other}
 use Rattle.layout.specs.declared.Record.the-variants.{Header, Payment, Trailer}
 use Rattle.layout.specs.Layouts.{namedBy}
+use Rattle.barcode.specs.Agreed.{listAnswer, RightList}
 use Rattle.record.specs.declared.Decoded.{Decoded}
 use Rattle.record.specs.Records.{recordAnswer}
 use Rattle.record.specs.Values.{trailerShown, recordShown, shownUnlessRefused}
-use Rattle.record.proofs.Shown.{accepted-is, payments-need-a-version}
+use Rattle.record.proofs.Shown.{accepted-is, check-passes, needs-version}
 use Rattle.file.specs.Files.{countPlace, totalPlace}
 use Rattle.file.specs.Forms.{bodyOf, hasLineEnd, fitsLength, endAnswer}
 use Rattle.file.proofs.Forms.{first-in, fits-body, fitting-is-in-form}
 use Rattle.session.specs.declared.Session.{Session}
 use Rattle.session.specs.Sessions.{closedAt, sessionTerms, sessionExpects, sessionAnswer, sessionWith, takeAnswer, nextSession, takeOf, abandonOf}
-use Rattle.ledger.specs.Ledgers.{headerTerms, Opened, Ledger, receivedIn, trailerStateAnswer, ledgerAnswer, taking, abandoning}
+use Rattle.ledger.specs.Ledgers.{headerTerms, Opened, Ledger, receivedIn, trailerStateAnswer, ledgerCheck, taking, abandoning}
 use Rattle.ledger.specs.Promises.{ledgerOf, TrueTrailersOnly, RefusalKeepsSession, OnlyTrailersShow, TrailersShowAll, NothingShowsBefore, AbandonKeepsBoard, AbandonDropsFile, AbandonNothing, FinishKeepsSession, FinishAnswers, PaymentsTakenUnderAVersion}
 use Rattle.ledger.proofs.Agreement.{next-answer-is-the-ledgers}
 
@@ -50,22 +51,26 @@ figures-accept f rec =
     )
 
 -- of a Z with right fields the figures are checked, and what follows it
-trailer-answer : (k : Ledger) (f : Opened) (rec : List ℕ) → k .opened ≡ some f → recordAnswer (headerTerms (f .header)) (bodyOf rec) ≡ Accepted
+trailer-answer : (agreed : List ℕ) (k : Ledger) (f : Opened) (rec : List ℕ) → RightList agreed → k .opened ≡ some f
+    → recordAnswer (headerTerms agreed (f .header)) (bodyOf rec) ≡ Accepted
     → namedBy (getD rec 0 0) ≡ Is Trailer
-    → ledgerAnswer k rec
+    → ledgerCheck agreed k rec
     ≡ require (fitsLength true (f .lined) rec) WrongLength 0 then trailerStateAnswer f (bodyOf rec) then endAnswer true (f .lined) rec
-trailer-answer k f rec o e n = rw (o, e, n)
+trailer-answer agreed k f rec right o e n = rw (right, o, e, n)
 
 pub true-trailers-only : TrueTrailersOnly
-true-trailers-only steps f rec o e n =
+true-trailers-only steps f agreed rec o checked n =
     let body = bodyOf rec in
+    let t = headerTerms agreed (f .header) in
+    let right = then-accepts (listAnswer agreed) (recordAnswer t body) .0 checked .0 in
+    let e = check-passes t body checked in
     let fits = require (fitsLength true (f .lined) rec) WrongLength 0 in
     let state = trailerStateAnswer f body in
     let ending = endAnswer true (f .lined) rec in
-    let long = accepted-is (headerTerms (f .header)) body e .0 in
+    let long = accepted-is t body e .0 in
     let form = fitting-is-in-form true (f .lined) rec in
     let figures = figures-accept f body in
-    rw (next-answer-is-the-ledgers steps rec, trailer-answer (ledgerOf steps) f rec o e n) (
+    rw (next-answer-is-the-ledgers steps agreed rec, trailer-answer agreed (ledgerOf steps) f rec right o e n) (
       λ a.
           let one = then-accepts fits (state then ending) .0 a in
           let two = then-accepts state ending .0 (one .1) in
@@ -80,19 +85,19 @@ true-trailers-only steps f rec o e n =
 -- Any session.
 
 pub refusal-keeps-session : RefusalKeepsSession
-refusal-keeps-session s rec h = refusal-keeps (takeAnswer s rec) (nextSession s rec) s h
+refusal-keeps-session agreed s rec h = refusal-keeps (takeOf agreed s rec .answer) (nextSession agreed s rec) s h
 
 pub payments-taken-under-a-version : PaymentsTakenUnderAVersion
-payments-taken-under-a-version s rec opened none fits named =
+payments-taken-under-a-version agreed s rec right opened none fits named =
     let body = bodyOf rec in
     let first : namedBy (getD body 0 0) ≡ Is Payment = ap namedBy (first-in rec) ∙ named in
-    let own = payments-need-a-version (sessionTerms s) body (fits-body true (s .file .lined) rec fits) first none in
-    rw (opened, fits, named, own)
+    let own = needs-version (sessionTerms agreed s) body (fits-body true (s .file .lined) rec fits) first none in
+    rw (right, opened, fits, named, own)
 
 -- what a record leaves of the board shown
-module _ (s : Session) (ended : Bool) (rec : List ℕ) where
+module _ (agreed : List ℕ) (s : Session) (ended : Bool) (rec : List ℕ) where
   stays : (n : MaybeRecord) (own a : Answer) → (n ≡ Is Trailer → ⊥)
-      → ifAccepted a (sessionWith s ended (shownUnlessRefused own (recordShown n rec))) s .shown ≡ s .shown
+      → ifAccepted a (sessionWith s ended (shownUnlessRefused own (recordShown agreed n rec))) s .shown ≡ s .shown
   stays n own (Refused why p) h = refl
   stays n (Refused why p) Accepted h = refl
   stays (Is Header) Accepted Accepted h = refl
@@ -101,9 +106,9 @@ module _ (s : Session) (ended : Bool) (rec : List ℕ) where
   stays Other Accepted Accepted h = refl
 
 pub only-trailers-show : OnlyTrailersShow
-only-trailers-show s rec h =
+only-trailers-show agreed s rec h =
     let body = bodyOf rec in
-    stays s (hasLineEnd rec) body (namedBy (getD body 0 0)) (recordAnswer (sessionTerms s) body) (takeAnswer s rec) (λ e. h (ap namedBy (sym (first-in rec)) ∙ e))
+    stays agreed s (hasLineEnd rec) body (namedBy (getD body 0 0)) (recordAnswer (sessionTerms agreed s) body) (takeOf agreed s rec .answer) (λ e. h (ap namedBy (sym (first-in rec)) ∙ e))
 
 -- a record that the session accepts is accepted by itself
 pub own-accepts : (s : Session) (a : Answer) (d : Decoded) → sessionAnswer s (shownUnlessRefused a d) ≡ Accepted
@@ -112,12 +117,13 @@ own-accepts s Accepted d e = refl
 own-accepts s (Refused why p) d e = e
 
 pub trailers-show-all : TrailersShowAll
-trailers-show-all s rec n e =
+trailers-show-all agreed s rec n e =
     let body = bodyOf rec in
-    let own = recordAnswer (sessionTerms s) body in
-    let fits = passed (fitsLength (s .opened) (s .file .lined) rec) WrongLength 0 e .1 in
+    let own = recordAnswer (sessionTerms agreed s) body in
+    let took = then-accepts (listAnswer agreed) (takeAnswer agreed s rec) .0 e .1 in
+    let fits = passed (fitsLength (s .opened) (s .file .lined) rec) WrongLength 0 took .1 in
     let met = passed (sessionExpects (s .opened) (namedBy (getD rec 0 0))) NotExpected 1 fits .1 in
-    let shown = recordShown (namedBy (getD body 0 0)) body in
+    let shown = recordShown agreed (namedBy (getD body 0 0)) body in
     let accepts = then-accepts (sessionAnswer s (shownUnlessRefused own shown)) (endAnswer (s .opened) (s .file .lined) rec) .0 met .0 in
     rw (e, own-accepts s own shown accepts, first-in rec, n)
 
@@ -140,8 +146,8 @@ abandon-nothing s e = ap (λ (t : Bool). cond t (closedAt (s .shown)) s) e
 
 pub nothing-shows-before : NothingShowsBefore
 nothing-shows-before s [] h = refl
-nothing-shows-before s (taking rec ∷ steps) h =
-    nothing-shows-before (takeOf s rec .session) steps (h .1) ∙ only-trailers-show s rec (h .0)
+nothing-shows-before s (taking agreed rec ∷ steps) h =
+    nothing-shows-before (takeOf agreed s rec .session) steps (h .1) ∙ only-trailers-show agreed s rec (h .0)
 nothing-shows-before s (abandoning ∷ steps) h = nothing-shows-before (abandonOf s) steps (h .1) ∙ abandon-keeps-board s
 
 pub finish-keeps-session : FinishKeepsSession

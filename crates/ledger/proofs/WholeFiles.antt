@@ -14,10 +14,11 @@ use Rattle.layout.specs.declared.MaybeRecord.the-variants.{Is}
 use Rattle.layout.specs.declared.Record.{Record}
 use Rattle.layout.specs.declared.Record.the-variants.{Header, Payment, Trailer}
 use Rattle.layout.specs.Layouts.{recordLength}
+use Rattle.barcode.specs.Agreed.{RightList}
 use Rattle.kinds.specs.Terms.{Terms, told}
 use Rattle.record.specs.Records.{isPayment}
-use Rattle.record.specs.Values.{versionIn, paymentShown, trailerShown, recordShown}
-use Rattle.record.proofs.Shown.{accepted-is, other-records-ignore-terms}
+use Rattle.record.specs.Values.{versionIn, trailerShown, recordShown}
+use Rattle.record.proofs.Shown.{accepted-is, other-ignores}
 use Rattle.file.specs.declared.File.{File}
 use Rattle.file.specs.declared.Figures.{Figures}
 use Rattle.file.specs.Forms.{inForm}
@@ -32,14 +33,14 @@ use Rattle.board.proofs.Boards.{fresh-board-takes, fresh-board-holds}
 use Rattle.session.specs.declared.Session.{Session}
 use Rattle.session.specs.declared.TakeResult.{TakeResult}
 use Rattle.session.specs.Sessions.{freshSession, closedAt, openedAt, sessionTerms, sessionExpects, figuresIn, payAnswer, sessionWithPayment, sessionAnswer, sessionWith, takeResult, takeOf}
-use Rattle.ledger.specs.Ledgers.{laneOfRecord, lanesOfRecords, receivedIn, headerTerms, Step, taking}
+use Rattle.ledger.specs.Ledgers.{laneOfRecord, lanesOfRecords, receivedBy, receivedIn, headerTerms, Step, taking}
 use Rattle.ledger.specs.Promises.{sessionAfter, answersOf}
 use Rattle.ledger.specs.WholeFiles.{IsRight, Whole, allInForm, receivedEach, TrueFigures, AllAccepted, FileAccepted, FilePosted, FreshSessionAccepts, FreshSessionShows}
 use Rattle.ledger.proofs.Records.{lanes-tally}
 
 -- a header and a trailer are right under any terms
 pub right-under-any-terms : (t u : Terms) (r : Record) (rec : List ℕ) → isPayment (Is r) ≡ false → IsRight t r rec → IsRight u r rec
-right-under-any-terms t u r rec e h = (other-records-ignore-terms u t rec (ap isPayment (h .1) ∙ e) ∙ h .0, h .1)
+right-under-any-terms t u r rec e h = (other-ignores u t rec (ap isPayment (h .1) ∙ e) ∙ h .0, h .1)
 
 -- a record's first byte, whatever follows the record
 pub first-of : (lined : Bool) (rec : List ℕ) → length rec ≡ recordLength → getD (inForm lined rec) 0 0 ≡ getD rec 0 0
@@ -49,63 +50,63 @@ first-of lined rec n = sym (first-in (inForm lined rec)) ∙ ap (λ (l : List �
 pub as-many : (lined : Bool) (recs : List (List ℕ)) → length (allInForm lined recs) ≡ length recs
 as-many lined recs = simp length-map
 
--- taking a record that is accepted by itself and expected, in the form of the open file if there is one
-pub taken : (s : Session) (lined : Bool) (r : Record) (rec : List ℕ) → IsRight (sessionTerms s) r rec → sessionExpects (s .opened) (Is r) ≡ true
-    → (s .opened ≡ true → lined ≡ s .file .lined)
-    → takeOf s (inForm lined rec) ≡ takeResult (sessionAnswer s (recordShown (Is r) rec)) (sessionWith s lined (recordShown (Is r) rec)) s
-taken s lined r rec h e form =
-    let n = accepted-is (sessionTerms s) rec (h .0) .0 in
-    rw (fits-in (s .opened) (s .file .lined) rec n lined form, ends-in (s .opened) (s .file .lined) rec n lined form, first-of lined rec n, body-in rec n lined, ended-in rec n lined, h .1, h .0, e, then-accepted (sessionAnswer s (recordShown (Is r) rec)))
+-- taking a record that is accepted by itself and expected, in the form of the open file if there is one, under a right list
+pub taken : (agreed : List ℕ) → RightList agreed → (s : Session) (lined : Bool) (r : Record) (rec : List ℕ) → IsRight (sessionTerms agreed s) r rec
+    → sessionExpects (s .opened) (Is r) ≡ true → (s .opened ≡ true → lined ≡ s .file .lined)
+    → takeOf agreed s (inForm lined rec) ≡ takeResult (sessionAnswer s (recordShown agreed (Is r) rec)) (sessionWith s lined (recordShown agreed (Is r) rec)) s
+taken agreed right s lined r rec h e form =
+    let n = accepted-is (sessionTerms agreed s) rec (h .0) .0 in
+    rw (right, fits-in (s .opened) (s .file .lined) rec n lined form, ends-in (s .opened) (s .file .lined) rec n lined form, first-of lined rec n, body-in rec n lined, ended-in rec n lined, h .1, h .0, e, then-accepted (sessionAnswer s (recordShown agreed (Is r) rec)))
 
 -- in an open file: these boards, this file
 abbrev inside : Board → Board → File → Session
 inside shown work file = record { shown = shown; work = work; opened = true; file = file }
 
 -- the payments and the trailer, and when they are accepted
-abbrev rest : Bool → List ℕ → List (List ℕ) → List Step
-rest lined z recs = map taking (allInForm lined (recs ++ (z ∷ [])))
+abbrev rest : List ℕ → Bool → List ℕ → List (List ℕ) → List Step
+rest agreed lined z recs = map (taking agreed) (allInForm lined (recs ++ (z ∷ [])))
 
 abbrev Passes : List ℕ → Board → File → List (List ℕ) → Type 0
 Passes z b f recs =
     (fileAnswers f (receivedEach recs) ≡ Accepted) × (postAnswers b (lanesOfRecords recs) ≡ Accepted)
     × (figuresAnswer (fileWithAll f (receivedEach recs)) (figuresIn (trailerShown z)) ≡ Accepted)
 
-module _ (shown : Board) (lined : Bool) (t : Terms) (z : List ℕ) (right : IsRight t Trailer z) where
+module _ (agreed : List ℕ) (list : RightList agreed) (shown : Board) (lined : Bool) (t : Terms) (z : List ℕ) (right : IsRight t Trailer z) where
   closing : (b : Board) (f : File) → f .lined ≡ lined
-      → takeOf (inside shown b f) (inForm lined z)
+      → takeOf agreed (inside shown b f) (inForm lined z)
       ≡ takeResult (figuresAnswer f (figuresIn (trailerShown z))) (closedAt b) (inside shown b f)
   closing b f form =
-      taken (inside shown b f) lined Trailer z (right-under-any-terms t (told (f .version)) Trailer z refl right) refl (λ e. sym form)
+      taken agreed list (inside shown b f) lined Trailer z (right-under-any-terms t (told (f .version) agreed) Trailer z refl right) refl (λ e. sym form)
 
-  module _ (b : Board) (f : File) (form : f .lined ≡ lined) (rec : List ℕ) (h : IsRight (told (f .version)) Payment rec) where
-    payment-takes : takeOf (inside shown b f) (inForm lined rec)
+  module _ (b : Board) (f : File) (form : f .lined ≡ lined) (rec : List ℕ) (h : IsRight (told (f .version) agreed) Payment rec) where
+    payment-takes : takeOf agreed (inside shown b f) (inForm lined rec)
         ≡ takeResult (payAnswer (inside shown b f) (laneOfRecord rec))
         (sessionWithPayment (inside shown b f) (laneOfRecord rec)) (inside shown b f)
-    payment-takes = taken (inside shown b f) lined Payment rec h refl (λ e. sym form)
+    payment-takes = taken agreed list (inside shown b f) lined Payment rec h refl (λ e. sym form)
 
     payment-next : payAnswer (inside shown b f) (laneOfRecord rec) ≡ Accepted
-        → takeOf (inside shown b f) (inForm lined rec) .session
-        ≡ inside shown (boardWith b (laneOfRecord rec)) (fileWith f (paymentShown rec .received))
+        → takeOf agreed (inside shown b f) (inForm lined rec) .session
+        ≡ inside shown (boardWith b (laneOfRecord rec)) (fileWith f (receivedBy rec))
     payment-next e =
         ap (λ (t : TakeResult). t .session) payment-takes ∙
         accepted-takes (payAnswer (inside shown b f) (laneOfRecord rec))
         (sessionWithPayment (inside shown b f) (laneOfRecord rec)) (inside shown b f) e
 
-  rest-accepts : (recs : List (List ℕ)) (b : Board) (f : File) → f .lined ≡ lined → Each (IsRight (told (f .version)) Payment) recs
-      → AllAccepted (answersOf (inside shown b f) (rest lined z recs)) ↔ Passes z b f recs
+  rest-accepts : (recs : List (List ℕ)) (b : Board) (f : File) → f .lined ≡ lined → Each (IsRight (told (f .version) agreed) Payment) recs
+      → AllAccepted (answersOf (inside shown b f) (rest agreed lined z recs)) ↔ Passes z b f recs
   rest-accepts [] b f form h = (
     λ e. (refl, refl, sym (ap (λ (x : TakeResult). x .answer) (closing b f form)) ∙ e .0),
     λ p. (ap (λ (x : TakeResult). x .answer) (closing b f form) ∙ p .2, tt),
   )
   rest-accepts (rec ∷ recs) b f form h =
-      let two = then-accepts (fileAnswer f (paymentShown rec .received)) (postAnswer b (laneOfRecord rec)) in
+      let two = then-accepts (fileAnswer f (receivedBy rec)) (postAnswer b (laneOfRecord rec)) in
       let files =
-      then-accepts (fileAnswer f (paymentShown rec .received))
-      (fileAnswers (fileWith f (paymentShown rec .received)) (receivedEach recs)) in
+      then-accepts (fileAnswer f (receivedBy rec))
+      (fileAnswers (fileWith f (receivedBy rec)) (receivedEach recs)) in
       let boards =
       then-accepts (postAnswer b (laneOfRecord rec))
       (postAnswers (boardWith b (laneOfRecord rec)) (lanesOfRecords recs)) in
-      let later = rest-accepts recs (boardWith b (laneOfRecord rec)) (fileWith f (paymentShown rec .received)) form (h .1) in
+      let later = rest-accepts recs (boardWith b (laneOfRecord rec)) (fileWith f (receivedBy rec)) form (h .1) in
       let step = ap (λ (t : TakeResult). t .answer) (payment-takes b f form rec (h .0)) in (
         λ e.
             let one : payAnswer (inside shown b f) (laneOfRecord rec) ≡ Accepted = sym step ∙ e .0 in
@@ -117,9 +118,9 @@ module _ (shown : Board) (lined : Bool) (t : Terms) (z : List ℕ) (right : IsRi
             (step ∙ one, rw (payment-next b f form rec (h .0) one) (later .1 (files .0 (t .0) .1, boards .0 (t .1) .1, t .2))),
       )
 
-  left-rest : (recs : List (List ℕ)) (b : Board) (f : File) → f .lined ≡ lined → Each (IsRight (told (f .version)) Payment) recs
-      → AllAccepted (answersOf (inside shown b f) (rest lined z recs))
-      → sessionAfter (inside shown b f) (rest lined z recs) ≡ closedAt (boardWithAll b (lanesOfRecords recs))
+  left-rest : (recs : List (List ℕ)) (b : Board) (f : File) → f .lined ≡ lined → Each (IsRight (told (f .version) agreed) Payment) recs
+      → AllAccepted (answersOf (inside shown b f) (rest agreed lined z recs))
+      → sessionAfter (inside shown b f) (rest agreed lined z recs) ≡ closedAt (boardWithAll b (lanesOfRecords recs))
   left-rest [] b f form h e =
       let one : figuresAnswer f (figuresIn (trailerShown z)) ≡ Accepted =
       sym (ap (λ (t : TakeResult). t .answer) (closing b f form)) ∙ e .0 in
@@ -129,8 +130,8 @@ module _ (shown : Board) (lined : Bool) (t : Terms) (z : List ℕ) (right : IsRi
       let one : payAnswer (inside shown b f) (laneOfRecord rec) ≡ Accepted =
       sym (ap (λ (t : TakeResult). t .answer) (payment-takes b f form rec (h .0))) ∙ e .0 in
       let next = payment-next b f form rec (h .0) one in
-      ap (λ (s : Session). sessionAfter s (rest lined z recs)) next ∙
-      left-rest recs (boardWith b (laneOfRecord rec)) (fileWith f (paymentShown rec .received)) form (h .1)
+      ap (λ (s : Session). sessionAfter s (rest agreed lined z recs)) next ∙
+      left-rest recs (boardWith b (laneOfRecord rec)) (fileWith f (receivedBy rec)) form (h .1)
       (rw next at (e .1))
 
 -- The file from its header on.
@@ -154,38 +155,38 @@ true-figures version lined recs z =
       λ h. one .1 (ap₂ {C = Figures} (λ (n m : ℕ). record { count = n; total = m }) (h .0 ∙ omega (arith, count)) (h .1 ∙ sym total)),
     )
 
-module _ (s : Session) (lined : Bool) (a : List ℕ) (recs : List (List ℕ)) (z : List ℕ) (closed : s .opened ≡ false) (whole : Whole a recs z) where
+module _ (agreed : List ℕ) (s : Session) (lined : Bool) (a : List ℕ) (recs : List (List ℕ)) (z : List ℕ) (closed : s .opened ≡ false) (whole : Whole agreed a recs z) where
   abbrev start : Session
   start = openedAt (s .shown) (versionIn a) lined
 
-  opening : takeOf s (inForm lined a) ≡ record { answer = Accepted; session = start }
+  opening : takeOf agreed s (inForm lined a) ≡ record { answer = Accepted; session = start }
   opening =
-      taken s lined Header a (right-under-any-terms (headerTerms a) (sessionTerms s) Header a refl (whole .header)) (ap not closed)
+      taken agreed (whole .list) s lined Header a (right-under-any-terms (headerTerms agreed a) (sessionTerms agreed s) Header a refl (whole .header)) (ap not closed)
       (λ e. unequal e closed)
 
-  begun : takeOf s (inForm lined a) .session ≡ start
+  begun : takeOf agreed s (inForm lined a) .session ≡ start
   begun = ap (λ (t : TakeResult). t .session) opening
 
 pub file-accepted : FileAccepted
-file-accepted s lined a recs z closed whole =
-    let all = rest-accepts (s .shown) lined (headerTerms a) z (whole .trailer) recs (s .shown) (freshFile (versionIn a) lined) refl (whole .payments) in
+file-accepted agreed s lined a recs z closed whole =
+    let all = rest-accepts agreed (whole .list) (s .shown) lined (headerTerms agreed a) z (whole .trailer) recs (s .shown) (freshFile (versionIn a) lined) refl (whole .payments) in
     let figures = true-figures (versionIn a) lined recs z in
-    let next = begun s lined a recs z closed whole in (
+    let next = begun agreed s lined a recs z closed whole in (
       λ e. let t = all .0 (rw next at (e .1)) in (t .0, t .1, figures .0 (t .2)),
-      λ t. (ap (λ (x : TakeResult). x .answer) (opening s lined a recs z closed whole), rw next (all .1 (t .0, t .1, figures .1 (t .2)))),
+      λ t. (ap (λ (x : TakeResult). x .answer) (opening agreed s lined a recs z closed whole), rw next (all .1 (t .0, t .1, figures .1 (t .2)))),
     )
 
 pub file-posted : FilePosted
-file-posted s lined a recs z closed whole e =
-    let next = begun s lined a recs z closed whole in
-    ap (λ (x : Session). sessionAfter x (rest lined z recs)) next ∙
-    left-rest (s .shown) lined (headerTerms a) z (whole .trailer) recs (s .shown) (freshFile (versionIn a) lined) refl (whole .payments) (rw next at (e .1))
+file-posted agreed s lined a recs z closed whole e =
+    let next = begun agreed s lined a recs z closed whole in
+    ap (λ (x : Session). sessionAfter x (rest agreed lined z recs)) next ∙
+    left-rest agreed (whole .list) (s .shown) lined (headerTerms agreed a) z (whole .trailer) recs (s .shown) (freshFile (versionIn a) lined) refl (whole .payments) (rw next at (e .1))
 
 -- A fresh session.
 
 pub fresh-session-accepts : FreshSessionAccepts
-fresh-session-accepts lined a recs z whole =
-    let all = file-accepted freshSession lined a recs z refl whole in
+fresh-session-accepts agreed lined a recs z whole =
+    let all = file-accepted agreed freshSession lined a recs z refl whole in
     let file = fresh-file-takes (versionIn a) lined (receivedEach recs) in
     let board = fresh-board-takes (lanesOfRecords recs) in
     let count : length (receivedEach recs) ≡ length recs = simp length-map in
@@ -201,9 +202,9 @@ fresh-session-accepts lined a recs z whole =
     )
 
 pub fresh-session-shows : FreshSessionShows
-fresh-session-shows lined a recs z whole e =
-    let posted = file-posted freshSession lined a recs z refl whole e in
-    let holds = fresh-board-holds (lanesOfRecords recs) (file-accepted freshSession lined a recs z refl whole .0 e .1) in (
+fresh-session-shows agreed lined a recs z whole e =
+    let posted = file-posted agreed freshSession lined a recs z refl whole e in
+    let holds = fresh-board-holds (lanesOfRecords recs) (file-accepted agreed freshSession lined a recs z refl whole .0 e .1) in (
       ap (λ (s : Session). lanesOf (s .shown)) posted ∙ holds .0,
       ap (λ (s : Session). s .shown .total) posted ∙ holds .1 ∙ lanes-tally recs,
       ap (λ (s : Session). s .opened) posted,

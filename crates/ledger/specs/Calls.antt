@@ -9,18 +9,19 @@ use Rattle.answer.specs.declared.Reason.the-variants.{FileOpen}
 use Rattle.answer.specs.declared.Answer.{Answer}
 use Rattle.answer.specs.declared.Answer.the-variants.{Accepted}
 use Rattle.answer.specs.Orders.{require, _then_, ifAccepted}
+use Rattle.barcode.specs.Agreed.{listAnswer}
 use Rattle.session.specs.declared.Session.{Session}
 use Rattle.session.specs.Sessions.{freshSession, takeOf, finishOf}
 use Rattle.session.specs.Runs.{runOf, bytesOf}
-use Rattle.ledger.specs.Ledgers.{Ledger, freshLedger, isOpen, ledgerAnswer, Step, taking, abandoning}
+use Rattle.ledger.specs.Ledgers.{Ledger, freshLedger, isOpen, ledgerCheck, Step, taking, abandoning}
 use Rattle.ledger.specs.Ledgers.{ledgerStep, ledgerAfter}
 use Rattle.ledger.specs.Promises.{sessionStep, reached, ledgerOf, Agrees}
 use Rattle.ledger.specs.Runs.{ledgerPieces}
 
--- taking a record or abandoning; a run over bytes, told whether more are to follow; finishing
+-- taking a record or abandoning; a run over bytes under a list, told whether more are to follow; finishing
 pub data Call : Type 0 where
   stepping : Step → Call
-  running : Bool → List ℕ → Call
+  running : List ℕ → Bool → List ℕ → Call
   finishing : Call
 
 -- what the caller gets: an answer, for a run its records, files and bytes too; abandoning returns nothing
@@ -33,14 +34,14 @@ pub data Reply : Type 0 where
 
 abbrev pub sessionCall : Session → Call → Session
 sessionCall s (stepping step) = sessionStep s step
-sessionCall s (running more bytes) = runOf s more bytes .session
+sessionCall s (running agreed more bytes) = runOf agreed s more bytes .session
 sessionCall s finishing = finishOf s .session
 
 abbrev pub sessionReply : Session → Call → Reply
-sessionReply s (stepping (taking rec)) = answered (takeOf s rec .answer)
+sessionReply s (stepping (taking agreed rec)) = answered (takeOf agreed s rec .answer)
 sessionReply s (stepping abandoning) = silent
-sessionReply s (running more bytes) =
-    let r = runOf s more bytes in
+sessionReply s (running agreed more bytes) =
+    let r = runOf agreed s more bytes in
     ran (r .answer) (r .records) (r .files) (r .bytes)
 sessionReply s finishing = answered (finishOf s .answer)
 
@@ -52,20 +53,23 @@ abbrev pub sessionReplies : Session → List Call → List Reply
 sessionReplies s [] = []
 sessionReplies s (call ∷ calls) = sessionReply s call ∷ sessionReplies (sessionCall s call) calls
 
--- The same calls on a ledger: a run is the taking of its records up to the first that is refused.
+-- The same calls on a ledger: a run is the taking of its records up to the first that is refused, under a wrong list of
+-- none.
 
-abbrev pub recordsTaken : Ledger → List (List ℕ) → List (List ℕ)
-recordsTaken k [] = []
-recordsTaken k (rec ∷ recs) =
-    ifAccepted (ledgerAnswer k rec) (rec ∷ recordsTaken (ledgerStep k (taking rec)) recs) []
+abbrev pub recordsTaken : List ℕ → Ledger → List (List ℕ) → List (List ℕ)
+recordsTaken agreed k [] = []
+recordsTaken agreed k (rec ∷ recs) =
+    ifAccepted (ledgerCheck agreed k rec) (rec ∷ recordsTaken agreed (ledgerStep k (taking agreed rec)) recs) []
 
-abbrev pub runAnswer : Ledger → List (List ℕ) → Answer
-runAnswer k [] = Accepted
-runAnswer k (rec ∷ recs) = ledgerAnswer k rec then runAnswer (ledgerStep k (taking rec)) recs
+abbrev pub runAnswer : List ℕ → Ledger → List (List ℕ) → Answer
+runAnswer agreed k [] = Accepted
+runAnswer agreed k (rec ∷ recs) =
+    ledgerCheck agreed k rec then runAnswer agreed (ledgerStep k (taking agreed rec)) recs
 
 abbrev pub stepsOfCall : Ledger → Call → List Step
 stepsOfCall k (stepping step) = step ∷ []
-stepsOfCall k (running more bytes) = map taking (recordsTaken k (ledgerPieces k more bytes))
+stepsOfCall k (running agreed more bytes) =
+    map (taking agreed) (recordsTaken agreed k (ledgerPieces agreed k more bytes))
 stepsOfCall k finishing = []
 
 abbrev pub ledgerCall : Ledger → Call → Ledger
@@ -73,13 +77,14 @@ ledgerCall k call = ledgerAfter k (stepsOfCall k call)
 
 -- a run's files are those that the ledger has more of
 abbrev pub ledgerReply : Ledger → Call → Reply
-ledgerReply k (stepping (taking rec)) = answered (ledgerAnswer k rec)
+ledgerReply k (stepping (taking agreed rec)) = answered (ledgerCheck agreed k rec)
 ledgerReply k (stepping abandoning) = silent
-ledgerReply k (running more bytes) =
-    let pieces = ledgerPieces k more bytes in
-    ran (runAnswer k pieces) (length (recordsTaken k pieces))
-    (length (ledgerCall k (running more bytes) .accepted) - length (k .accepted))
-    (length (bytesOf (recordsTaken k pieces)))
+ledgerReply k (running agreed more bytes) =
+    let pieces = ledgerPieces agreed k more bytes in
+    let taken = recordsTaken agreed k pieces in
+    ran (listAnswer agreed then runAnswer agreed k pieces) (length taken)
+    (length (ledgerCall k (running agreed more bytes) .accepted) - length (k .accepted))
+    (length (bytesOf taken))
 ledgerReply k finishing = answered (require (not (isOpen (k .opened))) FileOpen 0)
 
 abbrev pub ledgerAfterCalls : Ledger → List Call → Ledger

@@ -10,7 +10,7 @@ use Rattle.answer.specs.Orders.{Each}
 use Rattle.layout.specs.Layouts.{recordLength}
 use Rattle.file.specs.Forms.{inForm, bodyOf}
 use Rattle.session.specs.declared.Session.{Session}
-use Rattle.session.specs.Sessions.{takeAnswer}
+use Rattle.session.specs.Sessions.{takeOf}
 use Rattle.ledger.specs.Ledgers.{taking}
 use Rattle.ledger.specs.Promises.{sessionAfter, answersOf}
 use Rattle.ledger.specs.WholeFiles.{allInForm}
@@ -26,18 +26,20 @@ asBare s =
     }
 
 -- Promise: one statement over both forms. Of any session with no file open, and any records of 150 bytes, whatever they
--- hold: each taken with CR and LF behind it gets the answer that it gets bare, one after the other, and the sessions
--- left are equal but for the form.
+-- hold, under one list: each taken with CR and LF behind it gets the answer that it gets bare, one after the other, and
+-- the sessions left are equal but for the form.
 abbrev pub FormsAgree : Type 0
 FormsAgree =
-    (s : Session) (recs : List (List ℕ)) → s .opened ≡ false → Each (λ (rec : List ℕ). length rec ≡ recordLength) recs
-    → (answersOf s (map taking (allInForm true recs)) ≡ answersOf s (map taking recs))
-    × (asBare (sessionAfter s (map taking (allInForm true recs))) ≡ asBare (sessionAfter s (map taking recs)))
+    (agreed : List ℕ) (s : Session) (recs : List (List ℕ)) → s .opened ≡ false
+    → Each (λ (rec : List ℕ). length rec ≡ recordLength) recs
+    → let lined = map (taking agreed) (allInForm true recs) in
+    let bare = map (taking agreed) recs in
+    (answersOf s lined ≡ answersOf s bare) × (asBare (sessionAfter s lined) ≡ asBare (sessionAfter s bare))
 
 -- Promise: in an open lined file a record is accepted exactly if its first 150 bytes would be in a bare one, and CR and
 -- LF and nothing more follow.
 abbrev pub OnlyEndedRecords : Type 0
 OnlyEndedRecords =
-    (s : Session) (rec : List ℕ) → s .opened ≡ true → s .file .lined ≡ true
-    → (takeAnswer s rec ≡ Accepted)
-    ↔ ((takeAnswer (asBare s) (bodyOf rec) ≡ Accepted) × (rec ≡ inForm true (bodyOf rec)))
+    (agreed : List ℕ) (s : Session) (rec : List ℕ) → s .opened ≡ true → s .file .lined ≡ true
+    → (takeOf agreed s rec .answer ≡ Accepted)
+    ↔ ((takeOf agreed (asBare s) (bodyOf rec) .answer ≡ Accepted) × (rec ≡ inForm true (bodyOf rec)))

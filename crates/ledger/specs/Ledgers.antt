@@ -13,13 +13,15 @@ use Rattle.answer.specs.declared.Answer.{Answer}
 use Rattle.answer.specs.declared.Answer.the-variants.{Accepted}
 use Rattle.answer.specs.Orders.{require, _then_, ifAccepted}
 use Rattle.barcode.specs.declared.Issuer.{Issuer}
+use Rattle.barcode.specs.Codes.{issuerOf}
+use Rattle.barcode.specs.Agreed.{listAnswer}
 use Rattle.layout.specs.declared.MaybeRecord.{MaybeRecord}
 use Rattle.layout.specs.declared.MaybeRecord.the-variants.{Is, Other}
 use Rattle.layout.specs.declared.Record.the-variants.{Header, Payment, Trailer}
-use Rattle.layout.specs.Layouts.{namedBy}
-use Rattle.record.specs.Records.{recordAnswer}
+use Rattle.layout.specs.Layouts.{namedBy, rowAt, barcodeRow, receivedRow}
+use Rattle.record.specs.Records.{fieldBytes, recordAnswer}
 use Rattle.kinds.specs.Terms.{Terms, told}
-use Rattle.record.specs.Values.{versionIn, paymentShown, trailerShown}
+use Rattle.record.specs.Values.{numberIn, versionIn, trailerShown}
 use Rattle.file.specs.Files.{mostPayments, mostCentavos, countPlace, totalPlace}
 use Rattle.file.specs.Forms.{bodyOf, hasLineEnd, fitsLength, endAnswer}
 use Rattle.board.specs.declared.Lane.{Lane}
@@ -58,22 +60,25 @@ abbrev pub openRecords : Option Opened → List (List ℕ)
 openRecords none = []
 openRecords (some f) = f .payments
 
--- the issuer that a payment record names, in its barcode
+-- the issuer that a payment record names, in its barcode, and the centavos that it received
 abbrev pub issuerNamed : List ℕ → Issuer
-issuerNamed rec = paymentShown rec .barcode .issuer
+issuerNamed rec = issuerOf (fieldBytes (rowAt barcodeRow) rec)
+
+abbrev pub receivedBy : List ℕ → ℕ
+receivedBy rec = numberIn receivedRow rec
 
 -- each payment record as a lane of one
 abbrev pub laneOfRecord : List ℕ → Lane
 laneOfRecord rec =
-    record { issuer = issuerNamed rec; tally = record { payments = 1; centavos = paymentShown rec .received } }
+    record { issuer = issuerNamed rec; tally = record { payments = 1; centavos = receivedBy rec } }
 
 abbrev pub lanesOfRecords : List (List ℕ) → List Lane
 lanesOfRecords recs = map laneOfRecord recs
 
--- the centavos that they received
+-- what they received
 abbrev pub receivedIn : List (List ℕ) → ℕ
 receivedIn [] = 0
-receivedIn (rec ∷ recs) = paymentShown rec .received + receivedIn recs
+receivedIn (rec ∷ recs) = receivedBy rec + receivedIn recs
 
 -- two issuers are the same if their segments and their numbers are
 abbrev pub equalIssuers : Issuer → Issuer → Bool
@@ -127,7 +132,7 @@ limitsAnswer recs =
 abbrev pub paymentStateAnswer : List Filed → Opened → List ℕ → Answer
 paymentStateAnswer files f r =
     require (ltb (length (f .payments)) mostPayments) FileFull 1
-    then require (leb (receivedIn (f .payments) + paymentShown r .received) mostCentavos) FileTotalPassed receivedPlace
+    then require (leb (receivedIn (f .payments) + receivedBy r) mostCentavos) FileTotalPassed receivedPlace
     then limitsAnswer ((paymentRecords files ++ f .payments) ++ (r ∷ []))
 
 -- a Z: 13, the number of the file's records, A and Z included; 14, what its payments received
@@ -144,23 +149,31 @@ stateAnswer files (some f) (Is Payment) rec = paymentStateAnswer files f rec
 stateAnswer files (some f) (Is Trailer) rec = trailerStateAnswer f rec
 stateAnswer files (some f) Other rec = Accepted
 
--- the version that a header's own bytes name; a record of the open file is read under that of its header. With no file
--- open only an A gets this far, which ignores it.
-abbrev pub headerTerms : List ℕ → Terms
-headerTerms a = told (versionIn a)
+-- the version that a header's own bytes name; a record of the open file is read under that of its header, and under the
+-- list that is lent with it. With no file open only an A gets this far, which ignores both.
+abbrev pub headerTerms : List ℕ → List ℕ → Terms
+headerTerms agreed a = told (versionIn a) agreed
 
-abbrev pub ledgerTerms : Option Opened → Terms
-ledgerTerms none = told 0
-ledgerTerms (some f) = headerTerms (f .header)
+abbrev pub openVersion : Option Opened → ℕ
+openVersion none = 0
+openVersion (some f) = versionIn (f .header)
 
--- taking a record: 1; then, of its first 150 bytes, 9, its own refusals and the ledger's; last 22
-abbrev pub ledgerAnswer : Ledger → List ℕ → Answer
-ledgerAnswer k rec =
+abbrev pub ledgerTerms : List ℕ → Option Opened → Terms
+ledgerTerms agreed o = told (openVersion o) agreed
+
+-- taking a record, under a list of agreed issuers that was judged: 1; then, of its first 150 bytes, 9, its own refusals
+-- and the ledger's; last 22
+abbrev pub ledgerAnswer : List ℕ → Ledger → List ℕ → Answer
+ledgerAnswer agreed k rec =
     require (fitsLength (isOpen (k .opened)) (isOpenLined (k .opened)) rec) WrongLength 0
     then require (ledgerExpects (k .opened) (namedBy (getD rec 0 0))) NotExpected 1
-    then recordAnswer (ledgerTerms (k .opened)) (bodyOf rec)
+    then recordAnswer (ledgerTerms agreed (k .opened)) (bodyOf rec)
     then stateAnswer (k .accepted) (k .opened) (namedBy (getD rec 0 0)) (bodyOf rec)
     then endAnswer (isOpen (k .opened)) (isOpenLined (k .opened)) rec
+
+-- as a caller asks it: 25 before everything, whatever the record
+abbrev pub ledgerCheck : List ℕ → Ledger → List ℕ → Answer
+ledgerCheck agreed k rec = listAnswer agreed then ledgerAnswer agreed k rec
 
 -- The ledger that follows.
 
@@ -186,14 +199,14 @@ withRecord files (some f) Other ended rec = record { accepted = files; opened = 
 abbrev pub nextLedger : Ledger → List ℕ → Ledger
 nextLedger k rec = withRecord (k .accepted) (k .opened) (namedBy (getD rec 0 0)) (hasLineEnd rec) (bodyOf rec)
 
--- taking a record of any bytes, or abandoning the open file
+-- taking a record of any bytes, under the list that is lent with it, or abandoning the open file
 pub data Step : Type 0 where
-  taking : List ℕ → Step
+  taking : List ℕ → List ℕ → Step
   abandoning : Step
 
 -- a refused record changes nothing; abandoning drops the open file
 abbrev pub ledgerStep : Ledger → Step → Ledger
-ledgerStep k (taking rec) = ifAccepted (ledgerAnswer k rec) (nextLedger k rec) k
+ledgerStep k (taking agreed rec) = ifAccepted (ledgerCheck agreed k rec) (nextLedger k rec) k
 ledgerStep k abandoning = record { accepted = k .accepted; opened = none }
 
 abbrev pub ledgerAfter : Ledger → List Step → Ledger
@@ -203,5 +216,6 @@ ledgerAfter k (step ∷ steps) = ledgerAfter (ledgerStep k step) steps
 -- the answers to the records taken, one after the other
 abbrev pub ledgerAnswers : Ledger → List Step → List Answer
 ledgerAnswers k [] = []
-ledgerAnswers k (taking rec ∷ steps) = ledgerAnswer k rec ∷ ledgerAnswers (ledgerStep k (taking rec)) steps
+ledgerAnswers k (taking agreed rec ∷ steps) =
+    ledgerCheck agreed k rec ∷ ledgerAnswers (ledgerStep k (taking agreed rec)) steps
 ledgerAnswers k (abandoning ∷ steps) = ledgerAnswers (ledgerStep k abandoning) steps

@@ -14,8 +14,9 @@ use Rattle.answer.specs.Orders.{Each}
 use Rattle.layout.specs.declared.MaybeRecord.the-variants.{Is}
 use Rattle.layout.specs.declared.Record.the-variants.{Payment, Trailer}
 use Rattle.layout.specs.Layouts.{namedBy, rowAt, versionRow}
+use Rattle.barcode.specs.Agreed.{RightList}
 use Rattle.kinds.specs.Terms.{isVersion}
-use Rattle.record.specs.Records.{recordAnswer}
+use Rattle.record.specs.Records.{recordCheck}
 use Rattle.record.specs.Values.{trailerShown}
 use Rattle.file.specs.Files.{noFile}
 use Rattle.file.specs.Forms.{inForm, bodyOf, fitsLength}
@@ -23,16 +24,16 @@ use Rattle.board.specs.declared.Lane.{Lane}
 use Rattle.board.specs.Lanes.{mostLanes, limit, lanesFrom, sumBy, each, issuersOf, Distinct}
 use Rattle.board.specs.Boards.{lanesOf, SoundBoard}
 use Rattle.session.specs.declared.Session.{Session}
-use Rattle.session.specs.Sessions.{freshSession, sessionTerms, takeAnswer, takeOf, abandonOf, finishOf}
+use Rattle.session.specs.Sessions.{freshSession, takeOf, abandonOf, finishOf}
 use Rattle.ledger.specs.Ledgers.{Opened, Ledger, freshLedger, paymentRecords, openRecords, lanesOfRecords}
 use Rattle.ledger.specs.Ledgers.{isOpen, isOpenLined}
-use Rattle.ledger.specs.Ledgers.{receivedIn, ofIssuer, issuersNamed, ledgerAnswer, Step, taking, abandoning}
-use Rattle.ledger.specs.Ledgers.{headerTerms, ledgerTerms, ledgerAfter, ledgerAnswers}
+use Rattle.ledger.specs.Ledgers.{receivedIn, ofIssuer, issuersNamed, ledgerCheck, Step, taking, abandoning}
+use Rattle.ledger.specs.Ledgers.{headerTerms, openVersion, ledgerAfter, ledgerAnswers}
 
 -- The same steps through a session.
 
 abbrev pub sessionStep : Session → Step → Session
-sessionStep s (taking rec) = takeOf s rec .session
+sessionStep s (taking agreed rec) = takeOf agreed s rec .session
 sessionStep s abandoning = abandonOf s
 
 abbrev pub sessionAfter : Session → List Step → Session
@@ -41,7 +42,8 @@ sessionAfter s (step ∷ steps) = sessionAfter (sessionStep s step) steps
 
 abbrev pub answersOf : Session → List Step → List Answer
 answersOf s [] = []
-answersOf s (taking rec ∷ steps) = takeOf s rec .answer ∷ answersOf (takeOf s rec .session) steps
+answersOf s (taking agreed rec ∷ steps) =
+    takeOf agreed s rec .answer ∷ answersOf (takeOf agreed s rec .session) steps
 answersOf s (abandoning ∷ steps) = answersOf (abandonOf s) steps
 
 -- From a fresh session and a fresh ledger: the board shown, and the payment records of the accepted files.
@@ -70,7 +72,7 @@ pub record Agrees (s : Session) (k : Ledger) : Type 0 where
   pub work : lanesOf (s .work) ≡ lanesFrom (lanesOfRecords (allRecords k))
   pub taken : s .file .taken ≡ length (openRecords (k .opened))
   pub total : s .file .total ≡ receivedIn (openRecords (k .opened))
-  pub terms : sessionTerms s ≡ ledgerTerms (k .opened)
+  pub version : s .file .version ≡ openVersion (k .opened)
   pub lined : s .file .lined ≡ isOpenLined (k .opened)
   pub soundShown : SoundBoard (s .shown)
   pub soundWork : SoundBoard (s .work)
@@ -86,7 +88,8 @@ AnswersAreTheLedgers = (steps : List Step) → answersOf freshSession steps ≡ 
 
 abbrev pub NextAnswerIsTheLedgers : Type 0
 NextAnswerIsTheLedgers =
-    (steps : List Step) (rec : List ℕ) → takeAnswer (reached steps) rec ≡ ledgerAnswer (ledgerOf steps) rec
+    (steps : List Step) (agreed rec : List ℕ)
+    → takeOf agreed (reached steps) rec .answer ≡ ledgerCheck agreed (ledgerOf steps) rec
 
 -- the lanes shown are the payments of the accepted files grouped by issuer, in order of first appearance
 abbrev pub LanesAreThePayments : Type 0
@@ -128,14 +131,14 @@ WithinLimits =
     → (length (shownLanes steps) ≤ mostLanes) × (reached steps .shown .total .payments ≤ limit)
     × (reached steps .shown .total .centavos ≤ limit)
 
--- in an open file, a Z with right fields is accepted exactly if its count and total are the true ones and CR and LF are
--- all that follows it in a lined file, nothing in a bare one
+-- in an open file and under a right list, a Z with right fields is accepted exactly if its count and total are the true
+-- ones and CR and LF are all that follows it in a lined file, nothing in a bare one
 abbrev pub TrueTrailersOnly : Type 0
 TrueTrailersOnly =
-    (steps : List Step) (f : Opened) (rec : List ℕ)
-    → ledgerOf steps .opened ≡ some f → recordAnswer (headerTerms (f .header)) (bodyOf rec) ≡ Accepted
+    (steps : List Step) (f : Opened) (agreed rec : List ℕ)
+    → ledgerOf steps .opened ≡ some f → recordCheck (headerTerms agreed (f .header)) (bodyOf rec) ≡ Accepted
     → namedBy (getD rec 0 0) ≡ Is Trailer
-    → (takeAnswer (reached steps) rec ≡ Accepted)
+    → (takeOf agreed (reached steps) rec .answer ≡ Accepted)
     ↔ ((trailerShown (bodyOf rec) .count ≡ length (f .payments) + 2)
     × (trailerShown (bodyOf rec) .total ≡ receivedIn (f .payments)) × (rec ≡ inForm (f .lined) (bodyOf rec)))
 
@@ -153,26 +156,30 @@ OpenFilesHaveAVersion =
 -- version's place in a header
 abbrev pub PaymentsTakenUnderAVersion : Type 0
 PaymentsTakenUnderAVersion =
-    (s : Session) (rec : List ℕ) → s .opened ≡ true → isVersion (s .file .version) ≡ false
-    → fitsLength true (s .file .lined) rec ≡ true → namedBy (getD rec 0 0) ≡ Is Payment
-    → takeAnswer s rec ≡ Refused FixedDiffers (rowAt versionRow .first)
+    (agreed : List ℕ) (s : Session) (rec : List ℕ) → RightList agreed → s .opened ≡ true
+    → isVersion (s .file .version) ≡ false → fitsLength true (s .file .lined) rec ≡ true
+    → namedBy (getD rec 0 0) ≡ Is Payment
+    → takeOf agreed s rec .answer ≡ Refused FixedDiffers (rowAt versionRow .first)
 
 -- a refused record changes nothing
 abbrev pub RefusalKeepsSession : Type 0
-RefusalKeepsSession = (s : Session) (rec : List ℕ) → (takeOf s rec .answer ≡ Accepted → ⊥) → takeOf s rec .session ≡ s
+RefusalKeepsSession =
+    (agreed : List ℕ) (s : Session) (rec : List ℕ) → (takeOf agreed s rec .answer ≡ Accepted → ⊥)
+    → takeOf agreed s rec .session ≡ s
 
 -- the board shown stays as it was until a Z is accepted; then the payments of the open file are shown together
 abbrev pub OnlyTrailersShow : Type 0
 OnlyTrailersShow =
-    (s : Session) (rec : List ℕ) → (namedBy (getD rec 0 0) ≡ Is Trailer → ⊥) → takeOf s rec .session .shown ≡ s .shown
+    (agreed : List ℕ) (s : Session) (rec : List ℕ) → (namedBy (getD rec 0 0) ≡ Is Trailer → ⊥)
+    → takeOf agreed s rec .session .shown ≡ s .shown
 
 abbrev pub TrailersShowAll : Type 0
 TrailersShowAll =
-    (s : Session) (rec : List ℕ) → namedBy (getD rec 0 0) ≡ Is Trailer → takeOf s rec .answer ≡ Accepted
-    → takeOf s rec .session .shown ≡ s .work
+    (agreed : List ℕ) (s : Session) (rec : List ℕ) → namedBy (getD rec 0 0) ≡ Is Trailer
+    → takeOf agreed s rec .answer ≡ Accepted → takeOf agreed s rec .session .shown ≡ s .work
 
 abbrev pub NoTrailer : Step → Type 0
-NoTrailer (taking rec) = namedBy (getD rec 0 0) ≡ Is Trailer → ⊥
+NoTrailer (taking agreed rec) = namedBy (getD rec 0 0) ≡ Is Trailer → ⊥
 NoTrailer abandoning = Unit {0}
 
 abbrev pub NothingShowsBefore : Type 0

@@ -13,7 +13,7 @@ use Rattle.ledger.specs.Ledgers.{laneOfRecord, lanesOfRecords, equalIssu
 
 -- a record's lane of one is the session's, and issuers are the same if the board says so
 abbrev pub LaneIsTheSessions : Type 0
-LaneIsTheSessions = (rec : List ℕ) → laneOfRecord rec ≡ laneOfPayment (paymentShown rec)
+LaneIsTheSessions = (agreed rec : List ℕ) → laneOfRecord rec ≡ laneOfPayment (paymentShown agreed rec)
 
 abbrev pub EqualIsTheBoards : Type 0
 EqualIsTheBoards = (i j : Issuer) → equalIssuers i j ≡ sameIssuer i j

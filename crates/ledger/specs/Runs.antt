@@ -8,6 +8,7 @@ use lib.ListN.{length, getD, take, drop}
 use Rattle.answer.specs.declared.Answer.{Answer}
 use Rattle.answer.specs.declared.Answer.the-variants.{Accepted}
 use Rattle.answer.specs.Orders.{Each}
+use Rattle.barcode.specs.Agreed.{RightList}
 use Rattle.layout.specs.Layouts.{recordLength}
 use Rattle.file.specs.Forms.{nextLength}
 use Rattle.board.specs.Boards.{boardWithAll}
@@ -15,7 +16,7 @@ use Rattle.session.specs.declared.RunResult.{RunResult}
 use Rattle.session.specs.declared.Session.{Session}
 use Rattle.session.specs.Sessions.{freshSession, closedAt}
 use Rattle.session.specs.Runs.{leastLeft, piecesOf, runOf, bytesOf}
-use Rattle.ledger.specs.Ledgers.{Ledger, freshLedger, lanesOfRecords, isOpen, isOpenLined, ledgerAnswer, Step}
+use Rattle.ledger.specs.Ledgers.{Ledger, freshLedger, lanesOfRecords, isOpen, isOpenLined, ledgerCheck, Step}
 use Rattle.ledger.specs.Ledgers.{taking, ledgerStep, ledgerAnswers}
 use Rattle.ledger.specs.Promises.{answersOf, reached, ledgerOf}
 use Rattle.ledger.specs.WholeFiles.{Whole, recordsOf, allInForm, fileOf, AllAccepted}
@@ -27,24 +28,25 @@ ledgerPieceLength k bytes = nextLength (isOpen (k .opened)) (isOpenLined (k .ope
 abbrev pub ledgerPieceOf : Ledger → List ℕ → List ℕ
 ledgerPieceOf k bytes = take (ledgerPieceLength k bytes) bytes
 
-abbrev pub ledgerPiecesUpTo : ℕ → Ledger → Bool → List ℕ → List (List ℕ)
-ledgerPiecesUpTo zero k more bytes = []
-ledgerPiecesUpTo (suc n) k more bytes =
+abbrev pub ledgerPiecesUpTo : List ℕ → ℕ → Ledger → Bool → List ℕ → List (List ℕ)
+ledgerPiecesUpTo agreed zero k more bytes = []
+ledgerPiecesUpTo agreed (suc n) k more bytes =
     cond (ltb (length bytes) (leastLeft more)) []
     (ledgerPieceOf k bytes
-    ∷ ledgerPiecesUpTo n (ledgerStep k (taking (ledgerPieceOf k bytes))) more (drop (ledgerPieceLength k bytes) bytes))
+    ∷ ledgerPiecesUpTo agreed n (ledgerStep k (taking agreed (ledgerPieceOf k bytes))) more
+    (drop (ledgerPieceLength k bytes) bytes))
 
-abbrev pub ledgerPieces : Ledger → Bool → List ℕ → List (List ℕ)
-ledgerPieces k more bytes = ledgerPiecesUpTo (length bytes) k more bytes
+abbrev pub ledgerPieces : List ℕ → Ledger → Bool → List ℕ → List (List ℕ)
+ledgerPieces agreed k more bytes = ledgerPiecesUpTo agreed (length bytes) k more bytes
 
 -- the records that a run took, as steps
-abbrev pub stepsOf : List (List ℕ) → RunResult → List Step
-stepsOf recs r = map taking (take (r .records) recs)
+abbrev pub stepsOf : List ℕ → List (List ℕ) → RunResult → List Step
+stepsOf agreed recs r = map (taking agreed) (take (r .records) recs)
 
 -- the ledger's answer to the first record that is left
-abbrev pub nextLedgerAnswer : Ledger → List (List ℕ) → Answer
-nextLedgerAnswer k [] = Accepted
-nextLedgerAnswer k (rec ∷ recs) = ledgerAnswer k rec
+abbrev pub nextLedgerAnswer : List ℕ → Ledger → List (List ℕ) → Answer
+nextLedgerAnswer agreed k [] = Accepted
+nextLedgerAnswer agreed k (rec ∷ recs) = ledgerCheck agreed k rec
 
 -- Promises.
 
@@ -52,18 +54,20 @@ nextLedgerAnswer k (rec ∷ recs) = ledgerAnswer k rec
 -- that form. Where they are bare, none begins with byte 13: a header and bytes 13 and 10 would be read as lined.
 abbrev pub PiecesAreTheRecords : Type 0
 PiecesAreTheRecords =
-    (s : Session) (lined : Bool) (recs : List (List ℕ)) → (s .opened ≡ true → s .file .lined ≡ lined)
+    (agreed : List ℕ) (s : Session) (lined : Bool) (recs : List (List ℕ))
+    → (s .opened ≡ true → s .file .lined ≡ lined)
     → Each (λ (rec : List ℕ). (length rec ≡ recordLength) × (lined ≡ false → getD rec 0 0 ≡ 13 → ⊥)) recs
-    → piecesOf s false (bytesOf (allInForm lined recs)) ≡ allInForm lined recs
+    → piecesOf agreed s false (bytesOf (allInForm lined recs)) ≡ allInForm lined recs
 
 -- of any session with no file open: a run over the bytes of a file, lined or bare, whose records are all accepted takes
 -- them all, and that one file
 abbrev pub FileBytesRun : Type 0
 FileBytesRun =
-    (s : Session) (lined : Bool) (a : List ℕ) (recs : List (List ℕ)) (z : List ℕ) → s .opened ≡ false → Whole a recs z
-    → AllAccepted (answersOf s (fileOf lined a recs z))
+    (agreed : List ℕ) (s : Session) (lined : Bool) (a : List ℕ) (recs : List (List ℕ)) (z : List ℕ)
+    → s .opened ≡ false → Whole agreed a recs z
+    → AllAccepted (answersOf s (fileOf agreed lined a recs z))
     → let bytes = bytesOf (allInForm lined (recordsOf a recs z)) in
-    runOf s false bytes
+    runOf agreed s false bytes
     ≡ record {
       answer = Accepted;
       session = closedAt (boardWithAll (s .shown) (lanesOfRecords recs));
@@ -72,18 +76,18 @@ FileBytesRun =
       bytes = length bytes;
     }
 
--- whatever the bytes, and whether more are to follow or not, a run from a fresh session takes records that the ledger
--- accepts, which are the first `bytes` of the input, and stops with the ledger's answer to the next; its session is the
--- one that they reach, and its files are the ledger's. If it is accepted, no record is left.
+-- under a right list, whatever the bytes, and whether more are to follow or not, a run from a fresh session takes
+-- records that the ledger accepts, which are the first `bytes` of the input, and stops with the ledger's answer to the
+-- next; its session is the one that they reach, and its files are the ledger's. If it is accepted, no record is left.
 abbrev pub RunIsTheLedgers : Type 0
 RunIsTheLedgers =
-    (more : Bool) (bytes : List ℕ)
-    → let r = runOf freshSession more bytes in
-    let pieces = ledgerPieces freshLedger more bytes in
-    let steps = stepsOf pieces r in
+    (agreed : List ℕ) (more : Bool) (bytes : List ℕ) → RightList agreed
+    → let r = runOf agreed freshSession more bytes in
+    let pieces = ledgerPieces agreed freshLedger more bytes in
+    let steps = stepsOf agreed pieces r in
     (r .session ≡ reached steps) × (r .files ≡ length (ledgerOf steps .accepted))
     × AllAccepted (ledgerAnswers freshLedger steps)
     × (bytesOf (take (r .records) pieces) ≡ take (r .bytes) bytes)
     × (length (bytesOf (take (r .records) pieces)) ≡ r .bytes)
-    × (r .answer ≡ nextLedgerAnswer (ledgerOf steps) (drop (r .records) pieces))
+    × (r .answer ≡ nextLedgerAnswer agreed (ledgerOf steps) (drop (r .records) pieces))
     × (r .answer ≡ Accepted → r .records ≡ length pieces)

@@ -9,6 +9,7 @@ use Rattle.answer.specs.declared.Answer.{Answer}
 use Rattle.answer.specs.Refusals.{answerNumber, answerPlace}
 use Rattle.decimal.specs.Numbers.{digitsOf}
 use Rattle.barcode.specs.declared.Issuer.{Issuer}
+use Rattle.barcode.specs.Agreed.{keyOf}
 use Rattle.barcode.specs.Building.{builtOf}
 use Rattle.kinds.specs.Terms.{version04, version06}
 use Rattle.kinds.specs.Kinds.{serviceOf}
@@ -54,7 +55,7 @@ paymentBy barcode received = paymentWith barcode received 49 49
 abbrev pub payment : ℕ → List ℕ
 payment received = paymentBy code received
 
--- a payment to any issuer, with a barcode of kind 7, value and free field zero
+-- a payment to an issuer whose number has four digits, with a barcode of kind 7, value and free field zero
 abbrev pub paymentTo : Issuer → ℕ → List ℕ
 paymentTo i received = paymentBy (builtOf i 7 0 (digitsOf 25 0)) received
 
@@ -103,6 +104,10 @@ oneLane answers t =
 abbrev pub tally : ℕ → ℕ → Tally
 tally payments centavos = record { payments = payments; centavos = centavos }
 
+-- a record taken under the empty list
+abbrev pub plain : List ℕ → Step
+plain rec = taking [] rec
+
 pub record Sample : Type 0 where
   pub steps : List Step
   pub outcome : Outcome
@@ -111,7 +116,7 @@ pub record Sample : Type 0 where
 abbrev pub worked : Sample
 worked =
     record {
-      steps = taking header ∷ taking (payment 109) ∷ taking (trailer 3 109) ∷ [];
+      steps = plain header ∷ plain (payment 109) ∷ plain (trailer 3 109) ∷ [];
       outcome = oneLane (accepted ∷ accepted ∷ accepted ∷ []) (tally 1 109);
     }
 
@@ -120,9 +125,9 @@ abbrev pub past : Sample
 past =
     record {
       steps =
-          taking header ∷ taking (payment 4_294_967_295) ∷ taking (trailer 3 4_294_967_295)
-          ∷ taking header ∷ taking (payment 2) ∷ taking (payment 999_999_999_999)
-          ∷ taking (trailer 4 1_000_000_000_001) ∷ [];
+          plain header ∷ plain (payment 4_294_967_295) ∷ plain (trailer 3 4_294_967_295)
+          ∷ plain header ∷ plain (payment 2) ∷ plain (payment 999_999_999_999)
+          ∷ plain (trailer 4 1_000_000_000_001) ∷ [];
       outcome = oneLane (replicate 7 accepted) (tally 3 1_004_294_967_296);
     }
 
@@ -131,8 +136,8 @@ abbrev pub again : Sample
 again =
     record {
       steps =
-          taking header ∷ taking (payment 109)
-          ∷ taking (trailer 2 109) ∷ taking (trailer 3 1) ∷ taking (trailer 3 109) ∷ [];
+          plain header ∷ plain (payment 109)
+          ∷ plain (trailer 2 109) ∷ plain (trailer 3 1) ∷ plain (trailer 3 109) ∷ [];
       outcome = oneLane (accepted ∷ accepted ∷ refused 13 2 ∷ refused 14 8 ∷ accepted ∷ []) (tally 1 109);
     }
 
@@ -140,8 +145,7 @@ again =
 abbrev pub left : Sample
 left =
     record {
-      steps =
-          taking header ∷ taking (payment 109) ∷ abandoning ∷ taking (payment 109) ∷ abandoning ∷ taking header ∷ [];
+      steps = plain header ∷ plain (payment 109) ∷ abandoning ∷ plain (payment 109) ∷ abandoning ∷ plain header ∷ [];
       outcome = nothing (accepted ∷ accepted ∷ refused 9 1 ∷ accepted ∷ []) (refused 19 0);
     }
 
@@ -149,7 +153,7 @@ left =
 abbrev pub astray : Sample
 astray =
     record {
-      steps = taking (payment 109) ∷ taking (trailer 2 0) ∷ taking [] ∷ taking header ∷ taking header ∷ abandoning ∷ [];
+      steps = plain (payment 109) ∷ plain (trailer 2 0) ∷ plain [] ∷ plain header ∷ plain header ∷ abandoning ∷ [];
       outcome = nothing (refused 9 1 ∷ refused 9 1 ∷ refused 1 0 ∷ accepted ∷ refused 9 1 ∷ []) accepted;
     }
 
@@ -164,9 +168,9 @@ abbrev pub ordered : Sample
 ordered =
     record {
       steps =
-          taking header ∷ taking (payment 5) ∷ abandoning
-          ∷ taking header ∷ taking (paymentTo otherIssuer 10) ∷ taking (payment 20) ∷ taking (paymentTo otherIssuer 30)
-          ∷ taking (trailer 5 60) ∷ [];
+          plain header ∷ plain (payment 5) ∷ abandoning
+          ∷ plain header ∷ plain (paymentTo otherIssuer 10) ∷ plain (payment 20) ∷ plain (paymentTo otherIssuer 30)
+          ∷ plain (trailer 5 60) ∷ [];
       outcome =
           record {
             answers = replicate 7 accepted;
@@ -181,18 +185,18 @@ ordered =
 -- 64 issuers, then a 65th, refused 17 at 53, then the first again
 abbrev pub manyIssuers : ℕ → ℕ → List Step
 manyIssuers zero n = []
-manyIssuers (suc left) n = taking (paymentTo (record { segment = 1; number = n }) 1) ∷ manyIssuers left (n + 1)
+manyIssuers (suc left) n = plain (paymentTo (record { segment = 1; number = n }) 1) ∷ manyIssuers left (n + 1)
 
 abbrev pub crowded : Sample
 crowded =
     record {
-      steps = taking header ∷ (manyIssuers 65 1 ++ manyIssuers 1 1);
+      steps = plain header ∷ (manyIssuers 65 1 ++ manyIssuers 1 1);
       outcome = nothing (replicate 65 accepted ++ (refused 17 53 ∷ accepted ∷ [])) (refused 19 0);
     }
 
 -- a payment of 1 centavo with these two codes, as bytes
 abbrev pub coded : ℕ → ℕ → Step
-coded capture form = taking (paymentWith code 1 capture form)
+coded capture form = plain (paymentWith code 1 capture form)
 
 -- each header decides for its own file. In a 06 file captures `7`, `9` and `i` and forms `4` and `6` are known, `j` and
 -- form `7` are not, and an A of version 04, refused there, changes nothing. A 06 file that is abandoned leaves no
@@ -202,10 +206,10 @@ abbrev pub versions : Sample
 versions =
     record {
       steps =
-          taking (headerOf version06) ∷ coded 55 49 ∷ taking (headerOf version04) ∷ coded 57 52 ∷ coded 105 54
-          ∷ coded 106 49 ∷ coded 49 55 ∷ taking (trailer 5 3)
-          ∷ taking (headerOf version06) ∷ abandoning ∷ taking (headerOf 5) ∷ taking (headerOf version04)
-          ∷ coded 55 49 ∷ coded 57 49 ∷ coded 49 52 ∷ coded 102 51 ∷ taking (trailer 3 1) ∷ [];
+          plain (headerOf version06) ∷ coded 55 49 ∷ plain (headerOf version04) ∷ coded 57 52 ∷ coded 105 54
+          ∷ coded 106 49 ∷ coded 49 55 ∷ plain (trailer 5 3)
+          ∷ plain (headerOf version06) ∷ abandoning ∷ plain (headerOf 5) ∷ plain (headerOf version04)
+          ∷ coded 55 49 ∷ coded 57 49 ∷ coded 49 52 ∷ coded 102 51 ∷ plain (trailer 3 1) ∷ [];
       outcome =
           oneLane
           (accepted ∷ accepted ∷ refused 9 1 ∷ accepted ∷ accepted ∷ refused 12 117 ∷ refused 12 141 ∷ accepted
@@ -216,7 +220,7 @@ versions =
 
 -- a record with CR and LF behind it
 abbrev pub withLineEnd : List ℕ → Step
-withLineEnd rec = taking (inForm true rec)
+withLineEnd rec = plain (inForm true rec)
 
 -- a lined file, whose header decides: a payment with CR and LF is accepted; one without, with CR alone, with LF and CR
 -- or with one byte more is not, 22 at 151 or 1; then the last one, sent again with its line end, is. The trailer too
@@ -225,10 +229,10 @@ abbrev pub lined : Sample
 lined =
     record {
       steps =
-          withLineEnd header ∷ withLineEnd (payment 109) ∷ taking (payment 5) ∷ taking (payment 5 ++ (13 ∷ []))
-          ∷ taking (payment 5 ++ (10 ∷ 13 ∷ [])) ∷ taking (payment 5 ++ (13 ∷ 10 ∷ 13 ∷ []))
-          ∷ withLineEnd (payment 5) ∷ taking header ∷ withLineEnd header
-          ∷ taking (trailer 3 114) ∷ taking (trailer 4 109) ∷ taking (trailer 4 114) ∷ withLineEnd (trailer 4 114) ∷ [];
+          withLineEnd header ∷ withLineEnd (payment 109) ∷ plain (payment 5) ∷ plain (payment 5 ++ (13 ∷ []))
+          ∷ plain (payment 5 ++ (10 ∷ 13 ∷ [])) ∷ plain (payment 5 ++ (13 ∷ 10 ∷ 13 ∷ []))
+          ∷ withLineEnd (payment 5) ∷ plain header ∷ withLineEnd header
+          ∷ plain (trailer 3 114) ∷ plain (trailer 4 109) ∷ plain (trailer 4 114) ∷ withLineEnd (trailer 4 114) ∷ [];
       outcome =
           oneLane
           (accepted ∷ accepted ∷ refused 22 151 ∷ refused 22 151 ∷ refused 22 151 ∷ refused 1 0 ∷ accepted
@@ -243,11 +247,11 @@ abbrev pub bare : Sample
 bare =
     record {
       steps =
-          taking (header ++ (13 ∷ [])) ∷ taking (header ++ (13 ∷ 13 ∷ [])) ∷ withLineEnd (payment 109) ∷ taking header
-          ∷ withLineEnd (payment 109) ∷ taking (payment 109 ++ (13 ∷ [])) ∷ taking (payment 109)
-          ∷ withLineEnd (trailer 3 109) ∷ taking (trailer 3 109)
+          plain (header ++ (13 ∷ [])) ∷ plain (header ++ (13 ∷ 13 ∷ [])) ∷ withLineEnd (payment 109) ∷ plain header
+          ∷ withLineEnd (payment 109) ∷ plain (payment 109 ++ (13 ∷ [])) ∷ plain (payment 109)
+          ∷ withLineEnd (trailer 3 109) ∷ plain (trailer 3 109)
           ∷ withLineEnd header ∷ withLineEnd (payment 1) ∷ withLineEnd (trailer 3 1)
-          ∷ withLineEnd header ∷ abandoning ∷ taking header ∷ taking (trailer 2 0) ∷ [];
+          ∷ withLineEnd header ∷ abandoning ∷ plain header ∷ plain (trailer 2 0) ∷ [];
       outcome =
           oneLane
           (refused 1 0 ∷ refused 1 0 ∷ refused 9 1 ∷ accepted ∷ refused 1 0 ∷ refused 1 0 ∷ accepted ∷ refused 1 0
@@ -255,8 +259,36 @@ bare =
           (tally 2 110);
     }
 
+-- Lists: P4's issuer and one of segment 6 agreed on due dates. P4's G has no date and is refused 11 at 57, that of
+-- segment 6 at 61; P4's is accepted under the empty list, and one with a date under both: each record has its own list.
+-- A list with an issuer twice or with 0 is 25, before 9 and 1 too, also with a Z.
+abbrev pub longIssuer : Issuer
+longIssuer = record { segment = 6; number = 33041260 }
+
+abbrev pub bothAgreed : List ℕ
+bothAgreed = keyOf sampleIssuer ∷ keyOf longIssuer ∷ []
+
+abbrev pub datedPayment : ℕ → ℕ → List ℕ
+datedPayment date received = paymentBy (builtOf sampleIssuer 7 0 (digitsOf 8 date ++ digitsOf 17 0)) received
+
+abbrev pub lists : Sample
+lists =
+    record {
+      steps =
+          taking (bothAgreed ++ bothAgreed) header ∷ taking (0 ∷ []) [] ∷ taking bothAgreed header
+          ∷ taking bothAgreed (payment 109) ∷ taking bothAgreed (paymentBy (builtOf longIssuer 7 0 (digitsOf 21 0)) 1)
+          ∷ taking bothAgreed (datedPayment 20190901 1) ∷ taking bothAgreed (datedPayment 20190931 1)
+          ∷ plain (payment 109) ∷ plain (datedPayment 20190901 1)
+          ∷ taking (bothAgreed ++ bothAgreed) (trailer 5 111) ∷ taking bothAgreed (trailer 5 111) ∷ [];
+      outcome =
+          oneLane
+          (refused 25 0 ∷ refused 25 0 ∷ accepted ∷ refused 11 57 ∷ refused 11 61 ∷ accepted ∷ refused 11 57 ∷ accepted
+          ∷ accepted ∷ refused 25 0 ∷ accepted ∷ [])
+          (tally 3 111);
+    }
+
 abbrev pub samples : List Sample
-samples = worked ∷ past ∷ again ∷ left ∷ astray ∷ empty ∷ ordered ∷ crowded ∷ versions ∷ lined ∷ bare ∷ []
+samples = worked ∷ past ∷ again ∷ left ∷ astray ∷ empty ∷ ordered ∷ crowded ∷ versions ∷ lined ∷ bare ∷ lists ∷ []
 
 -- Promise: each sample has its stated outcome.
 abbrev pub Hold : List Sample → Type 0
