@@ -13,12 +13,15 @@ use Rattle.answer.specs.declared.Answer.the-variants.{Accepted, Refused}
 use Rattle.answer.specs.Orders.{ifAccepted}
 use Rattle.answer.proofs.Refusals.{numbers-differ, zero-is-accepted}
 use Rattle.answer.proofs.Orders.{refusal-keeps}
-use Rattle.barcode.specs.Codes.{codeLength, digitAt, issuerEnd, barcodeAnswer, freeOf, shownFree}
+use Rattle.barcode.specs.Codes.{codeLength, digitAt, issuerEnd, freeOf}
+use Rattle.barcode.specs.Agreed.{barcodeCheck}
+use Rattle.barcode.specs.Shown.{shownFree}
+use Rattle.barcode.proofs.RoundTrips.{check-tells}
 use Rattle.barcode.proofs.Codes.{accepted-length}
 use Rattle.layout.specs.declared.MaybeRecord.{MaybeRecord}
 use Rattle.layout.specs.declared.MaybeRecord.the-variants.{Is, Other}
 use Rattle.layout.specs.Layouts.{rowAt, rowsOf, namedBy}
-use Rattle.record.specs.Records.{recordAnswer, fieldBytes}
+use Rattle.record.specs.Records.{recordCheck, fieldBytes}
 use Rattle.record.specs.Values.{fieldIn, shownField}
 use Rattle.writer.specs.declared.Stage.{Stage}
 use Rattle.writer.specs.declared.Stage.the-variants as stage
@@ -79,22 +82,22 @@ end-within : (t : Bool) → cond t 23 19 + 1 - 1 ≤ codeLength
 end-within true = omega arith
 end-within false = omega arith
 
-module _ (code : List ℕ) where
+module _ (agreed code : List ℕ) where
   abbrev free-if : Answer → List ℕ
   free-if a = ifAccepted a (freeOf code) []
 
   free-shown :
-      (a : Answer) → barcodeAnswer code ≡ a
+      (a : Answer) → barcodeCheck agreed code ≡ a
       → take (length (free-if a)) (drop (codeLength - length (free-if a)) code) ≡ free-if a
   free-shown Accepted h =
       let within = end-within (eqb (digitAt 2 code) 6) in
-      free-law (issuerEnd (digitAt 2 code) + 1 - 1) code within (accepted-length code h)
+      free-law (issuerEnd (digitAt 2 code) + 1 - 1) code within (accepted-length code (check-tells agreed code h .1))
   free-shown (Refused why place) h = refl
 
 pub free-part-is-shown : FreePartIsShown
 unfolding freePart
-free-part-is-shown code =
-    part-law (codeLength - length (shownFree code)) code (shownFree code) (free-shown code (barcodeAnswer code) refl)
+free-part-is-shown agreed code =
+    part-law (codeLength - length (shownFree agreed code)) code (shownFree agreed code) (free-shown agreed code (barcodeCheck agreed code) refl)
 
 module _ (row : ℕ) (rec : List ℕ) where
   abbrev start : ℕ
@@ -115,5 +118,5 @@ module _ (row : ℕ) (rec : List ℕ) where
 pub field-part-is-shown : FieldPartIsShown
 unfolding fieldPart
 field-part-is-shown t row rec =
-    let here = field-shown row rec (recordAnswer t rec) (namedBy (getD rec 0 0)) in
+    let here = field-shown row rec (recordCheck t rec) (namedBy (getD rec 0 0)) in
     part-law (rowAt row .first - 1) rec (shownField t row rec) here

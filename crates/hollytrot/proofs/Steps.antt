@@ -11,7 +11,9 @@ use Rattle.answer.specs.declared.Reason.{Reason}
 use Rattle.answer.specs.declared.Answer.{Answer}
 use Rattle.answer.specs.declared.Answer.the-variants.{Accepted, Refused}
 use Rattle.answer.specs.Orders.{ifAccepted}
-use Rattle.barcode.specs.Codes.{codeLength, digitAt, issuerEnd, barcodeAnswer, freeOf, shownFree}
+use Rattle.barcode.specs.Codes.{codeLength, digitAt, issuerEnd, freeOf}
+use Rattle.barcode.specs.Agreed.{barcodeCheck}
+use Rattle.barcode.specs.Shown.{shownFree}
 use Rattle.layout.specs.declared.Field.{Field}
 use Rattle.layout.specs.Layouts.{noField, table, rowAt}
 use Rattle.layout.proofs.Layouts.{row-lies}
@@ -40,8 +42,8 @@ free-few-of code Accepted =
     omega (arith, length-take (codeLength - start) (drop start code))
 free-few-of code (Refused why place) = omega arith
 
-pub free-few : (code : List ℕ) {free : List ℕ} → free ≡ shownFree code → length free ≤ codeLength
-free-few code e = rw e (free-few-of code (barcodeAnswer code))
+pub free-few : (agreed code : List ℕ) {free : List ℕ} → free ≡ shownFree agreed code → length free ≤ codeLength
+free-few agreed code e = rw e (free-few-of code (barcodeCheck agreed code))
 
 -- the first place of every row, also past the table, is at least 1
 first-in : (row : ℕ) (t : Bool) → ltb row (length table) ≡ t → 1 ≤ rowAt row .first
@@ -53,10 +55,10 @@ pub row-first : (row : ℕ) {shape : Field} → shape ≡ rowAt row → 1 ≤ sh
 row-first row e = rw e (first-in row (ltb row (length table)) refl)
 
 pub at-free :
-    (code : List ℕ) {free : List ℕ} {p : CPart}
-    → free ≡ shownFree code → p ≡ cPartOf (codeLength - length free) (length free) → p ≡ freePart code
+    (agreed code : List ℕ) {free : List ℕ} {p : CPart}
+    → free ≡ shownFree agreed code → p ≡ cPartOf (codeLength - length free) (length free) → p ≡ freePart agreed code
 unfolding freePart
-at-free code e h = h ∙ ap (λ x. cPartOf (codeLength - length x) (length x)) e
+at-free agreed code e h = h ∙ ap (λ x. cPartOf (codeLength - length x) (length x)) e
 
 pub at-field :
     (t : Terms) (row : ℕ) (rec : List ℕ) {field : List ℕ} {shape : Field} {p : CPart}

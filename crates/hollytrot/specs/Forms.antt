@@ -11,7 +11,8 @@ use Rattle.answer.specs.Orders.{ifAccepted}
 use Rattle.barcode.specs.declared.Fields.{Fields}
 use Rattle.barcode.specs.declared.Decoded.{Decoded}
 use Rattle.barcode.specs.declared.Decoded.the-variants as barcode
-use Rattle.barcode.specs.Codes.{codeLength, noFields, shownFree}
+use Rattle.barcode.specs.Codes.{codeLength}
+use Rattle.barcode.specs.Shown.{noFields, shownFree}
 use Rattle.layout.specs.declared.Record.the-variants as layout
 use Rattle.layout.specs.Layouts.{markOf, rowAt}
 use Rattle.kinds.specs.Terms.{Terms}
@@ -53,8 +54,8 @@ abbrev pub bytesIn : CPart → List ℕ → List ℕ
 bytesIn p bytes = take (p .length) (drop (p .from) bytes)
 
 -- the free field ends with the barcode
-unfoldable pub freePart : List ℕ → CPart
-freePart code = cPartOf (codeLength - length (shownFree code)) (length (shownFree code))
+unfoldable pub freePart : List ℕ → List ℕ → CPart
+freePart agreed code = cPartOf (codeLength - length (shownFree agreed code)) (length (shownFree agreed code))
 
 -- a field starts at the first place of its row
 unfoldable pub fieldPart : Terms → ℕ → List ℕ → CPart

@@ -4,7 +4,7 @@ use mathlib.Core.List.{List}
 use mathlib.Core.Path.{_≡_}
 use Rattle.answer.specs.declared.Answer.{Answer}
 use Rattle.answer.specs.declared.Answer.the-variants.{Accepted}
-use Rattle.barcode.specs.Codes.{shownFree}
+use Rattle.barcode.specs.Shown.{shownFree}
 use Rattle.kinds.specs.Terms.{Terms}
 use Rattle.record.specs.Values.{shownField}
 use Rattle.writer.specs.declared.Writer.{Writer}
@@ -27,7 +27,7 @@ RefusalKeepsCWriter =
 
 -- the parts are the bytes that barcode and record show
 abbrev pub FreePartIsShown : Type 0
-FreePartIsShown = (code : List ℕ) → bytesIn (freePart code) code ≡ shownFree code
+FreePartIsShown = (agreed code : List ℕ) → bytesIn (freePart agreed code) code ≡ shownFree agreed code
 
 abbrev pub FieldPartIsShown : Type 0
 FieldPartIsShown =

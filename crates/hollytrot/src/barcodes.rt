@@ -6,8 +6,9 @@ ghost use Rattle.modulus.specs.declared.Modulus.the-variants.{Ten, Eleven};
 ghost use Rattle.modulus.specs.Checks.{checkOf};
 ghost use Rattle.calendar.specs.Dates.{isDate, dateOf};
 ghost use Rattle.record.specs.Values.{dayOf};
-ghost use Rattle.barcode.specs.Codes as codes;
-ghost use Rattle.barcode.specs.Building.{buildAnswer, builtOf};
+ghost use Rattle.barcode.specs.Agreed.{keyOf, barcodeCheck};
+ghost use Rattle.barcode.specs.Shown.{decodedBarcode};
+ghost use Rattle.barcode.specs.Building.{buildCheck, builtOf};
 ghost use Rattle.line.specs.Lines as lines;
 ghost use Rattle.hollytrot.specs.Forms.{cAnswerOf, cDecodedOf, freePart};
 use crate::CAnswer;
@@ -18,29 +19,37 @@ use barcode::Issuer;
 use calendar::Date;
 use modulus::Modulus;
 
-// Accepted, or the barcode's first refusal. Any length; all but 44 bytes are refused.
+// The key by which an issuer is put on a list of agreed issuers; 0, which no list may have, for what is no issuer.
 #[no_mangle]
-pub extern "C" fn hollytrot_barcode_check(code: &[u8]) -> CAnswer
-    ensures { λ r. ⌜ r ≡ cAnswerOf (codes.barcodeAnswer (now (code .entry))) ⌝ }
+pub extern "C" fn hollytrot_issuer_key(issuer: Issuer) -> u64
+    ensures { λ r. ⌜ r ≡ keyOf issuer ⌝ }
 {
-    forms::c_answer(barcode::check(code))
+    barcode::key_of(issuer)
+}
+
+// Accepted, or the first refusal: that of the list, then the barcode's. Any length; all but 44 bytes are refused.
+#[no_mangle]
+pub extern "C" fn hollytrot_barcode_check(code: &[u8], agreed: &[u64]) -> CAnswer
+    ensures { λ r. ⌜ r ≡ cAnswerOf (barcodeCheck (now (agreed .entry)) (now (code .entry))) ⌝ }
+{
+    forms::c_answer(barcode::check(code, agreed))
 }
 
 // The same answer, with the fields of an accepted barcode.
 #[no_mangle]
-pub extern "C" fn hollytrot_barcode_decode(code: &[u8]) -> CDecoded
-    ensures { λ r. ⌜ r ≡ cDecodedOf (codes.decodedBarcode (now (code .entry))) ⌝ }
+pub extern "C" fn hollytrot_barcode_decode(code: &[u8], agreed: &[u64]) -> CDecoded
+    ensures { λ r. ⌜ r ≡ cDecodedOf (decodedBarcode (now (agreed .entry)) (now (code .entry))) ⌝ }
 {
-    forms::c_decoded(barcode::decode(code))
+    forms::c_decoded(barcode::decode(code, agreed))
 }
 
-// Where the free field is in the barcode: its last 25 bytes, in segment 6 its last 21. The empty part if the barcode is
-// refused.
+// Where the free field is in the barcode: its last 25 bytes, in segment 6 its last 21. The empty part if the barcode or
+// the list is refused.
 #[no_mangle]
-pub extern "C" fn hollytrot_barcode_free_field(code: &[u8]) -> CPart
-    ensures { λ r. ⌜ r ≡ freePart (now (code .entry)) ⌝ }
+pub extern "C" fn hollytrot_barcode_free_field(code: &[u8], agreed: &[u64]) -> CPart
+    ensures { λ r. ⌜ r ≡ freePart (now (agreed .entry)) (now (code .entry)) ⌝ }
 {
-    let free = barcode::free_field(code);
+    let free = barcode::free_field(code, agreed);
     let length = free.len();
     forms::c_part(barcode::LENGTH - length, length)
 }
@@ -53,58 +62,66 @@ pub extern "C" fn hollytrot_barcode_build(
     kind: u64,
     value: u64,
     free: &[u8],
+    agreed: &[u64],
     out: &mut [u8],
 ) -> CAnswer
     ensures answer { λ r.
-        ⌜ r ≡ cAnswerOf (buildAnswer (length (now (out .entry))) issuer kind value (now (free .entry))) ⌝ }
+        ⌜ r
+        ≡ cAnswerOf
+        (buildCheck (now (agreed .entry)) (length (now (out .entry))) issuer kind value (now (free .entry))) ⌝ }
     ensures bytes { λ _.
         ⌜ now (out .exit)
-        ≡ ifAccepted (buildAnswer (length (now (out .entry))) issuer kind value (now (free .entry)))
+        ≡ ifAccepted
+        (buildCheck (now (agreed .entry)) (length (now (out .entry))) issuer kind value (now (free .entry)))
         (builtOf issuer kind value (now (free .entry))) (now (out .entry)) ⌝ }
 {
-    forms::c_answer(barcode::builder::build(issuer, kind, value, free, out))
+    forms::c_answer(barcode::builder::build(issuer, kind, value, free, agreed, out))
 }
 
-// Accepted, or the typed line's first refusal. Any length; all but 48 bytes are refused.
+// Accepted, or the first refusal: that of the list, then the typed line's. Any length; all but 48 bytes are refused.
 #[no_mangle]
-pub extern "C" fn hollytrot_line_check(line: &[u8]) -> CAnswer
-    ensures { λ r. ⌜ r ≡ cAnswerOf (lines.lineAnswer (now (line .entry))) ⌝ }
+pub extern "C" fn hollytrot_line_check(line: &[u8], agreed: &[u64]) -> CAnswer
+    ensures { λ r. ⌜ r ≡ cAnswerOf (lines.lineCheck (now (agreed .entry)) (now (line .entry))) ⌝ }
 {
-    forms::c_answer(line::check(line))
+    forms::c_answer(line::check(line, agreed))
 }
 
 // The same answer, with the fields of an accepted line.
 #[no_mangle]
-pub extern "C" fn hollytrot_line_decode(line: &[u8]) -> CDecoded
-    ensures { λ r. ⌜ r ≡ cDecodedOf (lines.decodedLine (now (line .entry))) ⌝ }
+pub extern "C" fn hollytrot_line_decode(line: &[u8], agreed: &[u64]) -> CDecoded
+    ensures { λ r. ⌜ r ≡ cDecodedOf (lines.decodedLine (now (agreed .entry)) (now (line .entry))) ⌝ }
 {
-    forms::c_decoded(line::decode(line))
+    forms::c_decoded(line::decode(line, agreed))
 }
 
 // Writes the barcode of a line into `out`, 44 bytes. A refusal leaves `out` as it was.
 #[no_mangle]
-pub extern "C" fn hollytrot_line_to_barcode(line: &[u8], out: &mut [u8]) -> CAnswer
+pub extern "C" fn hollytrot_line_to_barcode(line: &[u8], agreed: &[u64], out: &mut [u8]) -> CAnswer
     ensures answer { λ r.
-        ⌜ r ≡ cAnswerOf (lines.toCodeAnswer (length (now (out .entry))) (now (line .entry))) ⌝ }
+        ⌜ r ≡ cAnswerOf (lines.toCodeCheck (now (agreed .entry)) (length (now (out .entry))) (now (line .entry))) ⌝ }
     ensures bytes { λ _.
         ⌜ now (out .exit)
-        ≡ ifAccepted (lines.toCodeAnswer (length (now (out .entry))) (now (line .entry)))
+        ≡ ifAccepted (lines.toCodeCheck (now (agreed .entry)) (length (now (out .entry))) (now (line .entry)))
         (lines.codeOf (now (line .entry))) (now (out .entry)) ⌝ }
 {
-    forms::c_answer(line::to_barcode(line, out))
+    forms::c_answer(line::to_barcode(line, agreed, out))
 }
 
 // Writes the typed line of a barcode into `out`, 48 bytes. A refusal leaves `out` as it was.
 #[no_mangle]
-pub extern "C" fn hollytrot_line_from_barcode(code: &[u8], out: &mut [u8]) -> CAnswer
+pub extern "C" fn hollytrot_line_from_barcode(
+    code: &[u8],
+    agreed: &[u64],
+    out: &mut [u8],
+) -> CAnswer
     ensures answer { λ r.
-        ⌜ r ≡ cAnswerOf (lines.toLineAnswer (length (now (out .entry))) (now (code .entry))) ⌝ }
+        ⌜ r ≡ cAnswerOf (lines.toLineCheck (now (agreed .entry)) (length (now (out .entry))) (now (code .entry))) ⌝ }
     ensures bytes { λ _.
         ⌜ now (out .exit)
-        ≡ ifAccepted (lines.toLineAnswer (length (now (out .entry))) (now (code .entry)))
+        ≡ ifAccepted (lines.toLineCheck (now (agreed .entry)) (length (now (out .entry))) (now (code .entry)))
         (lines.lineOf (now (code .entry))) (now (out .entry)) ⌝ }
 {
-    forms::c_answer(line::from_barcode(code, out))
+    forms::c_answer(line::from_barcode(code, agreed, out))
 }
 
 // The date that eight digits, YYYYMMDD, are; all zeros if they are no date or are not eight digits.

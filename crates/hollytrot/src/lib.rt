@@ -24,6 +24,7 @@ pub use barcodes::hollytrot_check_eleven;
 pub use barcodes::hollytrot_check_ten;
 pub use barcodes::hollytrot_date_check;
 pub use barcodes::hollytrot_date_read;
+pub use barcodes::hollytrot_issuer_key;
 pub use barcodes::hollytrot_line_check;
 pub use barcodes::hollytrot_line_decode;
 pub use barcodes::hollytrot_line_from_barcode;

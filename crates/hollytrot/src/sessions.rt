@@ -26,24 +26,34 @@ pub extern "C" fn hollytrot_session_new() -> Session
     Session::new()
 }
 
-// Takes one record, of any bytes and any length, with CR and LF behind it in a lined file. A refusal returns the given
-// session.
+// Takes one record, of any bytes and any length, with CR and LF behind it in a lined file. A refusal, first of all that
+// of the list, returns the given session. The list is that of this record alone.
 #[no_mangle]
-pub extern "C" fn hollytrot_session_take(session: Session, rec: &[u8]) -> CTakeResult
-    ensures { λ r. ⌜ r ≡ cTakeResultOf (takeOf session (now (rec .entry))) ⌝ }
+pub extern "C" fn hollytrot_session_take(
+    session: Session,
+    rec: &[u8],
+    agreed: &[u64],
+) -> CTakeResult
+    ensures { λ r. ⌜ r ≡ cTakeResultOf (takeOf (now (agreed .entry)) session (now (rec .entry))) ⌝ }
 {
-    c_take_result(session.take(rec))
+    c_take_result(session.take(rec, agreed))
 }
 
 // Takes records that follow each other, each with CR and LF behind it in a lined file, up to the first refused one;
 // those before it are kept. If `more` bytes are to follow, nothing is taken once fewer than 152 are left: the caller
 // puts them in front of what follows. Else a rest of fewer than 150 bytes is refused 1, and one of 150 or 151 in a
-// lined file is a record without its line end. No bytes are accepted and change nothing.
+// lined file is a record without its line end. No bytes are accepted and change nothing. The list is judged once: under
+// a wrong one nothing is taken, whatever the bytes.
 #[no_mangle]
-pub extern "C" fn hollytrot_session_run(session: Session, bytes: &[u8], more: bool) -> CRunResult
-    ensures { λ r. ⌜ r ≡ cRunResultOf (runOf session more (now (bytes .entry))) ⌝ }
+pub extern "C" fn hollytrot_session_run(
+    session: Session,
+    bytes: &[u8],
+    more: bool,
+    agreed: &[u64],
+) -> CRunResult
+    ensures { λ r. ⌜ r ≡ cRunResultOf (runOf (now (agreed .entry)) session more (now (bytes .entry))) ⌝ }
 {
-    let ran = session.run(bytes, more);
+    let ran = session.run(bytes, more, agreed);
     let answer = ran.answer;
     let after = ran.session;
     CRunResult {

@@ -41,30 +41,33 @@ pub extern "C" fn hollytrot_writer_header(
     c_write_result(writer, w.header(fields, out))
 }
 
-// Writes a G into `out`, as long as the header's, from its 121 field bytes and two amounts in centavos. A refusal
-// returns the given writer and leaves `out` as it was.
+// Writes a G into `out`, as long as the header's, from its 121 field bytes and two amounts in centavos. A refusal,
+// first of all that of the list, returns the given writer and leaves `out` as it was.
 #[no_mangle]
 pub extern "C" fn hollytrot_writer_payment(
     writer: CWriter,
     fields: &[u8],
     received: u64,
     tariff: u64,
+    agreed: &[u64],
     out: &mut [u8],
 ) -> CWriteResult
     ensures answer { λ r.
         ⌜ r
         ≡ cWriteResultOf writer
-        (writers.paymentWritten (writerOf writer) (now (fields .entry)) received tariff (length (now (out .entry)))) ⌝ }
+        (writers.paymentWritten (now (agreed .entry)) (writerOf writer) (now (fields .entry)) received tariff
+        (length (now (out .entry)))) ⌝ }
     ensures bytes { λ _.
         ⌜ now (out .exit)
         ≡ ifAccepted
-        (writers.paymentAnswer (writerOf writer) (now (fields .entry)) received tariff (length (now (out .entry))))
+        (writers.paymentCheck (now (agreed .entry)) (writerOf writer) (now (fields .entry)) received tariff
+        (length (now (out .entry))))
         (inForm (writers.isLinedBuffer (length (now (out .entry))))
         (writers.paymentBytes (now (fields .entry)) received tariff))
         (now (out .entry)) ⌝ }
 {
     let w = forms::writer_from_c(writer);
-    c_write_result(writer, w.payment(fields, received, tariff, out))
+    c_write_result(writer, w.payment(fields, received, tariff, agreed, out))
 }
 
 // Writes the Z into `out`, as long as the header's, with the file's own count and total, and closes the writer. A

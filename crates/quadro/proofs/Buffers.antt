@@ -16,11 +16,13 @@ use Rattle.layout.specs.declared.MaybeRecord.{MaybeRecord}
 use Rattle.layout.specs.declared.MaybeRecord.the-variants.{Is, Other}
 use Rattle.layout.specs.declared.Record.the-variants.{Header, Payment, Trailer}
 use Rattle.layout.specs.Layouts.{namedBy}
+use Rattle.barcode.proofs.Lists.{empty-is-right}
 use Rattle.session.specs.declared.Session.{Session}
 use Rattle.session.specs.declared.TakeResult.{TakeResult}
 use Rattle.session.specs.declared.RunResult.{RunResult}
-use Rattle.session.specs.Sessions.{takeAnswer, nextSession, takeOf, finishOf}
+use Rattle.session.specs.Sessions.{takeAnswer, nextSession, takeUnder, finishOf}
 use Rattle.session.specs.Runs.{pieceLength, pieceOf, leastLeft, piecesUpTo, piecesOf, filesClosed, addCounts, stoppedIfRefused, runAll, runOf}
+use Rattle.session.proofs.Feeding.{run-right}
 use Rattle.day.specs.Days.{runBufferOf, endedOf}
 use Rattle.day.proofs.Inputs.{taken-within}
 use Rattle.quadro.specs.declared.BufferRead.{BufferRead}
@@ -43,20 +45,20 @@ one-more :
 one-more Accepted s closed size n next h c = (omega arith, omega arith)
 one-more (Refused why place) s closed size n next h c = (omega arith, omega arith)
 
-all-few : (s : Session) (rs : List (List ℕ)) → Few (length rs) (runAll s rs)
-all-few s [] = (omega arith, omega arith)
-all-few s (r ∷ rs) =
+all-few : (agreed : List ℕ) (s : Session) (rs : List (List ℕ)) → Few (length rs) (runAll agreed s rs)
+all-few agreed s [] = (omega arith, omega arith)
+all-few agreed s (r ∷ rs) =
     let named = namedBy (getD r 0 0) in
-    let next = nextSession s r in
-    one-more (takeAnswer s r) s (filesClosed named) (length r) (length rs) (runAll next rs) (closed-few named) (all-few next rs)
+    let next = nextSession agreed s r in
+    one-more (takeAnswer agreed s r) s (filesClosed named) (length r) (length rs) (runAll agreed next rs) (closed-few named) (all-few agreed next rs)
 
-pieces-few : (n : ℕ) (s : Session) (more : Bool) (bytes : List ℕ) → length (piecesUpTo n s more bytes) ≤ n
-pieces-few zero s more bytes = omega arith
-pieces-few (suc n) s more bytes =
-    go (ltb (length bytes) (leastLeft more)) (piecesUpTo n next more left) (pieces-few n next more left)
+pieces-few : (agreed : List ℕ) (n : ℕ) (s : Session) (more : Bool) (bytes : List ℕ) → length (piecesUpTo agreed n s more bytes) ≤ n
+pieces-few agreed zero s more bytes = omega arith
+pieces-few agreed (suc n) s more bytes =
+    go (ltb (length bytes) (leastLeft more)) (piecesUpTo agreed n next more left) (pieces-few agreed n next more left)
   where
     next : Session
-    next = takeOf s (pieceOf s bytes) .session
+    next = takeUnder agreed s (pieceOf s bytes) .session
 
     left : List ℕ
     left = drop (pieceLength s bytes) bytes
@@ -65,17 +67,19 @@ pieces-few (suc n) s more bytes =
     go true later h = omega arith
     go false later h = omega arith
 
-run-few : (s : Session) (more : Bool) (bytes : List ℕ) → Counted (length bytes) (runOf s more bytes)
+run-few : (s : Session) (more : Bool) (bytes : List ℕ) → Counted (length bytes) (runOf [] s more bytes)
 run-few s more bytes =
-    let all = all-few s (piecesOf s more bytes) in
-    let few = pieces-few (length bytes) s more bytes in
-    (omega (arith, all .0), omega (arith, all .1), taken-within s more bytes)
+    let all = all-few [] s (piecesOf [] s more bytes) in
+    let few = pieces-few [] (length bytes) s more bytes in
+    let same = run-right [] s more bytes empty-is-right in
+    let within = taken-within s more bytes in
+    rw same (omega (arith, all .0), omega (arith, all .1), rw same at within)
 
 -- What the program's steps return.
 
 -- the first n bytes of a buffer
 pub few-run :
-    (s : Session) (more : Bool) (buf : List ℕ) (n : ℕ) {r : RunResult} → n ≤ length buf → r ≡ runOf s more (take n buf)
+    (s : Session) (more : Bool) (buf : List ℕ) (n : ℕ) {r : RunResult} → n ≤ length buf → r ≡ runOf [] s more (take n buf)
     → Counted n r
 few-run s more buf n h e =
     let few = run-few s more (take n buf) in
@@ -83,7 +87,7 @@ few-run s more buf n h e =
     rw e (omega (arith, few .0), omega (arith, few .1), omega (arith, few .2))
 
 pub run-behind :
-    (day : RunResult) (more : Bool) (bytes : List ℕ) {r : RunResult} → r ≡ runOf (day .session) more bytes
+    (day : RunResult) (more : Bool) (bytes : List ℕ) {r : RunResult} → r ≡ runOf [] (day .session) more bytes
     → addCounts (day .records) (day .files) (day .bytes) r ≡ runBufferOf day more bytes
 run-behind day more bytes e = ap (addCounts (day .records) (day .files) (day .bytes)) e
 

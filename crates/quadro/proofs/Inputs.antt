@@ -12,6 +12,7 @@ use Rattle.answer.specs.declared.Answer.{Answer}
 use Rattle.answer.specs.declared.Answer.the-variants.{Accepted, Refused}
 use Rattle.answer.specs.Refusals.{answerNumber, answerPlace}
 use Rattle.answer.proofs.Orders.{not-both}
+use Rattle.barcode.specs.Agreed.{listAnswer}
 use Rattle.session.specs.declared.RunResult.{RunResult}
 use Rattle.session.specs.Runs.{runOf}
 use Rattle.session.proofs.Feeding.{run-leaves-few}
@@ -79,6 +80,7 @@ pub record Reached (start : RunResult) (turns : ℕ) (t : TurnResult) (buf : Lis
 pub reached-none :
     (start : RunResult) (turns : ℕ) (buf : List ℕ) → start .answer ≡ Accepted
     → inputLimit ≤ turns * (bufferLength - mostKept) → Reached start turns (turnWith turn.More start 0) buf
+unfolding listAnswer
 reached-none start turns buf a l =
     record {
       input = [];
@@ -111,7 +113,7 @@ module _ {start : RunResult} {turns : ℕ} {last next : TurnResult} {buf after :
       let s = last .day .session in
       let m = more-ran (last .day) (length left) (ran .bytes) next turned h in
       let kept : take (next .kept) after ≡ leftOf s (ran .bytes) = ran .moved .0 h in
-      let few = run-leaves-few s true (ran .bytes) (m .1) in
+      let few = run-leaves-few [] s true (ran .bytes) (m .1) in
       let count : next .kept ≡ length (leftOf s (ran .bytes)) = ap (λ (t : TurnResult). t .kept) (m .0) in
       let fed-next = fed-on (r .fed) new (ran .bytes) left-first (ap dayOf (m .0)) (ap answerOf (ap dayOf (m .0)) ∙ m .1) in
       record {
@@ -119,7 +121,7 @@ module _ {start : RunResult} {turns : ℕ} {last next : TurnResult} {buf after :
         fed = subst (λ (l : List ℕ). Fed start (r .input ++ new) (next .day) l) (sym kept) fed-next;
         more = ap endOf (m .0);
         size = ap length kept ∙ sym count;
-        few = omega (arith, few, count, length-drop (runOf s true (ran .bytes) .bytes) (ran .bytes));
+        few = omega (arith, few, count, length-drop (runOf [] s true (ran .bytes) .bytes) (ran .bytes));
         long =
             omega
             (arith, n, r .long, r .few, r .size, turned .whole, length-append (r .input) new, length-drop (length left) (ran .bytes));

@@ -1,7 +1,7 @@
 -- One turn: what a full buffer gives, and which turns have more. Assumes nothing.
 use Prim.Native.Nat.{ℕ, _-_, _≤_}
 use mathlib.Core.Bool.{true, false}
-use mathlib.Core.List.{List}
+use mathlib.Core.List.{List, []}
 use mathlib.Core.Path.{_≡_, refl, sym, ap, ap₂, subst, _∙_}
 use native.Mathlib.Omega.{arith}
 use lib.ListN.{length, take, drop, length-drop}
@@ -37,7 +37,7 @@ module _ (day : RunResult) (bytes : List ℕ) {next : RunResult}
   abbrev from : ℕ
   from = next .bytes - day .bytes
 
-  size : from ≡ runOf (day .session) true bytes .bytes
+  size : from ≡ runOf [] (day .session) true bytes .bytes
   size = omega (arith, ap (λ (d : RunResult). d .bytes) ran-whole)
 
   -- the bytes that were taken are the buffer's

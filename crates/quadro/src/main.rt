@@ -72,14 +72,16 @@ fn fresh_day() -> RunResult
     }
 }
 
-// The day after the first n bytes of a buffer; more bytes may follow them, or they are the last.
+// The day after the first n bytes of a buffer, with no agreed issuers; more bytes may follow them, or they are the
+// last.
 fn run_buffer(day: RunResult, buf: &[u8], n: usize, more: bool) -> RunResult
     requires { ⌜ Counted mostCounted day × (n ≤ bufferLength) × (n ≤ length (now buf)) ⌝ }
     ensures { λ r. ⌜ r ≡ runBufferOf day more (take n (now (buf .entry))) ⌝ }
     ensures bounded { λ r. ⌜ Grown day r ⌝ }
 {
     let before = day.session;
-    let ran = before.run(&buf[..n], more);
+    let none = [0u64; 0];
+    let ran = before.run(&buf[..n], more, &none);
     let answer = ran.answer;
     let session = ran.session;
     RunResult {

@@ -13,29 +13,32 @@ slice-aggregate-run c =
     let a = c .before .before .before .args in
     sym (length-take-le (a .n) (a .buf .now) (omega arith))
 
+slice-aggregate-run-2 : tie.Need-slice-aggregate-run-2
+slice-aggregate-run-2 c = search needs
+
 run-requires : tie.Need-run-requires
 run-requires c κs = search needs
 
-add-t11 : tie.Need-add-t11
-add-t11 c =
+add-t14 : tie.Need-add-t14
+add-t14 c =
     let ran = c .before .before .before in
-    let start = ran .before .before .before .before in
+    let start = ran .before .before .before .before .before in
     let a = start .args in
     let few = few-run (a .day .session) (a .more) (a .buf .now) (a .n) (start .pre .2) (ran .run .ensures) in
     omega (arith, few .0, start .pre .0 .0, start .pre .1)
 
-add-t12 : tie.Need-add-t12
-add-t12 c =
+add-t15 : tie.Need-add-t15
+add-t15 c =
     let ran = c .before .before .before .before .before in
-    let start = ran .before .before .before .before in
+    let start = ran .before .before .before .before .before in
     let a = start .args in
     let few = few-run (a .day .session) (a .more) (a .buf .now) (a .n) (start .pre .2) (ran .run .ensures) in
     omega (arith, few .1, start .pre .0 .1, start .pre .1)
 
-add-t13 : tie.Need-add-t13
-add-t13 c =
+add-t16 : tie.Need-add-t16
+add-t16 c =
     let ran = c .before .before .before .before .before .before .before in
-    let start = ran .before .before .before .before in
+    let start = ran .before .before .before .before .before in
     let a = start .args in
     let few = few-run (a .day .session) (a .more) (a .buf .now) (a .n) (start .pre .2) (ran .run .ensures) in
     omega (arith, few .2, start .pre .0 .2, start .pre .1)
@@ -43,7 +46,7 @@ add-t13 c =
 returns : tie.Need-returns
 returns c =
     let ran = c .before .before .before .before .before .before .before in
-    let start = ran .before .before .before .before in
+    let start = ran .before .before .before .before .before in
     let a = start .args in
     let made = run-behind (a .day) (a .more) (take (a .n) (a .buf .now)) (ran .run .ensures) in
     let few = few-run (a .day .session) (a .more) (a .buf .now) (a .n) (start .pre .2) (ran .run .ensures) in
@@ -58,4 +61,4 @@ returns c =
 
 pub run-buffer-spec : {M : Type 1} → statement M
 run-buffer-spec =
-    tie.close (tie.spec slice-aggregate-run run-requires add-t11 add-t12 add-t13 returns)
+    tie.close (tie.spec slice-aggregate-run slice-aggregate-run-2 run-requires add-t14 add-t15 add-t16 returns)

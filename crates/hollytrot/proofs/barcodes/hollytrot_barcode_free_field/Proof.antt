@@ -9,7 +9,7 @@ free-field-requires : tie.Need-free-field-requires
 free-field-requires c κs = search needs
 
 sub-c-part : tie.Need-sub-c-part
-sub-c-part c = omega (arith, free-few (c .before .before .args .code .now) (c .free-field .ensures))
+sub-c-part c = let a = c .before .before .before .args in omega (arith, free-few (a .agreed .now) (a .code .now) (c .free-field .ensures))
 
 c-part-requires : tie.Need-c-part-requires
 c-part-requires c κs = search needs
@@ -17,7 +17,8 @@ c-part-requires c κs = search needs
 returns : tie.Need-returns
 returns c =
     let free = c .before in
-    at-free (free .before .before .args .code .now) (free .free-field .ensures) (c .c-part .ensures)
+    let a = free .before .before .before .args in
+    at-free (a .agreed .now) (a .code .now) (free .free-field .ensures) (c .c-part .ensures)
 
 pub hollytrot-barcode-free-field-spec : {M : Type 1} → statement M
 hollytrot-barcode-free-field-spec =

@@ -12,7 +12,7 @@ row-requires : tie.Need-row-requires
 row-requires c κs = search needs
 
 sub-c-part : tie.Need-sub-c-part
-sub-c-part c = row-first (c .before .before .before .before .args .row) (c .before .row .ensures)
+sub-c-part c = row-first (c .before .before .before .before .before .args .row) (c .before .row .ensures)
 
 c-part-requires : tie.Need-c-part-requires
 c-part-requires c κs = search needs
@@ -21,8 +21,8 @@ returns : tie.Need-returns
 returns c =
     let shape = c .before .before in
     let shown = shape .before in
-    let a = shown .before .before .args in
-    at-field (told (a .version)) (a .row) (a .rec .now) (shown .field .ensures) (shape .row .ensures) (c .c-part .ensures)
+    let a = shown .before .before .before .args in
+    at-field (told (a .version) (a .agreed .now)) (a .row) (a .rec .now) (shown .field .ensures) (shape .row .ensures) (c .c-part .ensures)
 
 pub hollytrot-record-field-spec : {M : Type 1} → statement M
 hollytrot-record-field-spec =

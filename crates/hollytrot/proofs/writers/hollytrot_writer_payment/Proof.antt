@@ -25,10 +25,10 @@ returns : tie.Need-returns
 returns c =
     let call = c .before .before .before in
     let given = call .before .before in
-    let a = given .before .before .before .args in
+    let a = given .before .before .before .before .args in
     let fields = a .fields .now in
     let out = a .out .now in
-    let result : Writer → WriteResult = λ w. paymentWritten w fields (a .received) (a .tariff) (length out) in
+    let result : Writer → WriteResult = λ w. paymentWritten (a .agreed .now) w fields (a .received) (a .tariff) (length out) in
     let of = written result (λ w. inForm (isLinedBuffer (length out)) (paymentBytes fields (a .received) (a .tariff))) (a .writer) out in
     let e = call .payment .ensures in
     of (given .writer-from-c .ensures) (e .0) (e .1) (c .c-write-result .ensures)
