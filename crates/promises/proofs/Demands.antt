@@ -3,14 +3,19 @@ use Rattle.answer.proofs.Refusals.{numbers-differ, twenty-is-retired, zero-is-a
 use Rattle.answer.proofs.Orders.{then-refuses, first-refuses}
 use Rattle.decimal.proofs.Bytes.{each-refuses}
 use Rattle.modulus.proofs.Sums.{rule-is-one-digit, check-is-one-digit, check-is-a-digit}
-use Rattle.barcode.proofs.RoundTrips.{decoded-answers, fields-are-its-places, built-is-read}
-use Rattle.barcode.proofs.RoundTrips.{code-is-its-fields}
-use Rattle.barcode.proofs.Building.{fields-within-ranges-build}
-use Rattle.line.proofs.RoundTrips.{line-is-boxes-and-code, fields-give-a-line}
-use Rattle.line.proofs.RoundTrips.{only-seven-behind-boxes, decoded-line-answers}
+use Rattle.barcode.proofs.Lists.{keys-name-issuers, one-list-refusal, empty-list-is-right, due-is-asked}
+use Rattle.barcode.proofs.Lists.{due-is-asked-last, accepted-or-no-due-date}
+use Rattle.barcode.proofs.RoundTrips.{decoded-answers, due-is-shown, fields-are-its-places, built-is-read}
+use Rattle.barcode.proofs.RoundTrips.{fields-within-ranges-build, code-is-its-fields}
+use Rattle.line.proofs.Boxes.{line-is-boxes-and-code, only-seven-behind-boxes}
+use Rattle.line.proofs.UnderLists.{decoded-line-answers, accepted-is-boxes-and-code, due-of-line-is-asked}
+use Rattle.line.proofs.UnderLists.{due-of-line-is-shown, line-accepted-or-no-due-date, no-due-date-passes-checks}
+use Rattle.line.proofs.UnderLists.{empty-list-asks-nothing}
 use Rattle.line.proofs.RoundTrips.{code-to-line-and-back, line-to-code-and-back, line-is-its-fields}
+use Rattle.line.proofs.RoundTrips.{fields-give-a-line}
 use Rattle.layout.proofs.Layouts.{fields-cover, record-is-its-fields, mark-names, given-lengths}
 use Rattle.record.proofs.Shown.{decode-answers, right-fields-are-accepted, fields-are-their-places}
+use Rattle.record.proofs.Shown.{due-of-record-is-asked, due-of-record-is-shown}
 use Rattle.record.proofs.Shown.{headers-name-a-version, other-records-ignore-terms}
 use Rattle.record.proofs.Shown.{payments-need-a-version, four-is-within-six}
 use Rattle.kinds.proofs.VersionLaws.{versions-are-two-texts, other-kinds-ignore-terms}
@@ -31,7 +36,10 @@ use Rattle.typos.proofs.Pieces.{boxes-are-numbered}
 use Rattle.typos.proofs.OneTen.{one-changed-digit-is-refused}
 use Rattle.typos.proofs.Exchange.{exchange-of-neighbours}
 use Rattle.typos.proofs.OneEleven.{one-changed-digit-under-eleven}
+use Rattle.typos.proofs.UnderLists.{accepted-by-checks, one-changed-digit-under-a-list, exchange-under-a-list}
+use Rattle.typos.proofs.UnderLists.{one-changed-digit-under-eleven-and-a-list}
 use Rattle.typos.proofs.Samples.{directions-may-differ, borders-hold, segment-typo-passes, kind-typo-passes}
+use Rattle.typos.proofs.Samples.{dated-exchange-is-refused, dated-change-is-refused, segment-typo-meets-an-agreement}
 use Rattle.ledger.proofs.Records.{lane-is-the-sessions, equal-is-the-boards, issuers-are-the-lanes}
 use Rattle.ledger.proofs.Records.{limits-are-the-boards}
 use Rattle.ledger.proofs.Agreement.{session-agrees, answers-are-the-ledgers, next-answer-is-the-ledgers}
@@ -40,7 +48,8 @@ use Rattle.ledger.proofs.Sessions.{abandon-keeps-board, abandon-drops-file, aba
 use Rattle.ledger.proofs.Sessions.{finish-answers, finish-keeps-session, payments-taken-under-a-version}
 use Rattle.ledger.proofs.Shown.{lanes-are-the-payments, lanes-in-order, each-lane-is-exact, no-issuer-has-two-lanes}
 use Rattle.ledger.proofs.Shown.{sums-are-the-records, totals-are-the-records, within-limits}
-use Rattle.session.proofs.Feeding.{run-is-its-takes, run-leaves-few, feeding-is-one-run}
+use Rattle.session.proofs.Feeding.{run-is-its-takes, wrong-list-takes-nothing, run-leaves-few}
+use Rattle.session.proofs.Feeding.{feeding-is-one-run}
 use Rattle.ledger.proofs.Runs.{run-is-the-ledgers}
 use Rattle.ledger.proofs.Calls.{calls-agree, replies-are-the-ledgers, calls-are-steps}
 use Rattle.ledger.proofs.LedgerFiles.{ledger-files-are-whole, open-files-have-a-version}
@@ -59,6 +68,7 @@ use Rattle.promises.proofs.Refusals.{refusals-change-nothing}
 use Rattle.promises.proofs.Samples.{samples-hold, p5-is-an-exchange, p6-is-a-change, p9-is-a-change}
 use Rattle.promises.proofs.Samples.{box-alone-is-refused}
 use Rattle.promises.proofs.Shown.{refusals-point-at-places, records-show-their-places}
+use Rattle.promises.proofs.WrongLists.{wrong-lists-are-first}
 
 pub demand-1 : Demand1
 demand-1 =
@@ -69,6 +79,8 @@ demand-1 =
       places = refusals-point-at-places;
       checks = (rule-is-one-digit, check-is-one-digit, check-is-a-digit);
       retired = twenty-is-retired;
+      lists = (one-list-refusal, empty-list-is-right, empty-list-asks-nothing, keys-name-issuers);
+      wrongLists = (wrong-lists-are-first, wrong-list-takes-nothing);
       order = then-refuses;
       row = first-refuses;
       boxes = first-refuses;
@@ -103,8 +115,10 @@ demand-2 =
         payments-written-under-a-version,
       );
       forms = (line-end-is-cr-and-lf, fitting-is-in-form, forms-agree, only-ended-records);
+      agreed = (due-is-asked, due-is-asked-last, due-of-line-is-asked, due-of-record-is-asked);
+      due = (due-is-shown, due-of-line-is-shown, due-of-record-is-shown);
       codes = (decoded-answers, fields-are-its-places, built-is-read);
-      lines = (decoded-line-answers, line-is-boxes-and-code, fields-give-a-line);
+      lines = (decoded-line-answers, line-is-boxes-and-code, accepted-is-boxes-and-code, fields-give-a-line);
       records = (
         decode-answers,
         records-show-their-places,
@@ -151,6 +165,11 @@ demand-3 =
       changed = one-changed-digit-is-refused;
       exchanged = exchange-of-neighbours;
       changedEleven = one-changed-digit-under-eleven;
+      acceptedUnder = (accepted-by-checks, accepted-or-no-due-date, line-accepted-or-no-due-date, no-due-date-passes-checks);
+      changedUnder = one-changed-digit-under-a-list;
+      exchangedUnder = exchange-under-a-list;
+      changedElevenUnder = one-changed-digit-under-eleven-and-a-list;
+      dated = (dated-exchange-is-refused, dated-change-is-refused, segment-typo-meets-an-agreement);
       realRefused = (p6-is-a-change, box-alone-is-refused);
       real = (p5-is-an-exchange, p9-is-a-change, directions-may-differ, borders-hold);
       beyond = (segment-typo-passes, kind-typo-passes);

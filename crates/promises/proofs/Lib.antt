@@ -5,3 +5,4 @@ pub mod OneOutcome
 pub mod Refusals
 pub mod Samples
 pub mod Shown
+pub mod WrongLists

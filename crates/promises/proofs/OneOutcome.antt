@@ -101,10 +101,10 @@ of-modulus : outcomes.ModulusOutcomes
 of-modulus = search value
 
 of-barcode : outcomes.BarcodeOutcomes
-of-barcode = search (value, answered 4 0)
+of-barcode = search (value, answered 5 0)
 
 of-line : outcomes.LineOutcomes
-of-line = search (value, answered 1 0)
+of-line = search (value, answered 2 0)
 
 of-layout : outcomes.LayoutOutcomes
 of-layout = search value
@@ -116,7 +116,7 @@ of-record : outcomes.RecordOutcomes
 of-record = search value
 
 of-fields : outcomes.FieldsOutcomes
-of-fields = search (answered 2 0, answered 5 0)
+of-fields = search (answered 3 0, answered 6 0)
 
 of-file : outcomes.FileOutcomes
 of-file = search value
@@ -128,13 +128,16 @@ of-session : outcomes.SessionOutcomes
 of-session = search value
 
 of-writer : outcomes.WriterOutcomes
-of-writer = search (value, written 1 0, written 2 0, written 4 0)
+of-writer = search (value, written 1 0, written 2 0, written 5 0)
 
 of-page : outcomes.PageOutcomes
 of-page = search (fixed-bounded 5 0)
 
 of-hollytrot : outcomes.HollytrotOutcomes
-of-hollytrot = search (value, fixed 1 0, fixed 2 0, fixed 4 0)
+of-hollytrot = search (value, fixed 2 0, fixed 3 0, fixed 4 0, fixed 5 0)
+
+of-hollytrot-states : outcomes.HollytrotStateOutcomes
+of-hollytrot-states = search (value, fixed 1 0, fixed 2 0, fixed 5 0)
 
 pub one-outcome : OneOutcome
 one-outcome =
@@ -155,4 +158,5 @@ one-outcome =
       of-writer,
       of-page,
       of-hollytrot,
+      of-hollytrot-states,
     )

@@ -17,7 +17,7 @@ use Rattle.hollytrot.specs.declared.CAnswer.{CAnswer}
 use Rattle.hollytrot.specs.declared.CWriter.{CWriter}
 use Rattle.hollytrot.specs.declared.CWriteResult.{CWriteResult}
 use Rattle.hollytrot.specs.Forms.{cAnswerOf}
-use Rattle.promises.specs.Refusals.{RefusalsChangeNothing, first, second, fifth}
+use Rattle.promises.specs.Refusals.{RefusalsChangeNothing, first, second, third, fifth}
 use Rattle.promises.proofs.Clauses.{Gives, clauses, by-one, by-two, by-bounded}
 
 -- a refusal keeps the old
@@ -80,6 +80,7 @@ refusals-change-nothing =
       line·from_barcode = search buffer;
       fields·join = search buffer;
       fields·make = search buffer;
+      fields·judged·make = search buffer;
       file·File·take = λ w κs given g r left. by-one w _ _ (given-by (λ t. t .answer) (λ t. t .file) _ r _ _ refl);
       board·Slot·post = λ w κs given g r left. by-one w _ _ (given-by (λ t. t .answer) (λ t. t .slot) _ r _ _ refl);
       board·Board·post = λ w κs given g r left. by-one w _ _ (given-by (λ t. t .answer) (λ t. t .board) _ r _ _ refl);
@@ -96,7 +97,7 @@ refusals-change-nothing =
       hollytrot·hollytrot_line_from_barcode = search exported-buffer;
       «hollytrot·hollytrot_record_join» = search exported-buffer;
       hollytrot·hollytrot_session_take = λ w κs given g r left.
-          let a = takeOf (first given) (now (second given)) .answer in
+          let a = takeOf (now (third given)) (first given) (now (second given)) .answer in
           by-one w _ _ (λ p not.
           stays a _ _ _ (ap (λ t. t .session) p) (refused a (r .answer) (ap (λ t. t .answer) p) not));
       hollytrot·hollytrot_session_finish = λ w κs given g r left. by-one w _ _ (λ p not. ap (λ t. t .session) p);

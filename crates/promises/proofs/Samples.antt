@@ -13,9 +13,10 @@ use Rattle.calendar.specs.Dates.{isLeap, daysIn, isDate, dateOf}
 use Rattle.modulus.specs.declared.Modulus.the-variants.{Eleven}
 use Rattle.modulus.specs.Checks.{addedBy, termOf, digitOfRemainder, exchanged, ZeroAndNine, BetweenZeroAndOne}
 use Rattle.barcode.specs.Codes.{firstThreeAnswer, generalRight}
+use Rattle.barcode.specs.Agreed.{isIssuer, keyOf, listAnswer, isAgreed, freeAnswer}
 use Rattle.line.specs.Lines.{boxRight, lineAnswer}
 use Rattle.layout.specs.Layouts.{namedBy, layoutOf, table, rowAt}
-use Rattle.kinds.specs.Terms.{termsAnswer}
+use Rattle.kinds.specs.Terms.{versionAnswer}
 use Rattle.kinds.specs.Kinds.{isVersionText, isService, dateAnswer, isCapture, isForm, kindAnswer}
 use Rattle.record.specs.Records.{fieldAnswer, recordAnswer}
 use Rattle.file.specs.Files.{fileAnswer, figuresAnswer}
@@ -44,7 +45,7 @@ each-row {A} {B} f g (x ∷ xs) p = (ap (headOr (f x)) p, each-row f g xs (ap re
     rest (y ∷ ys) = ys
 
 all-rows : map (λ (row : Row). outcomeOf (row .question)) samples ≡ map (λ (row : Row). row .outcome) samples
-unfolding recordAnswer termsAnswer fieldAnswer kindAnswer isVersionText isService dateAnswer isCapture isForm namedBy layoutOf table rowAt
+unfolding recordAnswer versionAnswer listAnswer freeAnswer isAgreed keyOf isIssuer fieldAnswer kindAnswer isVersionText isService dateAnswer isCapture isForm namedBy layoutOf table rowAt
     hasLineEnd fitsLength endAnswer figuresAnswer fileAnswer fits ownOf usedAfter slotAnswer firstThreeAnswer generalRight boxRight
     termOf addedBy digitOfRemainder dateOf isDate daysIn isLeap digitsOf valueOf isOf
 all-rows = refl
@@ -184,5 +185,5 @@ box-alone-is-refused =
     )
 
 pub p8-has-two-free-parts : P8HasTwoFreeParts
-unfolding firstThreeAnswer generalRight digitOfRemainder termOf addedBy digitsOf valueOf isOf
+unfolding listAnswer freeAnswer isAgreed firstThreeAnswer generalRight digitOfRemainder termOf addedBy digitsOf valueOf isOf
 p8-has-two-free-parts = (refl, refl)

@@ -5,14 +5,19 @@ use Rattle.answer.specs.Orders.{ThenRefuses, FirstRefuses}
 use Rattle.decimal.specs.Bytes.{EachRefuses}
 use Rattle.decimal.specs.Places.{Stretch}
 use Rattle.modulus.specs.Checks.{RuleIsOneDigit, CheckIsOneDigit, CheckIsADigit}
-use Rattle.barcode.specs.RoundTrips.{DecodedAnswers, FieldsAreItsPlaces, BuiltIsRead}
+use Rattle.barcode.specs.Agreed.{KeysNameIssuers, OneListRefusal, EmptyListIsRight, DueIsAsked, DueIsAskedLast}
+use Rattle.barcode.specs.Agreed.{AcceptedOrNoDueDate}
+use Rattle.barcode.specs.RoundTrips.{DecodedAnswers, DueIsShown, FieldsAreItsPlaces, BuiltIsRead}
 use Rattle.barcode.specs.RoundTrips.{FieldsWithinRangesBuild, CodeIsItsFields}
-use Rattle.line.specs.RoundTrips.{LineIsBoxesAndCode, FieldsGiveALine}
+use Rattle.line.specs.RoundTrips.{LineIsBoxesAndCode, AcceptedIsBoxesAndCode, FieldsGiveALine}
+use Rattle.line.specs.RoundTrips.{DueOfLineIsAsked, DueOfLineIsShown, LineAcceptedOrNoDueDate, NoDueDatePassesChecks}
+use Rattle.line.specs.RoundTrips.{EmptyListAsksNothing}
 use Rattle.line.specs.RoundTrips.{OnlySevenBehindBoxes, DecodedLineAnswers}
 use Rattle.line.specs.RoundTrips.{CodeToLineAndBack, LineToCodeAndBack, LineIsItsFields}
 use Rattle.layout.specs.declared.Field.{Field}
 use Rattle.layout.specs.Layouts.{FieldsCover, RecordIsItsFields, MarkNames, GivenLengths}
 use Rattle.record.specs.Promises.{DecodeAnswers, RightFieldsAreAccepted, FieldsAreTheirPlaces}
+use Rattle.record.specs.Promises.{DueOfRecordIsAsked, DueOfRecordIsShown}
 use Rattle.kinds.specs.Kinds.{VersionsAreTwoTexts, OtherKindsIgnoreTerms}
 use Rattle.record.specs.Promises.{HeadersNameAVersion, OtherRecordsIgnoreTerms, PaymentsNeedAVersion, FourIsWithinSix}
 use Rattle.fields.specs.Promises.{FieldsMakeTheRecord, MadeIsAccepted}
@@ -28,7 +33,10 @@ use Rattle.page.specs.Fits.{PageFits}
 use Rattle.page.specs.Plain.{ShownReadsBack}
 use Rattle.typos.specs.Typos.{PassesByChecks, BoxesAreNumbered}
 use Rattle.typos.specs.Typos.{OneChangedDigitIsRefused, ExchangeOfNeighbours, OneChangedDigitUnderEleven}
+use Rattle.typos.specs.UnderLists.{AcceptedByChecks, OneChangedDigitUnderAList, ExchangeUnderAList}
+use Rattle.typos.specs.UnderLists.{OneChangedDigitUnderElevenAndAList}
 use Rattle.typos.specs.Samples.{DirectionsMayDiffer, BordersHold, SegmentTypoPasses, KindTypoPasses}
+use Rattle.typos.specs.Samples.{DatedExchangeIsRefused, DatedChangeIsRefused, SegmentTypoMeetsAnAgreement}
 use Rattle.ledger.specs.Records.{LaneIsTheSessions, EqualIsTheBoards, IssuersAreTheLanes, LimitsAreTheBoards}
 use Rattle.ledger.specs.Promises.{SessionAgrees, AnswersAreTheLedgers, NextAnswerIsTheLedgers, TrueTrailersOnly}
 use Rattle.ledger.specs.Promises.{LanesAreThePayments, LanesInOrder, EachLaneIsExact, NoIssuerHasTwoLanes}
@@ -37,7 +45,7 @@ use Rattle.ledger.specs.Promises.{OnlyTrailersShow, NothingShowsBefore, Trailer
 use Rattle.ledger.specs.Promises.{AbandonKeepsBoard, AbandonDropsFile, AbandonNothing}
 use Rattle.ledger.specs.Promises.{FinishAnswers, FinishKeepsSession}
 use Rattle.ledger.specs.Promises.{OpenFilesHaveAVersion, PaymentsTakenUnderAVersion}
-use Rattle.session.specs.Runs.{RunIsItsTakes, RunLeavesFew, FeedingIsOneRun}
+use Rattle.session.specs.Runs.{RunIsItsTakes, WrongListTakesNothing, RunLeavesFew, FeedingIsOneRun}
 use Rattle.ledger.specs.Forms.{FormsAgree, OnlyEndedRecords}
 use Rattle.ledger.specs.Runs.{RunIsTheLedgers, FileBytesRun, PiecesAreTheRecords}
 use Rattle.ledger.specs.Calls.{CallsAgree, RepliesAreTheLedgers, CallsAreSteps}
@@ -52,6 +60,7 @@ use Rattle.promises.specs.OneOutcome.{OneOutcome}
 use Rattle.promises.specs.Refusals.{RefusalsChangeNothing}
 use Rattle.promises.specs.Samples.{samples, Hold, P5IsAnExchange, P6IsAChange, P9IsAChange, BoxAloneIsRefused}
 use Rattle.promises.specs.Shown.{RefusalsPointAtPlaces, RecordsShowTheirPlaces}
+use Rattle.promises.specs.WrongLists.{WrongListsAreFirst}
 
 -- "It takes every input without a fault and ends" is not stated here: the toolchain proves it of every function that it
 -- admits, and no public function has a `requires`. The rest of demand 1:
@@ -64,6 +73,10 @@ pub record Demand1 : Type 2 where
   -- under either rule a check is one digit, so no refusal has number 20, which stood for a check of two
   pub checks : RuleIsOneDigit × CheckIsOneDigit × CheckIsADigit
   pub retired : TwentyIsRetired
+  -- before everything else 25, of the list of agreed issuers that is lent: the empty one is right, and a run under a
+  -- wrong one takes nothing
+  pub lists : OneListRefusal × EmptyListIsRight × EmptyListAsksNothing × KeysNameIssuers
+  pub wrongLists : WrongListsAreFirst × WrongListTakesNothing
   -- "by a fixed order": the first refusal of two checks, of a row of fields, of the boxes from the first on, and of
   -- bytes from left to right
   pub order : ThenRefuses
@@ -79,21 +92,25 @@ pub record Demand1 : Type 2 where
 
 -- "It agrees with the FEBRABAN layout," the version the header names. A statement about a record is under any terms,
 -- one about a file under the version of its own header's bytes: each covers 04 and 06. A statement about a file is over
--- its form too: each covers files whose records are followed by CR and LF, and files without.
+-- its form too: each covers files whose records are followed by CR and LF, and files without. All are under any list of
+-- agreed issuers, or under any right one.
 pub record Demand2 : Type 0 where
   pub table : FieldsCover × RecordIsItsFields × MarkNames × GivenLengths
   pub versions :
       VersionsAreTwoTexts × HeadersNameAVersion × FourIsWithinSix × OpenFilesHaveAVersion × OpenWritersHaveAVersion
-  -- only payments depend on it, by their two codes,
+  -- only payments depend on the terms: on the version by their two codes, on the list by their barcode;
   pub ignored : OtherKindsIgnoreTerms × OtherRecordsIgnoreTerms × OtherJoinsIgnoreTerms × OtherMakesIgnoreTerms
-  -- and they need one,
+  -- they need a version,
   pub needed :
       PaymentsNeedAVersion × PaymentsJoinUnderAVersion × PaymentsTakenUnderAVersion × PaymentsWrittenUnderAVersion
   -- in either form, the one that the header has: records, sums and lanes are those of the bare file,
   pub forms : LineEndIsCrAndLf × FittingIsInForm × FormsAgree × OnlyEndedRecords
+  -- a due date only where it is agreed: asked there, and shown; of any other issuer neither,
+  pub agreed : DueIsAsked × DueIsAskedLast × DueOfLineIsAsked × DueOfRecordIsAsked
+  pub due : DueIsShown × DueOfLineIsShown × DueOfRecordIsShown
   -- "Lines, barcodes and records decode to their fields,"
   pub codes : DecodedAnswers × FieldsAreItsPlaces × BuiltIsRead
-  pub lines : DecodedLineAnswers × LineIsBoxesAndCode × FieldsGiveALine
+  pub lines : DecodedLineAnswers × LineIsBoxesAndCode × AcceptedIsBoxesAndCode × FieldsGiveALine
   pub records : DecodeAnswers × RecordsShowTheirPlaces × FieldsAreTheirPlaces × MadeIsAccepted × WrittenAmountsAreRead
   -- and nothing is refused that the layout allows,
   pub allowed : FieldsWithinRangesBuild × RightFieldsAreAccepted
@@ -123,7 +140,7 @@ pub record Demand2 : Type 0 where
   pub full : PastThirtyTwoBits × WithinLimits
   pub printed : PageFits × PrintedHolds × ShownReadsBack
 
--- "For lines that demand 2 accepts"
+-- "For lines that demand 2 accepts": first the checks alone, which is under the empty list, then any right list
 pub record Demand3 : Type 0 where
   pub accepted : PassesByChecks × BoxesAreNumbered
   -- "under modulo 10": "The one changed digit is always refused."
@@ -133,12 +150,22 @@ pub record Demand3 : Type 0 where
   -- "Under modulo 11": "It passes exactly when it is none of the five check digits and the remainders of its box and of
   -- the whole code both move between 0 and 1."
   pub changedEleven : OneChangedDigitUnderEleven
+  -- Under a right list, whatever it says of the two issuers: what is accepted under it passes the checks, and what
+  -- passes them is accepted or refused 11 for its due date,
+  pub acceptedUnder : AcceptedByChecks × AcceptedOrNoDueDate × LineAcceptedOrNoDueDate × NoDueDatePassesChecks
+  -- so the one changed digit is always refused, and never 11,
+  pub changedUnder : OneChangedDigitUnderAList
+  -- and "passes" reads "is accepted or refused 11"; if the changed line's issuer is not agreed, "is accepted"
+  pub exchangedUnder : ExchangeUnderAList
+  pub changedElevenUnder : OneChangedDigitUnderElevenAndAList
+  pub dated : DatedExchangeIsRefused × DatedChangeIsRefused × SegmentTypoMeetsAnAgreement
   -- each case occurs, and a typo that the demand leaves out may pass
   pub realRefused : P6IsAChange × BoxAloneIsRefused
   pub real : P5IsAnExchange × P9IsAChange × DirectionsMayDiffer × BordersHold
   pub beyond : SegmentTypoPasses × KindTypoPasses
 
--- All three, with the proved samples (SPEC.md, "Samples") and what the program prints (SPEC.md, "The program quadro").
+-- All three, with the proved samples (SPEC.md, "Samples"), under the empty list, and what the program prints (SPEC.md,
+-- "The program quadro").
 pub record Promised : Type 2 where
   pub first : Demand1
   pub second : Demand2

@@ -78,8 +78,13 @@ pub record BarcodeOutcomes : Type 2 where
   pub barcode·issuer_width : One barcode.issuer_width.ended (λ M. barcode.issuer_width.clauses)
   pub barcode·modulus_of_kind : One barcode.modulus_of_kind.ended (λ M. barcode.modulus_of_kind.clauses)
   pub «barcode·check_prefix» : One barcode.«check_prefix».ended (λ M. barcode.«check_prefix».clauses)
+  pub barcode·key_of : One barcode.key_of.ended (λ M. barcode.key_of.clauses)
+  pub «barcode·check_list» : One barcode.«check_list».ended (λ M. barcode.«check_list».clauses)
   pub barcode·check : One barcode.check.ended (λ M. barcode.check.clauses)
-  pub barcode·accepted_issuer : One barcode.accepted_issuer.ended (λ M. barcode.accepted_issuer.clauses)
+  pub barcode·judged·check : One barcode.judged.check.ended (λ M. barcode.judged.check.clauses)
+  pub barcode·judged·decode : One barcode.judged.decode.ended (λ M. barcode.judged.decode.clauses)
+  pub barcode·judged·accepted_issuer :
+      One barcode.judged.accepted_issuer.ended (λ M. barcode.judged.accepted_issuer.clauses)
   pub barcode·decode : One barcode.decode.ended (λ M. barcode.decode.clauses)
   pub barcode·free_field : OneSeen barcode.free_field.ended (λ M. barcode.free_field.clauses) (λ κs r. now r)
   pub barcode·builder·build : One barcode.builder.build.ended (λ M. barcode.builder.build.clauses)
@@ -111,10 +116,15 @@ pub record RecordOutcomes : Type 2 where
   pub record·field : OneSeen records.field.ended (λ M. records.field.clauses) (λ κs r. now r)
   pub record·check : One records.check.ended (λ M. records.check.clauses)
   pub record·accepted_payment : One records.accepted_payment.ended (λ M. records.accepted_payment.clauses)
+  pub record·judged·check : One records.judged.check.ended (λ M. records.judged.check.clauses)
+  pub record·judged·decode : One records.judged.decode.ended (λ M. records.judged.decode.clauses)
+  pub record·judged·accepted_payment :
+      One records.judged.accepted_payment.ended (λ M. records.judged.accepted_payment.clauses)
 
 pub record FieldsOutcomes : Type 2 where
   pub fields·join : One fields.join.ended (λ M. fields.join.clauses)
   pub fields·make : One fields.make.ended (λ M. fields.make.clauses)
+  pub fields·judged·make : One fields.judged.make.ended (λ M. fields.judged.make.clauses)
 
 pub record FileOutcomes : Type 2 where
   pub «file·record_length» : One file.«record_length».ended (λ M. file.«record_length».clauses)
@@ -151,6 +161,8 @@ pub record PageOutcomes : Type 2 where
   pub page·print : One page.print.ended (λ M. page.print.clauses)
 
 pub record HollytrotOutcomes : Type 2 where
+  pub hollytrot·hollytrot_issuer_key :
+      One hollytrot.hollytrot_issuer_key.ended (λ M. hollytrot.hollytrot_issuer_key.clauses)
   pub hollytrot·hollytrot_barcode_check :
       One hollytrot.hollytrot_barcode_check.ended (λ M. hollytrot.hollytrot_barcode_check.clauses)
   pub hollytrot·hollytrot_barcode_decode :
@@ -184,6 +196,9 @@ pub record HollytrotOutcomes : Type 2 where
       One hollytrot.«hollytrot_record_field».ended (λ M. hollytrot.«hollytrot_record_field».clauses)
   pub «hollytrot·hollytrot_record_join» :
       One hollytrot.«hollytrot_record_join».ended (λ M. hollytrot.«hollytrot_record_join».clauses)
+
+-- the exported ones that are given a session or a writer, or give one
+pub record HollytrotStateOutcomes : Type 2 where
   pub hollytrot·hollytrot_session_limits :
       One hollytrot.hollytrot_session_limits.ended (λ M. hollytrot.hollytrot_session_limits.clauses)
   pub hollytrot·hollytrot_session_new :
@@ -224,3 +239,4 @@ pub record OneOutcome : Type 2 where
   pub ofWriter : WriterOutcomes
   pub ofPage : PageOutcomes
   pub ofHollytrot : HollytrotOutcomes
+  pub ofHollytrotStates : HollytrotStateOutcomes

@@ -32,11 +32,17 @@ second p = p .1 .0
 abbrev pub third : {A B C D : Type 0} → A × (B × (C × D)) → C
 third p = p .1 .1 .0
 
+abbrev pub fourth : {A B C D E : Type 0} → A × (B × (C × (D × E))) → D
+fourth p = p .1 .1 .1 .0
+
 abbrev pub fifth : {A B C D E F : Type 0} → A × (B × (C × (D × (E × F)))) → E
 fifth p = p .1 .1 .1 .1 .0
 
 abbrev pub sixth : {A B C D E F G : Type 0} → A × (B × (C × (D × (E × (F × G))))) → F
 sixth p = p .1 .1 .1 .1 .1 .0
+
+abbrev pub seventh : {A B C D E F G H : Type 0} → A × (B × (C × (D × (E × (F × (G × H)))))) → G
+seventh p = p .1 .1 .1 .1 .1 .1 .0
 
 module _ (T : Ended) (contract : Contract T) where
   -- which results are acceptance; all others are refusals
@@ -84,19 +90,22 @@ pub record RefusalsChangeNothing : Type 2 where
       (λ κs. third) (λ κs given. third)
   pub barcode·builder·build :
       KeepsBuffer barcode.builder.build.ended (λ M. barcode.builder.build.clauses) (λ κs r. r ≡ Accepted)
-      (λ κs. fifth) (λ κs given. fifth)
+      (λ κs. sixth) (λ κs given. sixth)
   pub line·to_barcode :
       KeepsBuffer line.to_barcode.ended (λ M. line.to_barcode.clauses) (λ κs r. r ≡ Accepted)
-      (λ κs. second) (λ κs given. second)
+      (λ κs. third) (λ κs given. third)
   pub line·from_barcode :
       KeepsBuffer line.from_barcode.ended (λ M. line.from_barcode.clauses) (λ κs r. r ≡ Accepted)
-      (λ κs. second) (λ κs given. second)
+      (λ κs. third) (λ κs given. third)
   pub fields·join :
       KeepsBuffer fields.join.ended (λ M. fields.join.clauses) (λ κs r. r ≡ Accepted)
-      (λ κs. third) (λ κs given. third)
+      (λ κs. fourth) (λ κs given. fourth)
   pub fields·make :
       KeepsBuffer fields.make.ended (λ M. fields.make.clauses) (λ κs r. r ≡ Accepted)
-      (λ κs. sixth) (λ κs given. sixth)
+      (λ κs. seventh) (λ κs given. seventh)
+  pub fields·judged·make :
+      KeepsBuffer fields.judged.make.ended (λ M. fields.judged.make.clauses) (λ κs r. r ≡ Accepted)
+      (λ κs. seventh) (λ κs given. seventh)
   pub file·File·take :
       KeepsState file.File.take.ended (λ M. file.File.take.clauses) (λ κs r. r .answer ≡ Accepted)
       (λ κs. first) (λ κs r. r .file)
@@ -117,7 +126,7 @@ pub record RefusalsChangeNothing : Type 2 where
       (λ κs. first) (λ κs r. r .writer) (λ κs. third) (λ κs given. third)
   pub writer·Writer·payment :
       KeepsBoth writer.Writer.payment.ended (λ M. writer.Writer.payment.clauses) (λ κs r. r .answer ≡ Accepted)
-      (λ κs. first) (λ κs r. r .writer) (λ κs. fifth) (λ κs given. fifth)
+      (λ κs. first) (λ κs r. r .writer) (λ κs. sixth) (λ κs given. sixth)
   pub writer·Writer·trailer :
       KeepsBoth writer.Writer.trailer.ended (λ M. writer.Writer.trailer.clauses) (λ κs r. r .answer ≡ Accepted)
       (λ κs. first) (λ κs r. r .writer) (λ κs. second) (λ κs given. second)
@@ -126,16 +135,16 @@ pub record RefusalsChangeNothing : Type 2 where
       (λ κs. sixth) (λ κs given. sixth)
   pub hollytrot·hollytrot_barcode_build :
       KeepsBuffer hollytrot.hollytrot_barcode_build.ended (λ M. hollytrot.hollytrot_barcode_build.clauses)
-      (λ κs r. r .number ≡ 0) (λ κs. fifth) (λ κs given. fifth)
+      (λ κs r. r .number ≡ 0) (λ κs. sixth) (λ κs given. sixth)
   pub hollytrot·hollytrot_line_to_barcode :
       KeepsBuffer hollytrot.hollytrot_line_to_barcode.ended (λ M. hollytrot.hollytrot_line_to_barcode.clauses)
-      (λ κs r. r .number ≡ 0) (λ κs. second) (λ κs given. second)
+      (λ κs r. r .number ≡ 0) (λ κs. third) (λ κs given. third)
   pub hollytrot·hollytrot_line_from_barcode :
       KeepsBuffer hollytrot.hollytrot_line_from_barcode.ended (λ M. hollytrot.hollytrot_line_from_barcode.clauses)
-      (λ κs r. r .number ≡ 0) (λ κs. second) (λ κs given. second)
+      (λ κs r. r .number ≡ 0) (λ κs. third) (λ κs given. third)
   pub «hollytrot·hollytrot_record_join» :
       KeepsBuffer hollytrot.«hollytrot_record_join».ended (λ M. hollytrot.«hollytrot_record_join».clauses)
-      (λ κs r. r .number ≡ 0) (λ κs. third) (λ κs given. third)
+      (λ κs r. r .number ≡ 0) (λ κs. fourth) (λ κs given. fourth)
   pub hollytrot·hollytrot_session_take :
       KeepsState hollytrot.hollytrot_session_take.ended (λ M. hollytrot.hollytrot_session_take.clauses)
       (λ κs r. r .answer .number ≡ 0) (λ κs. first) (λ κs r. r .session)
@@ -147,7 +156,7 @@ pub record RefusalsChangeNothing : Type 2 where
       (λ κs r. r .answer .number ≡ 0) (λ κs. first) (λ κs r. r .writer) (λ κs. third) (λ κs given. third)
   pub hollytrot·hollytrot_writer_payment :
       KeepsBoth hollytrot.hollytrot_writer_payment.ended (λ M. hollytrot.hollytrot_writer_payment.clauses)
-      (λ κs r. r .answer .number ≡ 0) (λ κs. first) (λ κs r. r .writer) (λ κs. fifth) (λ κs given. fifth)
+      (λ κs r. r .answer .number ≡ 0) (λ κs. first) (λ κs r. r .writer) (λ κs. sixth) (λ κs given. sixth)
   pub hollytrot·hollytrot_writer_trailer :
       KeepsBoth hollytrot.hollytrot_writer_trailer.ended (λ M. hollytrot.hollytrot_writer_trailer.clauses)
       (λ κs r. r .answer .number ≡ 0) (λ κs. first) (λ κs r. r .writer) (λ κs. second) (λ κs given. second)

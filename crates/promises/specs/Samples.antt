@@ -1,4 +1,5 @@
--- P1 to P12 (SPEC.md, "Samples"): each row has an input, what is computed of it, and the outcome. Assumes nothing.
+-- P1 to P12 (SPEC.md, "Samples"), under the empty list of agreed issuers: each row has an input, what is computed of
+-- it, and the outcome. Assumes nothing.
 use Prim.Native.Nat.{ℕ, _+_, _<_}
 use mathlib.Core.Bool.{Bool, true, false}
 use mathlib.Core.List.{List, [], _∷_, _++_}
@@ -21,8 +22,8 @@ use Rattle.modulus.specs.declared.Modulus.the-variants.{Ten, Eleven}
 use Rattle.modulus.specs.Checks.{checkOf, exchanged, ZeroAndNine}
 use Rattle.barcode.specs.declared.Decoded.{Decoded}
 use Rattle.barcode.specs.declared.Fields.{Fields}
-use Rattle.barcode.specs.Codes as barcodes
-use Rattle.barcode.specs.Codes.{checked, digitAt, product, isSegment, noFields, shownFree}
+use Rattle.barcode.specs.Codes.{checked, digitAt, product, isSegment}
+use Rattle.barcode.specs.Shown.{noFields, decodedBarcode, shownFree}
 use Rattle.barcode.specs.RoundTrips.{answerOfBarcode, shownFields}
 use Rattle.line.specs.Lines as lines
 use Rattle.board.specs.declared.Lane.{Lane}
@@ -85,10 +86,10 @@ ranTo r =
 -- the outcome, by the definitions that the contracts of the operations cite
 abbrev pub outcomeOf : Question → Outcome
 outcomeOf (check m digits) = digit (checkOf m digits)
-outcomeOf (barcode code) = decodedTo (barcodes.decodedBarcode code)
-outcomeOf (line bytes) = decodedTo (lines.decodedLine bytes)
+outcomeOf (barcode code) = decodedTo (decodedBarcode [] code)
+outcomeOf (line bytes) = decodedTo (lines.decodedLine [] bytes)
 outcomeOf (date bytes) = dated (dateOf bytes)
-outcomeOf (files bytes) = ranTo (runOf freshSession false bytes)
+outcomeOf (files bytes) = ranTo (runOf [] freshSession false bytes)
 
 -- The inputs.
 
@@ -124,7 +125,7 @@ p12 total = ledger.header ++ (ledger.payment 2147483648 ++ (ledger.payment 21474
 
 -- Their values.
 
--- the fields of a line whose free field starts with no date
+-- the fields of a line whose issuer did not agree on due dates
 abbrev pub fields : ℕ → ℕ → ℕ → ℕ → Fields
 fields segment kind value number =
     record { kind = kind; value = value; issuer = record { segment = segment; number = number }; due = NoDate }
@@ -238,5 +239,5 @@ BoxAloneIsRefused =
 -- Promise: two parts of P8's barcode have the bytes of its free field, so they do not tell where it is.
 abbrev pub P8HasTwoFreeParts : Type 0
 P8HasTwoFreeParts =
-    (places 20 44 (lines.codeOf p8) ≡ shownFree (lines.codeOf p8))
-    × (places 19 43 (lines.codeOf p8) ≡ shownFree (lines.codeOf p8))
+    (places 20 44 (lines.codeOf p8) ≡ shownFree [] (lines.codeOf p8))
+    × (places 19 43 (lines.codeOf p8) ≡ shownFree [] (lines.codeOf p8))
