@@ -15,6 +15,8 @@
 
 static uint8_t part[PART];
 static uint8_t page[HOLLYTROT_PAGE];
+/* The page shows no due dates, so the list is the empty one: its length is 0, but its address must not be NULL. */
+static const uint64_t none[1] = {0};
 
 int main(void)
 {
@@ -28,7 +30,7 @@ int main(void)
         /* what the run before left is at the start of the part */
         length += fread(part + length, 1, PART - length, stdin);
         more = length == PART;
-        hollytrot_run_result run = hollytrot_session_run(session, part, length, more);
+        hollytrot_run_result run = hollytrot_session_run(session, part, length, more, none, 0);
         answer = run.answer;
         session = run.session;
         records += run.records;

@@ -2,13 +2,13 @@
 //!
 //!     cargo run -p hollytrot --example day < FILE
 //!
-//! If the input is refused, it says why on standard error and fails.
+//! If the input is refused, it says why on standard error and fails. The page shows no due dates, so the list is empty.
 
 use std::error::Error;
 use std::io::{self, Read, Write};
 use std::process::ExitCode;
 
-use hollytrot::{page, Session};
+use hollytrot::{page, Agreed, Session};
 
 /// How many bytes are read at a time. Any number would do.
 const PART: u64 = 65536;
@@ -25,6 +25,7 @@ fn main() -> ExitCode {
 
 fn run() -> Result<(), Box<dyn Error>> {
     let mut input = io::stdin().lock();
+    let agreed = Agreed::none();
     let mut session = Session::new();
     let (mut records, mut files) = (0, 0);
     // what was read and not taken yet
@@ -33,9 +34,9 @@ fn run() -> Result<(), Box<dyn Error>> {
     let answer = loop {
         let ended = input.by_ref().take(PART).read_to_end(&mut bytes)? == 0;
         let result = if ended {
-            session.run(&bytes)
+            session.run(&bytes, &agreed)
         } else {
-            session.run_part(&bytes)
+            session.run_part(&bytes, &agreed)
         };
         records += result.records;
         files += result.files;

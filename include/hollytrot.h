@@ -12,6 +12,8 @@
  * What the caller guarantees:
  *   - `bytes` points to `length` bytes that do not change during the call. It is never NULL, even if the length is 0:
  *     pass an empty string.
+ *   - `agreed` points to `agreed_length` numbers that do not change during the call. It is never NULL, even if the
+ *     length is 0: pass the address of any uint64_t.
  *   - `out` points to `out_length` bytes that only this call writes and reads. It overlaps no other argument of the
  *     same call.
  *   - A `bool` is 0 or 1, as in every C program. Sessions and writers have some: do not copy one from bytes of unknown
@@ -32,7 +34,7 @@ extern "C" {
 #endif
 
 /* The version of this header and of its library. */
-#define HOLLYTROT_VERSION "0.4.0"
+#define HOLLYTROT_VERSION "0.5.0"
 
 /* The lengths that buffers must have, exactly ("Limits"). */
 #define HOLLYTROT_BARCODE 44
@@ -44,6 +46,8 @@ extern "C" {
 #define HOLLYTROT_PAGE 8837
 /* How many lanes a board has. */
 #define HOLLYTROT_LANES 64
+/* The most entries of a list of agreed issuers. */
+#define HOLLYTROT_AGREED 64
 
 /* An answer ("Refusals"): number 0 and place 0 if accepted, else the number of the refusal and its place. Places count
  * from 1; place 0 means that the refusal has none. */
@@ -65,7 +69,8 @@ enum {
     HOLLYTROT_NO_TEXT = 8,             /* a byte is not a text byte */
     HOLLYTROT_NOT_EXPECTED = 9,        /* no such record, or no such call of a writer, is expected now */
     HOLLYTROT_FIXED_DIFFERS = 10,      /* a fixed field or the version has other bytes */
-    HOLLYTROT_NO_DATE = 11,            /* eight digits are not a date */
+    HOLLYTROT_NO_DATE = 11,            /* eight digits are not a date: of a date field, */
+                                       /* or first in an agreed issuer's free field */
     HOLLYTROT_UNKNOWN_CODE = 12,       /* unknown capture or payment form */
     HOLLYTROT_COUNT_DIFFERS = 13,      /* the trailer's count is not the file's */
     HOLLYTROT_TOTAL_DIFFERS = 14,      /* the trailer's total is not the file's */
@@ -76,7 +81,8 @@ enum {
     HOLLYTROT_FILE_OPEN = 19,          /* the end of the input while a file is open */
     /* 20 is retired and is not used again */
     HOLLYTROT_TOO_WIDE = 21,           /* a number is too wide for its field */
-    HOLLYTROT_NO_LINE_END = 22         /* a record of a lined file without CR and LF behind it */
+    HOLLYTROT_NO_LINE_END = 22,        /* a record of a lined file without CR and LF behind it */
+    HOLLYTROT_WRONG_LIST = 25          /* list of agreed issuers: over 64, an entry that names none, or one twice */
 };
 
 /* A part of the caller's bytes: `length` bytes from `bytes + from` on. The empty part is 0 and 0. */
@@ -99,7 +105,7 @@ typedef struct hollytrot_issuer {
 } hollytrot_issuer;
 
 /* The fields of a barcode or a typed line. The value is in centavos for kinds 6 and 8, else a reference quantity.
- * `due` is the due date, if the free field starts with one. */
+ * `due` is the due date of an agreed issuer; for every other issuer it is three zeros, whatever the free field has. */
 typedef struct hollytrot_fields {
     uint64_t kind;
     uint64_t value;
@@ -113,36 +119,76 @@ typedef struct hollytrot_decoded {
     hollytrot_fields fields;
 } hollytrot_decoded;
 
+/* Agreed issuers ("Agreed issuers").
+ *
+ * Each call that reads or makes a barcode takes a list, `agreed`, of the issuers that agreed to put a due date first in
+ * their free fields. Their due dates are shown, and a barcode of theirs without one is refused 11 at the free field's
+ * first place; of all other issuers no due date is shown, so a contract number is never taken for one. A treasury that
+ * forecasts by due date then counts real ones only, and every accepted barcode of an agreed issuer has one.
+ *
+ * A due date is shown in the member `due` of a decoded barcode or line, `fields.due`, and of a decoded G,
+ * `payment.barcode.due`. A session only checks due dates: to sum by due date, decode each G with
+ * hollytrot_record_decode under the same list.
+ *
+ * A list has at most HOLLYTROT_AGREED numbers, in any order: the key of each issuer, by hollytrot_issuer_key. A longer
+ * list, a number that is no issuer's key, or an issuer twice is refused 25 at 0, before everything else and whatever
+ * the call reads. A list in rising order is checked fastest. Under an empty list no due date is shown and none is
+ * required. A list of one issuer, and a line that is due on 2019-09-01:
+ *
+ *     uint64_t agreed[1] = {hollytrot_issuer_key((hollytrot_issuer){1, 3659})};
+ *     const uint8_t *line = (const uint8_t *)"817000000007010936592012909010000000000000000000";
+ *     hollytrot_decoded decoded = hollytrot_line_decode(line, HOLLYTROT_LINE, agreed, 1);
+ *
+ * To check a list alone, pass it to hollytrot_barcode_check with no bytes. The answer is 25 if the list is wrong, else
+ * 1. The pointer to the bytes must not be NULL here either:
+ *
+ *     hollytrot_answer answer = hollytrot_barcode_check((const uint8_t *)"", 0, agreed, 1);
+ *
+ * Each call has its own list; sessions and writers keep none, and the next call may have another one. A file whose
+ * payments were all written under one right list is accepted by a new session that is given that list, unless it names
+ * more than 64 issuers. */
+
+/* The key of an issuer, for such a list; 0 if the segment is not 1 to 7 or 9, or the number has more than 4 digits, in
+ * segment 6 more than 8. A list that has 0 is refused 25. */
+uint64_t hollytrot_issuer_key(hollytrot_issuer issuer);
+
 /* Barcodes ("Barcode", "Builder"). */
 
 /* Accepted, or the barcode's first refusal. */
-hollytrot_answer hollytrot_barcode_check(const uint8_t *bytes, size_t length);
+hollytrot_answer hollytrot_barcode_check(const uint8_t *bytes, size_t length, const uint64_t *agreed,
+                                         size_t agreed_length);
 
 /* The same answer, with the fields of an accepted barcode. */
-hollytrot_decoded hollytrot_barcode_decode(const uint8_t *bytes, size_t length);
+hollytrot_decoded hollytrot_barcode_decode(const uint8_t *bytes, size_t length, const uint64_t *agreed,
+                                           size_t agreed_length);
 
-/* The free field as a part of the barcode: 25 bytes, in segment 6 21. The empty part if the barcode is refused. */
-hollytrot_part hollytrot_barcode_free_field(const uint8_t *bytes, size_t length);
+/* The free field as a part of the barcode: 25 bytes, in segment 6 21. The empty part if the barcode or the list is
+ * refused. */
+hollytrot_part hollytrot_barcode_free_field(const uint8_t *bytes, size_t length, const uint64_t *agreed,
+                                            size_t agreed_length);
 
 /* Writes a barcode into `out`, 44 bytes, from its fields and the digits of the free field: 25, in segment 6 21. */
 hollytrot_answer hollytrot_barcode_build(hollytrot_issuer issuer, uint64_t kind, uint64_t value,
-                                         const uint8_t *free_field, size_t free_length, uint8_t *out,
-                                         size_t out_length);
+                                         const uint8_t *free_field, size_t free_length, const uint64_t *agreed,
+                                         size_t agreed_length, uint8_t *out, size_t out_length);
 
 /* Typed lines: 48 digits, without blanks ("Typed line"). */
 
 /* Accepted, or the line's first refusal. */
-hollytrot_answer hollytrot_line_check(const uint8_t *bytes, size_t length);
+hollytrot_answer hollytrot_line_check(const uint8_t *bytes, size_t length, const uint64_t *agreed,
+                                      size_t agreed_length);
 
 /* The same answer, with the fields of an accepted line. For the free field, convert the line to its barcode. */
-hollytrot_decoded hollytrot_line_decode(const uint8_t *bytes, size_t length);
+hollytrot_decoded hollytrot_line_decode(const uint8_t *bytes, size_t length, const uint64_t *agreed,
+                                        size_t agreed_length);
 
 /* Writes the barcode of a line into `out`, 44 bytes. */
-hollytrot_answer hollytrot_line_to_barcode(const uint8_t *bytes, size_t length, uint8_t *out, size_t out_length);
+hollytrot_answer hollytrot_line_to_barcode(const uint8_t *bytes, size_t length, const uint64_t *agreed,
+                                           size_t agreed_length, uint8_t *out, size_t out_length);
 
 /* Writes the line of a barcode into `out`, 48 bytes. */
-hollytrot_answer hollytrot_line_from_barcode(const uint8_t *bytes, size_t length, uint8_t *out,
-                                             size_t out_length);
+hollytrot_answer hollytrot_line_from_barcode(const uint8_t *bytes, size_t length, const uint64_t *agreed,
+                                             size_t agreed_length, uint8_t *out, size_t out_length);
 
 /* Dates and check digits ("Dates", "Check digits"). */
 
@@ -164,8 +210,8 @@ uint64_t hollytrot_check_eleven(const uint8_t *bytes, size_t length);
  *
  * A file has a version of the layout, 4 or 6, which its A names and which decides the captures and payment forms that
  * its Gs may have. A session and a writer know the version of their file. The functions for a single record are told
- * it: pass the member `version` of the file's decoded A. A G that is told any other number is refused 10 at 80, after 1
- * and 9 and before its fields. For an A or a Z the version does not matter: pass any number. */
+ * it: pass the member `version` of the file's decoded A. A G that is told any other number is refused 10 at 80, after
+ * 25, 1 and 9 and before its fields. For an A or a Z the version does not matter: pass any number. */
 
 /* The values of an A. `version` is 4 or 6. */
 typedef struct hollytrot_header {
@@ -230,19 +276,22 @@ enum {
 /* Accepted, or the first refusal of the record, as one of a file of this version. Neither the order of records nor any
  * sum is checked, nor what follows the record: the next one starts 150 bytes on, 152 in a file whose header is followed
  * by CR and LF. To check a file, run a session over it. */
-hollytrot_answer hollytrot_record_check(const uint8_t *bytes, size_t length, uint64_t version);
+hollytrot_answer hollytrot_record_check(const uint8_t *bytes, size_t length, uint64_t version, const uint64_t *agreed,
+                                        size_t agreed_length);
 
 /* The same answer, with the values of an accepted record. */
-hollytrot_record hollytrot_record_decode(const uint8_t *bytes, size_t length, uint64_t version);
+hollytrot_record hollytrot_record_decode(const uint8_t *bytes, size_t length, uint64_t version, const uint64_t *agreed,
+                                         size_t agreed_length);
 
-/* The field of a row, as a part of an accepted record. The empty part if the record is refused, and for a row of
- * another letter or past the table. */
-hollytrot_part hollytrot_record_field(const uint8_t *bytes, size_t length, uint64_t version, size_t row);
+/* The field of a row, as a part of an accepted record. The empty part if the record or the list is refused, and for a
+ * row of another letter or past the table. */
+hollytrot_part hollytrot_record_field(const uint8_t *bytes, size_t length, uint64_t version, size_t row,
+                                      const uint64_t *agreed, size_t agreed_length);
 
 /* Writes the field bytes of an accepted A (80) or G (121) into `out`: what the writer takes for the same record. A Z
  * has none and is refused 9 at 1. A wrong length of the record or of `out` is refused before a wrong version. */
-hollytrot_answer hollytrot_record_join(const uint8_t *bytes, size_t length, uint64_t version, uint8_t *out,
-                                       size_t out_length);
+hollytrot_answer hollytrot_record_join(const uint8_t *bytes, size_t length, uint64_t version, const uint64_t *agreed,
+                                       size_t agreed_length, uint8_t *out, size_t out_length);
 
 /* The writer of one return file ("Writer"): a value that you keep. Each call returns the next writer, which is equal to
  * the given one if the call is refused.
@@ -250,8 +299,9 @@ hollytrot_answer hollytrot_record_join(const uint8_t *bytes, size_t length, uint
  * The length of `out` in the header's call decides the form: 150 bytes for a bare file, 152 for a lined one, whose
  * records all get their CR and LF from the writer. In the later calls `out` has the same length.
  *
- * A call that is not expected now is refused 9 at 1, after 1 for a wrong length, and so is every call of a closed
- * writer: use a new one for each file. */
+ * A call that is not expected now is refused 9 at 1, and so is every call of a closed writer: use a new one for each
+ * file. 9 comes after 1 for a wrong length; for a payment, which is lent a list, after 25 for a wrong list and 1 for a
+ * wrong length. */
 
 /* The figures of an open file, its payments and the centavos they received, the version that its header names, 4 or 6,
  * and whether it is lined. They are 0 and false in a new writer and in a session with no file open. If you set another
@@ -287,7 +337,8 @@ hollytrot_write_result hollytrot_writer_header(hollytrot_writer writer, const ui
 /* Writes a G into `out`, as long as the A's, from its 121 field bytes, those of places 2 to 81 and 101 to 141, and the
  * two amounts in centavos. Its capture and payment form must be codes of the version that the writer's header names. */
 hollytrot_write_result hollytrot_writer_payment(hollytrot_writer writer, const uint8_t *fields, size_t fields_length,
-                                                uint64_t received, uint64_t tariff, uint8_t *out, size_t out_length);
+                                                uint64_t received, uint64_t tariff, const uint64_t *agreed,
+                                                size_t agreed_length, uint8_t *out, size_t out_length);
 
 /* Writes the Z into `out`, as long as the A's, with the file's own count and total, and closes the writer. */
 hollytrot_write_result hollytrot_writer_trailer(hollytrot_writer writer, uint8_t *out, size_t out_length);
@@ -360,16 +411,19 @@ hollytrot_session hollytrot_session_new(void);
 /* Takes one record: any bytes of any length. An A of 150 bytes opens a bare file; with CR and LF, 152 bytes, it opens a
  * lined one, whose records are passed with CR and LF too. One that is right but for them is refused 22 at 151; you may
  * pass it again with them. In a bare file a record with CR and LF is refused 1. */
-hollytrot_take_result hollytrot_session_take(hollytrot_session session, const uint8_t *bytes, size_t length);
+hollytrot_take_result hollytrot_session_take(hollytrot_session session, const uint8_t *bytes, size_t length,
+                                             const uint64_t *agreed, size_t agreed_length);
 
 /* Takes consecutive records, of bare and lined files in any order, up to the first that is refused; those before it
- * remain accepted. This is the fast way to take many records: it does not copy the session for each of them.
+ * remain accepted. This is the fast way to take many records: it copies the session and checks the list once, not for
+ * each of them. Under a wrong list nothing is taken.
  *
  * An input may come in parts, split anywhere. While more of it may follow, pass `more` true: nothing is taken then once
  * fewer than 152 bytes are left. This rest, which starts behind the result's `bytes`, goes in front of the next part,
  * so your buffer has at least HOLLYTROT_LINED bytes. At the end of the input run the rest with `more` false: one that
  * is no record is refused then. examples/day.c does this. */
-hollytrot_run_result hollytrot_session_run(hollytrot_session session, const uint8_t *bytes, size_t length, bool more);
+hollytrot_run_result hollytrot_session_run(hollytrot_session session, const uint8_t *bytes, size_t length, bool more,
+                                           const uint64_t *agreed, size_t agreed_length);
 
 /* Drops the open file; the same session if none is open. */
 hollytrot_session hollytrot_session_abandon(hollytrot_session session);

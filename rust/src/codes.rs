@@ -75,7 +75,7 @@ pub struct Fields {
     pub kind: u64,
     pub value: u64,
     pub issuer: Issuer,
-    /// The due date, if the free field starts with one.
+    /// The due date of an [`Agreed`](crate::Agreed) issuer; `None` for every other one.
     pub due: Option<Date>,
 }
 
@@ -119,31 +119,44 @@ pub fn check_digit(modulus: Modulus, digits: &[u8]) -> u8 {
 pub mod barcode {
     use super::{Fields, Issuer};
     use crate::raw;
-    use crate::Refusal;
+    use crate::{Agreed, Refusal};
 
     /// Accepted, or the barcode's first refusal.
-    pub fn check(code: &[u8]) -> Result<(), Refusal> {
-        // SAFETY: pointer and length are those of a slice.
-        unsafe { raw::hollytrot_barcode_check(code.as_ptr(), code.len()) }.to_result()
+    pub fn check(code: &[u8], agreed: &Agreed) -> Result<(), Refusal> {
+        let (keys, count) = agreed.as_raw();
+        // SAFETY: pointers and lengths are those of slices.
+        unsafe { raw::hollytrot_barcode_check(code.as_ptr(), code.len(), keys, count) }.to_result()
     }
 
     /// The fields of an accepted barcode.
-    pub fn decode(code: &[u8]) -> Result<Fields, Refusal> {
-        // SAFETY: pointer and length are those of a slice.
-        Fields::from_decoded(unsafe { raw::hollytrot_barcode_decode(code.as_ptr(), code.len()) })
+    pub fn decode(code: &[u8], agreed: &Agreed) -> Result<Fields, Refusal> {
+        let (keys, count) = agreed.as_raw();
+        // SAFETY: pointers and lengths are those of slices.
+        Fields::from_decoded(unsafe {
+            raw::hollytrot_barcode_decode(code.as_ptr(), code.len(), keys, count)
+        })
     }
 
     /// The free field as a part of the barcode, 25 bytes or 21; the empty slice if the barcode is refused.
-    pub fn free_field(code: &[u8]) -> &[u8] {
-        // SAFETY: pointer and length are those of a slice.
-        let part = unsafe { raw::hollytrot_barcode_free_field(code.as_ptr(), code.len()) };
+    pub fn free_field<'a>(code: &'a [u8], agreed: &Agreed) -> &'a [u8] {
+        let (keys, count) = agreed.as_raw();
+        // SAFETY: pointers and lengths are those of slices.
+        let part =
+            unsafe { raw::hollytrot_barcode_free_field(code.as_ptr(), code.len(), keys, count) };
         &code[part.from..part.from + part.length]
     }
 
     /// Builds a barcode from its fields and the digits of the free field: 25, in segment 6 21.
-    pub fn build(issuer: Issuer, kind: u64, value: u64, free: &[u8]) -> Result<[u8; 44], Refusal> {
+    pub fn build(
+        issuer: Issuer,
+        kind: u64,
+        value: u64,
+        free: &[u8],
+        agreed: &Agreed,
+    ) -> Result<[u8; 44], Refusal> {
         let mut out = [0; 44];
         let (bytes, length) = (free.as_ptr(), free.len());
+        let (keys, count) = agreed.as_raw();
         // SAFETY: pointers and lengths are those of slices, and `out` overlaps no other.
         let answer = unsafe {
             raw::hollytrot_barcode_build(
@@ -152,6 +165,8 @@ pub mod barcode {
                 value,
                 bytes,
                 length,
+                keys,
+                count,
                 out.as_mut_ptr(),
                 out.len(),
             )
@@ -165,36 +180,44 @@ pub mod barcode {
 pub mod line {
     use super::Fields;
     use crate::raw;
-    use crate::Refusal;
+    use crate::{Agreed, Refusal};
 
     /// Accepted, or the line's first refusal.
-    pub fn check(typed: &[u8]) -> Result<(), Refusal> {
-        // SAFETY: pointer and length are those of a slice.
-        unsafe { raw::hollytrot_line_check(typed.as_ptr(), typed.len()) }.to_result()
+    pub fn check(typed: &[u8], agreed: &Agreed) -> Result<(), Refusal> {
+        let (keys, count) = agreed.as_raw();
+        // SAFETY: pointers and lengths are those of slices.
+        unsafe { raw::hollytrot_line_check(typed.as_ptr(), typed.len(), keys, count) }.to_result()
     }
 
     /// The fields of an accepted line. For its free field, convert it to a barcode.
-    pub fn decode(typed: &[u8]) -> Result<Fields, Refusal> {
-        // SAFETY: pointer and length are those of a slice.
-        Fields::from_decoded(unsafe { raw::hollytrot_line_decode(typed.as_ptr(), typed.len()) })
+    pub fn decode(typed: &[u8], agreed: &Agreed) -> Result<Fields, Refusal> {
+        let (keys, count) = agreed.as_raw();
+        // SAFETY: pointers and lengths are those of slices.
+        Fields::from_decoded(unsafe {
+            raw::hollytrot_line_decode(typed.as_ptr(), typed.len(), keys, count)
+        })
     }
 
     /// The barcode of a line.
-    pub fn to_barcode(typed: &[u8]) -> Result<[u8; 44], Refusal> {
+    pub fn to_barcode(typed: &[u8], agreed: &Agreed) -> Result<[u8; 44], Refusal> {
         let mut out = [0; 44];
         let (bytes, length) = (typed.as_ptr(), typed.len());
+        let (keys, count) = agreed.as_raw();
+        let (start, size) = (out.as_mut_ptr(), out.len());
         // SAFETY: pointers and lengths are those of slices, and `out` overlaps no other.
-        unsafe { raw::hollytrot_line_to_barcode(bytes, length, out.as_mut_ptr(), out.len()) }
+        unsafe { raw::hollytrot_line_to_barcode(bytes, length, keys, count, start, size) }
             .to_result()?;
         Ok(out)
     }
 
     /// The line of a barcode.
-    pub fn from_barcode(code: &[u8]) -> Result<[u8; 48], Refusal> {
+    pub fn from_barcode(code: &[u8], agreed: &Agreed) -> Result<[u8; 48], Refusal> {
         let mut out = [0; 48];
         let (bytes, length) = (code.as_ptr(), code.len());
+        let (keys, count) = agreed.as_raw();
+        let (start, size) = (out.as_mut_ptr(), out.len());
         // SAFETY: pointers and lengths are those of slices, and `out` overlaps no other.
-        unsafe { raw::hollytrot_line_from_barcode(bytes, length, out.as_mut_ptr(), out.len()) }
+        unsafe { raw::hollytrot_line_from_barcode(bytes, length, keys, count, start, size) }
             .to_result()?;
         Ok(out)
     }

@@ -7,19 +7,23 @@
 //! 1, this crate guarantees.
 //!
 //! ```
-//! use hollytrot::line;
+//! use hollytrot::{line, Agreed};
 //!
 //! let typed = b"817700000000010936599702411310797039001433708318";
-//! assert_eq!(line::decode(typed)?.issuer.number, 3659);
+//! assert_eq!(line::decode(typed, &Agreed::none())?.issuer.number, 3659);
 //!
 //! let mistyped = b"817700000000010936599702411310797039001433708319";
-//! let refusal = line::decode(mistyped).unwrap_err();
+//! let refusal = line::decode(mistyped, &Agreed::none()).unwrap_err();
 //! assert_eq!(refusal.to_string(), "refused 6 at place 48: the check of a box is wrong");
 //! # Ok::<(), hollytrot::Refusal>(())
 //! ```
 //!
+//! Whether a free field starts with a due date is agreed with each issuer: the functions that read or make a barcode
+//! take the list of those that did, [`Agreed`].
+//!
 //! The library, libhollytrot.a, is for x86-64 Linux.
 
+mod agreed;
 mod codes;
 mod raw;
 pub mod record;
@@ -27,6 +31,7 @@ mod refusal;
 mod sessions;
 mod writers;
 
+pub use agreed::{Agreed, AGREED};
 pub use codes::{barcode, check_digit, line, Date, Fields, Issuer, Modulus};
 pub use record::{Header, Payment, Record, Trailer, Version};
 pub use refusal::{Reason, Refusal};

@@ -1,7 +1,11 @@
 //! The declarations of include/hollytrot.h. Sizes and offsets are asserted here; tests/conformance/abi.c compares the
 //! same ones with the library.
 
+mod functions;
+
 use std::mem::{offset_of, size_of};
+
+pub use functions::*;
 
 #[repr(C)]
 #[derive(Clone, Copy)]
@@ -172,89 +176,3 @@ const _: () = {
     assert!(offset_of!(RunResult, files) == 4208 && offset_of!(RunResult, bytes) == 4216);
     assert!(size_of::<PageResult>() == 24 && offset_of!(PageResult, length) == 16);
 };
-
-extern "C" {
-    pub fn hollytrot_barcode_check(bytes: *const u8, length: usize) -> Answer;
-    pub fn hollytrot_barcode_decode(bytes: *const u8, length: usize) -> Decoded;
-    pub fn hollytrot_barcode_free_field(bytes: *const u8, length: usize) -> Part;
-    pub fn hollytrot_barcode_build(
-        issuer: crate::Issuer,
-        kind: u64,
-        value: u64,
-        free_field: *const u8,
-        free_length: usize,
-        out: *mut u8,
-        out_length: usize,
-    ) -> Answer;
-    pub fn hollytrot_line_check(bytes: *const u8, length: usize) -> Answer;
-    pub fn hollytrot_line_decode(bytes: *const u8, length: usize) -> Decoded;
-    pub fn hollytrot_line_to_barcode(
-        bytes: *const u8,
-        length: usize,
-        out: *mut u8,
-        out_length: usize,
-    ) -> Answer;
-    pub fn hollytrot_line_from_barcode(
-        bytes: *const u8,
-        length: usize,
-        out: *mut u8,
-        out_length: usize,
-    ) -> Answer;
-    pub fn hollytrot_date_read(bytes: *const u8, length: usize) -> Date;
-    pub fn hollytrot_date_check(date: Date) -> bool;
-    pub fn hollytrot_check_ten(bytes: *const u8, length: usize) -> u64;
-    pub fn hollytrot_check_eleven(bytes: *const u8, length: usize) -> u64;
-    pub fn hollytrot_record_check(bytes: *const u8, length: usize, version: u64) -> Answer;
-    pub fn hollytrot_record_decode(bytes: *const u8, length: usize, version: u64) -> Record;
-    pub fn hollytrot_record_field(
-        bytes: *const u8,
-        length: usize,
-        version: u64,
-        row: usize,
-    ) -> Part;
-    pub fn hollytrot_record_join(
-        bytes: *const u8,
-        length: usize,
-        version: u64,
-        out: *mut u8,
-        out_length: usize,
-    ) -> Answer;
-    pub fn hollytrot_writer_new() -> Writer;
-    pub fn hollytrot_writer_header(
-        writer: Writer,
-        fields: *const u8,
-        fields_length: usize,
-        out: *mut u8,
-        out_length: usize,
-    ) -> WriteResult;
-    pub fn hollytrot_writer_payment(
-        writer: Writer,
-        fields: *const u8,
-        fields_length: usize,
-        received: u64,
-        tariff: u64,
-        out: *mut u8,
-        out_length: usize,
-    ) -> WriteResult;
-    pub fn hollytrot_writer_trailer(writer: Writer, out: *mut u8, out_length: usize)
-        -> WriteResult;
-    pub fn hollytrot_session_limits() -> crate::Limits;
-    pub fn hollytrot_session_new() -> Session;
-    pub fn hollytrot_session_take(session: Session, bytes: *const u8, length: usize) -> TakeResult;
-    pub fn hollytrot_session_run(
-        session: Session,
-        bytes: *const u8,
-        length: usize,
-        more: bool,
-    ) -> RunResult;
-    pub fn hollytrot_session_abandon(session: Session) -> Session;
-    pub fn hollytrot_session_finish(session: Session) -> TakeResult;
-    pub fn hollytrot_page(
-        answer: Answer,
-        records: u64,
-        files: u64,
-        board: crate::Board,
-        out: *mut u8,
-        out_length: usize,
-    ) -> PageResult;
-}

@@ -2,7 +2,7 @@
 //! bytes long: of one that CR and LF follow, pass the first 150.
 
 use crate::raw;
-use crate::{Date, Fields, Refusal};
+use crate::{Agreed, Date, Fields, Refusal};
 
 /// A version of the layout. The header of a file names it, and it decides which captures and payment forms the payments
 /// of the file may have. Later versions of the specification may add versions.
@@ -100,18 +100,21 @@ impl Row {
 /// Accepted, or the first refusal of the record, as one of a file of this version. Neither the order of records nor any
 /// sum is checked, nor what follows the record: to check a file, run a [`Session`](crate::Session) over it. For an A or
 /// a Z the version does not matter.
-pub fn check(bytes: &[u8], version: Version) -> Result<(), Refusal> {
-    // SAFETY: pointer and length are those of a slice.
-    unsafe { raw::hollytrot_record_check(bytes.as_ptr(), bytes.len(), version.number()) }
-        .to_result()
+pub fn check(bytes: &[u8], version: Version, agreed: &Agreed) -> Result<(), Refusal> {
+    let (start, length) = (bytes.as_ptr(), bytes.len());
+    let (keys, count) = agreed.as_raw();
+    // SAFETY: pointers and lengths are those of slices.
+    unsafe { raw::hollytrot_record_check(start, length, version.number(), keys, count) }.to_result()
 }
 
 /// The values of an accepted record of a file of this version. For an A or a Z the version does not matter: decode a
 /// file's header with either one, and its payments with [`Header::version`].
-pub fn decode(bytes: &[u8], version: Version) -> Result<Record, Refusal> {
+pub fn decode(bytes: &[u8], version: Version, agreed: &Agreed) -> Result<Record, Refusal> {
     let (start, length) = (bytes.as_ptr(), bytes.len());
-    // SAFETY: pointer and length are those of a slice.
-    let decoded = unsafe { raw::hollytrot_record_decode(start, length, version.number()) };
+    let (keys, count) = agreed.as_raw();
+    // SAFETY: pointers and lengths are those of slices.
+    let decoded =
+        unsafe { raw::hollytrot_record_decode(start, length, version.number(), keys, count) };
     decoded.answer.to_result()?;
     Ok(match decoded.letter as u8 {
         b'A' => Record::Header(Header {
@@ -143,31 +146,44 @@ fn date(date: raw::Date) -> Date {
 
 /// The field of a row, as a part of an accepted record of a file of this version. The empty slice if the record is
 /// refused, and for a row of another letter or past the table. For an A or a Z the version does not matter.
-pub fn field(bytes: &[u8], version: Version, row: Row) -> &[u8] {
+pub fn field<'a>(bytes: &'a [u8], version: Version, row: Row, agreed: &Agreed) -> &'a [u8] {
     let (start, length) = (bytes.as_ptr(), bytes.len());
-    // SAFETY: pointer and length are those of a slice.
-    let part = unsafe { raw::hollytrot_record_field(start, length, version.number(), row.0) };
+    let (keys, count) = agreed.as_raw();
+    // SAFETY: pointers and lengths are those of slices.
+    let part =
+        unsafe { raw::hollytrot_record_field(start, length, version.number(), row.0, keys, count) };
     &bytes[part.from..part.from + part.length]
 }
 
 /// The field bytes of an accepted A: what [`Writer::header`](crate::Writer::header) takes for the same record. A G is
 /// refused 1, for the length of its field bytes, and a Z 9 at 1.
 pub fn header_fields(bytes: &[u8]) -> Result<[u8; 80], Refusal> {
-    // An A does not depend on the version, and a G is refused for the length of the buffer before its version is read.
-    join(bytes, Version::Four)
+    // An A depends neither on the version nor on a right list, and a G is refused for the length of the buffer before
+    // its version and its barcode are read.
+    join(bytes, Version::Four, &Agreed::none())
 }
 
 /// The field bytes of an accepted G of a file of this version: what [`Writer::payment`](crate::Writer::payment) takes
 /// for the same record. An A is refused 1, for the length of its field bytes, and a Z 9 at 1.
-pub fn payment_fields(bytes: &[u8], version: Version) -> Result<[u8; 121], Refusal> {
-    join(bytes, version)
+pub fn payment_fields(
+    bytes: &[u8],
+    version: Version,
+    agreed: &Agreed,
+) -> Result<[u8; 121], Refusal> {
+    join(bytes, version, agreed)
 }
 
-fn join<const N: usize>(bytes: &[u8], version: Version) -> Result<[u8; N], Refusal> {
+fn join<const N: usize>(
+    bytes: &[u8],
+    version: Version,
+    agreed: &Agreed,
+) -> Result<[u8; N], Refusal> {
     let mut out = [0; N];
     let (start, length) = (bytes.as_ptr(), bytes.len());
+    let (keys, count) = agreed.as_raw();
+    let version = version.number();
     // SAFETY: pointers and lengths are those of slices, and `out` overlaps no other.
-    unsafe { raw::hollytrot_record_join(start, length, version.number(), out.as_mut_ptr(), N) }
+    unsafe { raw::hollytrot_record_join(start, length, version, keys, count, out.as_mut_ptr(), N) }
         .to_result()?;
     Ok(out)
 }

@@ -52,6 +52,7 @@ reasons! {
     // 20 is retired and is not used again.
     TooWide = 21, "a number is too wide for its field";
     NoLineEnd = 22, "a record of a lined file without CR and LF behind it";
+    WrongList = 25, "the list of agreed issuers has over 64 entries, one that names no issuer, or an issuer twice";
 }
 
 impl Reason {
@@ -137,7 +138,7 @@ mod tests {
                 Err(Refusal { reason, place: 5 })
             );
         }
-        for number in [0, 20, u64::MAX] {
+        for number in [0, 20, 23, 24, u64::MAX] {
             assert_eq!(Reason::from_number(number), None);
         }
     }

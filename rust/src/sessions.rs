@@ -1,7 +1,7 @@
 //! Sessions, the board and the page: docs/SPEC.md, "Sessions", "Board" and "Page".
 
 use crate::raw;
-use crate::{Issuer, Refusal};
+use crate::{Agreed, Issuer, Refusal};
 
 /// How many lanes a board has.
 pub const LANES: usize = 64;
@@ -112,9 +112,11 @@ impl Session {
     /// Takes one record; a refusal does not change the session. A header of 150 bytes opens a bare file; with CR and
     /// LF, 152 bytes, it opens a lined one, and every record of it is passed with CR and LF. One that is right but for
     /// them is refused 22; in a bare file a record with them is refused 1.
-    pub fn take(&mut self, record: &[u8]) -> Result<(), Refusal> {
-        // SAFETY: pointer and length are those of a slice, and the session came from the engine.
-        let result = unsafe { raw::hollytrot_session_take(*self.0, record.as_ptr(), record.len()) };
+    pub fn take(&mut self, record: &[u8], agreed: &Agreed) -> Result<(), Refusal> {
+        let (start, length) = (record.as_ptr(), record.len());
+        let (keys, count) = agreed.as_raw();
+        // SAFETY: pointers and lengths are those of slices, and the session came from the engine.
+        let result = unsafe { raw::hollytrot_session_take(*self.0, start, length, keys, count) };
         *self.0 = result.session;
         result.answer.to_result()
     }
@@ -124,7 +126,7 @@ impl Session {
     /// bare file. If more of the input may follow, use [`run_part`](Self::run_part).
     ///
     /// ```
-    /// use hollytrot::{Session, Writer};
+    /// use hollytrot::{Agreed, Session, Writer};
     ///
     /// let header = b"AGREEMENT           COMPANY             237BANK                2023123100432104O";
     /// let mut writer = Writer::lined();
@@ -132,13 +134,13 @@ impl Session {
     /// input.extend(writer.trailer()?);
     ///
     /// let mut session = Session::new();
-    /// let result = session.run(&input);
+    /// let result = session.run(&input, &Agreed::none());
     /// assert_eq!((result.answer, result.records, result.bytes), (Ok(()), 2, 2 * 152));
     /// session.finish()?;
     /// # Ok::<(), hollytrot::Refusal>(())
     /// ```
-    pub fn run(&mut self, bytes: &[u8]) -> RunResult {
-        self.run_bytes(bytes, false)
+    pub fn run(&mut self, bytes: &[u8], agreed: &Agreed) -> RunResult {
+        self.run_bytes(bytes, false, agreed)
     }
 
     /// As [`run`](Self::run), for a part of an input, split anywhere, when more of it may follow. Fewer than 152 bytes
@@ -149,26 +151,29 @@ impl Session {
     /// # fn take_all(mut input: impl std::io::Read) -> Result<hollytrot::Session, Box<dyn std::error::Error>> {
     /// use std::io::Read;
     ///
+    /// let agreed = hollytrot::Agreed::none();
     /// let mut session = hollytrot::Session::new();
     /// let mut bytes = Vec::new();
     /// while input.by_ref().take(65536).read_to_end(&mut bytes)? > 0 {
-    ///     let result = session.run_part(&bytes);
+    ///     let result = session.run_part(&bytes, &agreed);
     ///     result.answer?;
     ///     bytes.drain(..result.bytes);
     /// }
-    /// session.run(&bytes).answer?;
+    /// session.run(&bytes, &agreed).answer?;
     /// session.finish()?;
     /// # Ok(session)
     /// # }
     /// ```
-    pub fn run_part(&mut self, bytes: &[u8]) -> RunResult {
-        self.run_bytes(bytes, true)
+    pub fn run_part(&mut self, bytes: &[u8], agreed: &Agreed) -> RunResult {
+        self.run_bytes(bytes, true, agreed)
     }
 
-    fn run_bytes(&mut self, bytes: &[u8], more: bool) -> RunResult {
+    fn run_bytes(&mut self, bytes: &[u8], more: bool, agreed: &Agreed) -> RunResult {
         let (start, length) = (bytes.as_ptr(), bytes.len());
-        // SAFETY: pointer and length are those of a slice, and the session came from the engine.
-        let result = unsafe { raw::hollytrot_session_run(*self.0, start, length, more) };
+        let (keys, count) = agreed.as_raw();
+        // SAFETY: pointers and lengths are those of slices, and the session came from the engine.
+        let result =
+            unsafe { raw::hollytrot_session_run(*self.0, start, length, more, keys, count) };
         *self.0 = result.session;
         RunResult {
             answer: result.answer.to_result(),

@@ -1,7 +1,7 @@
 //! The writer of one return file: docs/SPEC.md, "Writer".
 
 use crate::raw;
-use crate::{Refusal, LINED, RECORD};
+use crate::{Agreed, Refusal, LINED, RECORD};
 
 /// Writes a file record by record: the header, each payment, then the trailer with the file's own count and total. Each
 /// record is 150 bytes; in a lined file it is 152, the last two CR and LF. A call that is not expected now is refused 9
@@ -54,18 +54,31 @@ impl Writer {
     }
 
     /// The G of 121 field bytes, those of places 2 to 81 and 101 to 141, and the two amounts in centavos. Its capture
-    /// and payment form must be codes of the version that the header names.
+    /// and payment form must be codes of the version that the header names. If the issuer is agreed, its free field
+    /// must start with a date, else 11 at 57, in segment 6 at 61. A session that is given the same list does not refuse
+    /// the record for that.
     pub fn payment(
         &mut self,
         fields: &[u8],
         received: u64,
         tariff: u64,
+        agreed: &Agreed,
     ) -> Result<Vec<u8>, Refusal> {
         let (bytes, length) = (fields.as_ptr(), fields.len());
+        let (keys, count) = agreed.as_raw();
         // SAFETY: pointers and lengths are those of slices, and `out` overlaps no other.
         self.write(|writer, out| unsafe {
-            let (start, size) = (out.as_mut_ptr(), out.len());
-            raw::hollytrot_writer_payment(writer, bytes, length, received, tariff, start, size)
+            raw::hollytrot_writer_payment(
+                writer,
+                bytes,
+                length,
+                received,
+                tariff,
+                keys,
+                count,
+                out.as_mut_ptr(),
+                out.len(),
+            )
         })
     }
 

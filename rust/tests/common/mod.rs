@@ -1,21 +1,28 @@
-//! What the tests share: a refusal, and the field bytes of a header and of a payment.
+//! What the tests share: an empty list, a refusal, and the field bytes of a header and of a payment.
 
-use hollytrot::{barcode, Issuer, Reason, Refusal};
+use hollytrot::{barcode, Agreed, Issuer, Reason, Refusal};
 
 pub const HEADER: &[u8; 80] =
     b"AGREEMENT           COMPANY             237BANK                2023123100432104O";
+
+/// No agreed issuers.
+pub static NONE: Agreed = Agreed::none();
+
+/// The issuer of [`code`].
+pub const ISSUER: Issuer = Issuer {
+    segment: 6,
+    number: 12_345_678,
+};
 
 pub fn refused(reason: Reason, place: usize) -> Refusal {
     Refusal { reason, place }
 }
 
-/// A barcode of segment 6, where issuer and free field have other widths than elsewhere.
+/// A barcode of segment 6, where issuer and free field have other widths than elsewhere. Its free field starts with a
+/// date.
 pub fn code() -> [u8; 44] {
-    let issuer = Issuer {
-        segment: 6,
-        number: 12_345_678,
-    };
-    barcode::build(issuer, 8, 98_765_432_109, b"202402291234567890123").expect("good fields")
+    let free = b"202402291234567890123";
+    barcode::build(ISSUER, 8, 98_765_432_109, free, &NONE).expect("good fields")
 }
 
 pub fn payment_of(code: &[u8]) -> [u8; 121] {
