@@ -103,19 +103,40 @@ static void same_answer(hollytrot_answer found, uint64_t number, size_t place)
     SAME(found.place, place);
 }
 
+/* An empty list of agreed issuers, and one that has the issuer of the barcode, each as two arguments. */
+static const uint64_t none[1], mine[1] = {612345678};
+#define NONE none, 0
+#define MINE mine, 1
+
+static void keys(void)
+{
+    SAME(hollytrot_issuer_key((hollytrot_issuer){6, 12345678}), 612345678);
+    SAME(hollytrot_issuer_key((hollytrot_issuer){6, 99999999}), 699999999);
+    SAME(hollytrot_issuer_key((hollytrot_issuer){1, 3659}), 100003659);
+    SAME(hollytrot_issuer_key((hollytrot_issuer){9, 0}), 900000000);
+    SAME(hollytrot_issuer_key((hollytrot_issuer){8, 3659}), 0);
+    SAME(hollytrot_issuer_key((hollytrot_issuer){0, 3659}), 0);
+    SAME(hollytrot_issuer_key((hollytrot_issuer){1, 10000}), 0);
+    SAME(hollytrot_issuer_key((hollytrot_issuer){6, 100000000}), 0);
+    SAME(hollytrot_issuer_key((hollytrot_issuer){(1ull << 32) + 1, 3659}), 0);
+    SAME(hollytrot_issuer_key((hollytrot_issuer){1, (1ull << 32) + 3659}), 0);
+}
+
 /* A barcode of segment 6, where issuer and free field have other widths than elsewhere. */
 static uint8_t code[44];
 
 static void barcodes(void)
 {
     hollytrot_issuer issuer = {6, 12345678};
-    same_answer(hollytrot_barcode_build(issuer, 8, 98765432109, text("202402291234567890123"), 21, code, 44), 0, 0);
+    same_answer(hollytrot_barcode_build(issuer, 8, 98765432109, text("202402291234567890123"), 21, MINE, code, 44),
+                0, 0);
     same_bytes(__LINE__, code, "868", 3);
     same_bytes(__LINE__, code + 4, "98765432109" "12345678" "202402291234567890123", 40);
     issuer.segment = 1;
-    same_answer(hollytrot_barcode_build(issuer, 8, 1, text("2024022912345678901230000"), 25, code, 44), 21, 16);
+    same_answer(hollytrot_barcode_build(issuer, 8, 1, text("2024022912345678901230000"), 25, NONE, code, 44), 21,
+                16);
 
-    hollytrot_decoded decoded = hollytrot_barcode_decode(code, 44);
+    hollytrot_decoded decoded = hollytrot_barcode_decode(code, 44, MINE);
     same_answer(decoded.answer, 0, 0);
     SAME(decoded.fields.kind, 8);
     SAME(decoded.fields.value, 98765432109);
@@ -125,7 +146,7 @@ static void barcodes(void)
     SAME(decoded.fields.due.month, 2);
     SAME(decoded.fields.due.day, 29);
 
-    hollytrot_part part = hollytrot_barcode_free_field(code, 44);
+    hollytrot_part part = hollytrot_barcode_free_field(code, 44, MINE);
     SAME(part.from, 23);
     SAME(part.length, 21);
 }
@@ -181,14 +202,14 @@ static void writers(void)
     fill_fields();
     /* with a version that does not have the capture, then with a number that is no version */
     writer = (hollytrot_writer){1, {7, 1000, 4, false}};
-    result = hollytrot_writer_payment(writer, fields, 121, 123456, 789, g, 150);
+    result = hollytrot_writer_payment(writer, fields, 121, 123456, 789, NONE, g, 150);
     same_answer(result.answer, 12, 117);
     writer.file.version = (1ull << 32) + 6;
-    result = hollytrot_writer_payment(writer, fields, 121, 123456, 789, g, 150);
+    result = hollytrot_writer_payment(writer, fields, 121, 123456, 789, NONE, g, 150);
     same_answer(result.answer, 10, 80);
     same_writer(result.writer, 1, writer.file);
     writer.file.version = 6;
-    result = hollytrot_writer_payment(writer, fields, 121, 123456, 789, g, 150);
+    result = hollytrot_writer_payment(writer, fields, 121, 123456, 789, NONE, g, 150);
     same_answer(result.answer, 0, 0);
     same_writer(result.writer, 1, (hollytrot_file){8, 124456, 6, false});
 
@@ -212,7 +233,7 @@ static void lined_headers(void)
     for (int given = 0; given < 2; given++) {
         hollytrot_writer writer = {0, {0, 0, 0, given}};
         same_answer(hollytrot_writer_trailer(writer, lined, 150).answer, 9, 1);
-        same_answer(hollytrot_writer_payment(writer, fields, 121, 1, 0, lined, 152).answer, 9, 1);
+        same_answer(hollytrot_writer_payment(writer, fields, 121, 1, 0, NONE, lined, 152).answer, 9, 1);
         hollytrot_write_result result = hollytrot_writer_header(writer, text(header), 80, lined, 151);
         same_answer(result.answer, 1, 0);
         same_writer(result.writer, 0, writer.file);
@@ -229,10 +250,10 @@ static void lined_writers(void)
 {
     uint8_t *out = lined + 152;
     hollytrot_writer writer = {1, {7, 1000, 6, true}};
-    hollytrot_write_result result = hollytrot_writer_payment(writer, fields, 121, 123456, 789, out, 150);
+    hollytrot_write_result result = hollytrot_writer_payment(writer, fields, 121, 123456, 789, NONE, out, 150);
     same_answer(result.answer, 1, 0);
     same_writer(result.writer, 1, writer.file);
-    result = hollytrot_writer_payment(writer, fields, 121, 123456, 789, out, 152);
+    result = hollytrot_writer_payment(writer, fields, 121, 123456, 789, NONE, out, 152);
     same_answer(result.answer, 0, 0);
     same_writer(result.writer, 1, (hollytrot_file){8, 124456, 6, true});
     out += 152;
@@ -253,7 +274,7 @@ static void lined_writers(void)
 
 static void records(void)
 {
-    hollytrot_record record = hollytrot_record_decode(a, 150, 0);
+    hollytrot_record record = hollytrot_record_decode(a, 150, 0, MINE);
     same_answer(record.answer, 0, 0);
     SAME(record.letter, 'A');
     SAME(record.header.bank, 237);
@@ -263,7 +284,7 @@ static void records(void)
     SAME(record.header.sequence, 4321);
     SAME(record.header.version, 6);
 
-    record = hollytrot_record_decode(g, 150, 6);
+    record = hollytrot_record_decode(g, 150, 6, MINE);
     SAME(record.letter, 'G');
     SAME(record.payment.paid.year, 2024);
     SAME(record.payment.paid.month, 1);
@@ -282,17 +303,17 @@ static void records(void)
     SAME(record.payment.tariff, 789);
     SAME(record.payment.number, 56789);
 
-    record = hollytrot_record_decode(z, 150, 0);
+    record = hollytrot_record_decode(z, 150, 0, MINE);
     SAME(record.letter, 'Z');
     SAME(record.trailer.count, 10);
     SAME(record.trailer.total, 124456);
-    record = hollytrot_record_decode(z, 149, 0);
+    record = hollytrot_record_decode(z, 149, 0, MINE);
     same_answer(record.answer, 1, 0);
     SAME(record.letter, 0);
-    same_answer(hollytrot_record_check(lined, 152, 0), 1, 0);
-    same_answer(hollytrot_record_check(lined, 150, 0), 0, 0);
+    same_answer(hollytrot_record_check(lined, 152, 0, NONE), 1, 0);
+    same_answer(hollytrot_record_check(lined, 150, 0, NONE), 0, 0);
 
-    hollytrot_part part = hollytrot_record_field(g, 150, 6, HOLLYTROT_G_RECEIVED);
+    hollytrot_part part = hollytrot_record_field(g, 150, 6, HOLLYTROT_G_RECEIVED, NONE);
     SAME(part.from, 81);
     SAME(part.length, 12);
 }
@@ -307,20 +328,20 @@ static void versions(void)
     for (size_t i = 0; i < sizeof told / sizeof told[0]; i++) {
         uint64_t version = told[i].version;
         bool accepted = told[i].number == 0;
-        same_answer(hollytrot_record_check(g, 150, version), told[i].number, told[i].place);
-        hollytrot_record record = hollytrot_record_decode(g, 150, version);
+        same_answer(hollytrot_record_check(g, 150, version, NONE), told[i].number, told[i].place);
+        hollytrot_record record = hollytrot_record_decode(g, 150, version, MINE);
         same_answer(record.answer, told[i].number, told[i].place);
         SAME(record.header.version, 0);
-        hollytrot_part part = hollytrot_record_field(g, 150, version, HOLLYTROT_G_CAPTURE);
+        hollytrot_part part = hollytrot_record_field(g, 150, version, HOLLYTROT_G_CAPTURE, NONE);
         SAME(part.from, accepted ? 116 : 0);
         SAME(part.length, accepted ? 1 : 0);
 
         uint8_t joined[HOLLYTROT_PAYMENT_FIELDS] = {0}, untouched[HOLLYTROT_PAYMENT_FIELDS] = {0};
-        same_answer(hollytrot_record_join(g, 150, version, joined, sizeof joined), told[i].number, told[i].place);
+        same_answer(hollytrot_record_join(g, 150, version, NONE, joined, sizeof joined), told[i].number, told[i].place);
         same_bytes(__LINE__, joined, accepted ? fields : untouched, sizeof joined);
         /* an A does not depend on it */
-        same_answer(hollytrot_record_check(a, 150, version), 0, 0);
-        same_answer(hollytrot_record_join(a, 150, version, joined, HOLLYTROT_HEADER_FIELDS), 0, 0);
+        same_answer(hollytrot_record_check(a, 150, version, NONE), 0, 0);
+        same_answer(hollytrot_record_join(a, 150, version, NONE, joined, HOLLYTROT_HEADER_FIELDS), 0, 0);
         same_bytes(__LINE__, joined, header, HOLLYTROT_HEADER_FIELDS);
     }
 }
@@ -388,11 +409,11 @@ static void sessions(void)
     after.work.total.payments += 1;
     after.work.total.centavos += 123456;
     after.file = (hollytrot_file){9, 124456, 6, false};
-    result = hollytrot_session_take(session, g, 150);
+    result = hollytrot_session_take(session, g, 150, NONE);
     same_answer(result.answer, 0, 0);
     same_session(__LINE__, &result.session, &after);
     after.file.version = 4;
-    same_answer(hollytrot_session_take(after, g, 150).answer, 12, 117);
+    same_answer(hollytrot_session_take(after, g, 150, NONE).answer, 12, 117);
 
     after = hollytrot_session_abandon(session);
     session.work = session.shown;
@@ -404,7 +425,7 @@ static void sessions(void)
     SAME(after.file.version, 0);
     SAME(after.file.lined, false);
     SAME(after.shown.used, 0);
-    after = hollytrot_session_take(after, a, 150).session;
+    after = hollytrot_session_take(after, a, 150, NONE).session;
     SAME(after.file.version, 6);
     SAME(after.file.lined, false);
 }
@@ -413,26 +434,26 @@ static void sessions(void)
 static void lined_sessions(void)
 {
     hollytrot_session session = hollytrot_session_new();
-    same_answer(hollytrot_session_take(session, lined, 151).answer, 1, 0);
-    same_answer(hollytrot_session_take(session, lined + 152, 152).answer, 9, 1);
-    hollytrot_take_result result = hollytrot_session_take(session, lined, 152);
+    same_answer(hollytrot_session_take(session, lined, 151, NONE).answer, 1, 0);
+    same_answer(hollytrot_session_take(session, lined + 152, 152, NONE).answer, 9, 1);
+    hollytrot_take_result result = hollytrot_session_take(session, lined, 152, NONE);
     same_answer(result.answer, 0, 0);
     SAME(result.session.file.version, 6);
     SAME(result.session.file.lined, true);
-    same_answer(hollytrot_session_take(open_session(8), lined + 152, 152).answer, 1, 0);
+    same_answer(hollytrot_session_take(open_session(8), lined + 152, 152, NONE).answer, 1, 0);
 
     session = open_session(8);
     session.file.lined = true;
     result = hollytrot_session_finish(session);
     same_session(__LINE__, &result.session, &session);
-    same_answer(hollytrot_session_take(session, lined + 152, 149).answer, 1, 0);
-    same_answer(hollytrot_session_take(session, lined + 152, 153).answer, 1, 0);
+    same_answer(hollytrot_session_take(session, lined + 152, 149, NONE).answer, 1, 0);
+    same_answer(hollytrot_session_take(session, lined + 152, 153, NONE).answer, 1, 0);
     for (size_t length = 150; length < 152; length++) {
-        result = hollytrot_session_take(session, lined + 152, length);
+        result = hollytrot_session_take(session, lined + 152, length, NONE);
         same_answer(result.answer, HOLLYTROT_NO_LINE_END, 151);
         same_session(__LINE__, &result.session, &session);
     }
-    result = hollytrot_session_take(session, lined + 152, 152);
+    result = hollytrot_session_take(session, lined + 152, 152, NONE);
     same_answer(result.answer, 0, 0);
     SAME(result.session.file.taken, 9);
     SAME(result.session.file.lined, true);
@@ -447,7 +468,7 @@ static void runs(void)
     memcpy(three, g, 150);
     memcpy(three + 150, g, 150);
     memcpy(three + 300, z, 150);
-    hollytrot_run_result run = hollytrot_session_run(session, three, 450, false);
+    hollytrot_run_result run = hollytrot_session_run(session, three, 450, false, NONE);
     same_answer(run.answer, 13, 2);
     SAME(run.records, 2);
     SAME(run.files, 0);
@@ -458,7 +479,7 @@ static void runs(void)
     /* the right trailer closes the file, and the board shown is then the working board */
     session = open_session(7);
     memcpy(three + 150, z, 150);
-    run = hollytrot_session_run(session, three, 300, false);
+    run = hollytrot_session_run(session, three, 300, false, NONE);
     same_answer(run.answer, 0, 0);
     SAME(run.records, 2);
     SAME(run.files, 1);
@@ -466,7 +487,7 @@ static void runs(void)
     SAME(run.session.file.version, 0);
     SAME(run.session.shown.lanes[1].tally.centavos, session.work.lanes[1].tally.centavos + 123456);
     /* if more may follow, the last 150 bytes are left */
-    run = hollytrot_session_run(session, three, 300, true);
+    run = hollytrot_session_run(session, three, 300, true, NONE);
     same_answer(run.answer, 0, 0);
     SAME(run.records, 1);
     SAME(run.bytes, 150);
@@ -478,30 +499,163 @@ static void lined_runs(void)
     hollytrot_session session = open_session(7);
     session.file.lined = true;
     /* a payment and a trailer without its LF: left if more may follow, else refused */
-    hollytrot_run_result run = hollytrot_session_run(session, lined + 152, 303, false);
+    hollytrot_run_result run = hollytrot_session_run(session, lined + 152, 303, false, NONE);
     same_answer(run.answer, HOLLYTROT_NO_LINE_END, 151);
     SAME(run.bytes, 152);
-    run = hollytrot_session_run(session, lined + 152, 303, true);
+    run = hollytrot_session_run(session, lined + 152, 303, true, NONE);
     same_answer(run.answer, 0, 0);
     SAME(run.records, 1);
     SAME(run.files, 0);
     SAME(run.bytes, 152);
     SAME(run.session.file.taken, 8);
     SAME(run.session.file.lined, true);
-    run = hollytrot_session_run(run.session, lined + 304, 152, true);
+    run = hollytrot_session_run(run.session, lined + 304, 152, true, NONE);
     same_answer(run.answer, 0, 0);
     SAME(run.files, 1);
     SAME(run.bytes, 152);
     SAME(run.session.opened, false);
     SAME(run.session.file.lined, false);
     /* a header whose CR and LF may follow */
-    run = hollytrot_session_run(run.session, lined, 151, true);
+    run = hollytrot_session_run(run.session, lined, 151, true, NONE);
     same_answer(run.answer, 0, 0);
     SAME(run.bytes, 0);
-    run = hollytrot_session_run(run.session, lined, 152, true);
+    run = hollytrot_session_run(run.session, lined, 152, true, NONE);
     same_answer(run.answer, 0, 0);
     SAME(run.bytes, 152);
     SAME(run.session.file.lined, true);
+}
+
+/* A list; whether it is refused, and if not, whether it has the issuer of the barcode. */
+struct list {
+    const uint64_t *keys;
+    size_t length;
+    bool wrong, has;
+};
+
+/* The number that each call is answered under a list. */
+static uint64_t number_under(const struct list *list, bool dated)
+{
+    if (list->wrong)
+        return HOLLYTROT_WRONG_LIST;
+    return list->has && !dated ? HOLLYTROT_NO_DATE : HOLLYTROT_ACCEPTED;
+}
+
+static void same_due_date(hollytrot_date found, bool shown)
+{
+    SAME(found.year, shown ? 2024 : 0);
+    SAME(found.month, shown ? 2 : 0);
+    SAME(found.day, shown ? 29 : 0);
+}
+
+/* The barcode and its line under a list; the free field starts with a date or with a 30th of February. */
+static void barcodes_under(const struct list *list, bool dated)
+{
+    const uint64_t *keys = list->keys, number = number_under(list, dated);
+    size_t n = list->length, place = number == 11 ? 24 : 0, place_in_line = number == 11 ? 26 : 0;
+    const uint8_t *digits = text(dated ? "202402291234567890123" : "202402301234567890123");
+    uint8_t built[44], typed[48], out[48] = {0}, untouched[48] = {0};
+    hollytrot_issuer issuer = {6, 12345678};
+    same_answer(hollytrot_barcode_build(issuer, 8, 98765432109, digits, 21, NONE, built, 44), 0, 0);
+    same_answer(hollytrot_line_from_barcode(built, 44, NONE, typed, 48), 0, 0);
+
+    same_answer(hollytrot_barcode_build(issuer, 8, 98765432109, digits, 21, keys, n, out, 44), number, place);
+    same_bytes(__LINE__, out, number == 0 ? built : untouched, 44);
+    same_answer(hollytrot_barcode_check(built, 44, keys, n), number, place);
+    hollytrot_decoded decoded = hollytrot_barcode_decode(built, 44, keys, n);
+    same_answer(decoded.answer, number, place);
+    same_due_date(decoded.fields.due, number == 0 && list->has);
+    SAME(hollytrot_barcode_free_field(built, 44, keys, n).length, number == 0 ? 21 : 0);
+    memset(out, 0, sizeof out);
+    same_answer(hollytrot_line_from_barcode(built, 44, keys, n, out, 48), number, place);
+    same_bytes(__LINE__, out, number == 0 ? typed : untouched, 48);
+
+    same_answer(hollytrot_line_check(typed, 48, keys, n), number, place_in_line);
+    decoded = hollytrot_line_decode(typed, 48, keys, n);
+    same_answer(decoded.answer, number, place_in_line);
+    same_due_date(decoded.fields.due, number == 0 && list->has);
+    memset(out, 0, sizeof out);
+    same_answer(hollytrot_line_to_barcode(typed, 48, keys, n, out, 44), number, place_in_line);
+    same_bytes(__LINE__, out, number == 0 ? built : untouched, 44);
+}
+
+/* A payment with such a barcode under a list: as a single record, in a session and by a writer. */
+static void files_under(const struct list *list, bool dated)
+{
+    const uint64_t *keys = list->keys, number = number_under(list, dated);
+    size_t n = list->length, place = number == 11 ? 61 : 0;
+    uint8_t given[HOLLYTROT_PAYMENT_FIELDS], record[150], out[150];
+    const uint8_t *digits = text(dated ? "202402291234567890123" : "202402301234567890123");
+    memcpy(given, fields, sizeof given);
+    hollytrot_barcode_build((hollytrot_issuer){6, 12345678}, 8, 98765432109, digits, 21, NONE, given + 36, 44);
+    hollytrot_writer writer = {1, {7, 1000, 6, false}};
+    same_answer(hollytrot_writer_payment(writer, given, 121, 123456, 789, NONE, record, 150).answer, 0, 0);
+
+    same_answer(hollytrot_record_check(record, 150, 6, keys, n), number, place);
+    hollytrot_record decoded = hollytrot_record_decode(record, 150, 6, keys, n);
+    same_answer(decoded.answer, number, place);
+    same_due_date(decoded.payment.barcode.due, number == 0 && list->has);
+    SAME(hollytrot_record_field(record, 150, 6, HOLLYTROT_G_RECEIVED, keys, n).from, number == 0 ? 81 : 0);
+    same_answer(hollytrot_record_join(record, 150, 6, keys, n, out, 121), number, place);
+
+    hollytrot_write_result written = hollytrot_writer_payment(writer, given, 121, 123456, 789, keys, n, out, 150);
+    same_answer(written.answer, number, place);
+    SAME(written.writer.file.taken, number == 0 ? 8 : 7);
+    hollytrot_session session = open_session(8);
+    hollytrot_take_result taken = hollytrot_session_take(session, record, 150, keys, n);
+    same_answer(taken.answer, number, place);
+    SAME(taken.session.file.taken, number == 0 ? 9 : 8);
+    hollytrot_run_result run = hollytrot_session_run(session, record, 150, false, keys, n);
+    same_answer(run.answer, number, place);
+    SAME(run.records, number == 0 ? 1 : 0);
+    SAME(run.session.file.taken, number == 0 ? 9 : 8);
+}
+
+/* A wrong list is refused before everything else: wrong lengths, no bytes, and calls that are not expected. */
+static void refused_first(const struct list *list)
+{
+    const uint64_t *keys = list->keys;
+    size_t n = list->length;
+    uint64_t number = list->wrong ? 25 : 1;
+    uint8_t out[1];
+    same_answer(hollytrot_barcode_check(text(""), 0, keys, n), number, 0);
+    same_answer(hollytrot_line_to_barcode(text(""), 0, keys, n, out, 1), number, 0);
+    same_answer(hollytrot_record_join(text("?"), 1, 6, keys, n, out, 1), number, 0);
+    same_answer(hollytrot_record_check(a, 150, 6, keys, n), list->wrong ? 25 : 0, 0);
+    hollytrot_writer closed = {2, {0, 0, 6, false}};
+    same_answer(hollytrot_writer_payment(closed, fields, 1, 0, 0, keys, n, out, 1).answer, number, 0);
+    same_answer(hollytrot_session_take(hollytrot_session_new(), text(""), 0, keys, n).answer, number, 0);
+    hollytrot_run_result run = hollytrot_session_run(open_session(8), text(""), 0, true, keys, n);
+    same_answer(run.answer, list->wrong ? 25 : 0, 0);
+    SAME(run.session.file.taken, 8);
+}
+
+/* Every call that has a list, under lists that are empty, right, full, too long and wrong in an entry. */
+static void agreed_issuers(void)
+{
+    uint64_t full[HOLLYTROT_AGREED + 1];
+    for (size_t i = 0; i <= HOLLYTROT_AGREED; i++)
+        full[i] = hollytrot_issuer_key((hollytrot_issuer){3, i});
+    full[HOLLYTROT_AGREED - 1] = mine[0];
+    const uint64_t no_key[] = {mine[0], 800000001}, twice[] = {mine[0], full[0], mine[0]};
+    const struct list lists[] = {
+        {none, 0, false, false},
+        {mine, 1, false, true},
+        {full, 1, false, false},
+        {full, HOLLYTROT_AGREED - 1, false, false},
+        {full, HOLLYTROT_AGREED, false, true},
+        {full, HOLLYTROT_AGREED + 1, true, false},
+        {none, 1, true, false},
+        {no_key, 2, true, false},
+        {twice, 2, false, true},
+        {twice, 3, true, false},
+    };
+    for (size_t i = 0; i < sizeof lists / sizeof lists[0]; i++) {
+        for (int dated = 0; dated < 2; dated++) {
+            barcodes_under(&lists[i], dated);
+            files_under(&lists[i], dated);
+        }
+        refused_first(&lists[i]);
+    }
 }
 
 static void pages(void)
@@ -531,6 +685,7 @@ static void pages(void)
 
 int main(void)
 {
+    keys();
     barcodes();
     dates();
     writers();
@@ -543,6 +698,7 @@ int main(void)
     lined_sessions();
     runs();
     lined_runs();
+    agreed_issuers();
     pages();
     printf("abi: %d values compared, %d wrong\n", checks, failures);
     return failures != 0;

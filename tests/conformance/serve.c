@@ -10,6 +10,7 @@
 #define FILL 0xA5
 #define GUARD 64
 #define MOST_OUT 9000
+#define MOST_AGREED 255
 
 /* The frame of requests, and the frame of replies. */
 static uint8_t *request, *reply;
@@ -19,6 +20,10 @@ static size_t at, request_length, reply_length, request_capacity, reply_capacity
 static hollytrot_session session;
 static hollytrot_writer writer;
 static uint8_t guarded[GUARD + MOST_OUT + GUARD];
+
+/* The list of agreed issuers of the present call. */
+static uint64_t agreed[MOST_AGREED];
+static size_t agreed_length;
 
 static _Noreturn void fail(const char *why)
 {
@@ -54,6 +59,13 @@ static uint64_t number_in(void)
     uint64_t n;
     memcpy(&n, bytes_in(8), 8);
     return n;
+}
+
+/* The list of agreed issuers is the last of a request: how many there are, then a number for each. */
+static void agreed_in(void)
+{
+    agreed_length = byte_in();
+    memcpy(agreed, bytes_in(8 * agreed_length), 8 * agreed_length);
 }
 
 static void bytes_out(const void *bytes, size_t length)
@@ -117,11 +129,12 @@ static void barcode(void)
 {
     size_t length = byte_in();
     const uint8_t *bytes = bytes_in(length);
-    answer_out(hollytrot_barcode_check(bytes, length));
-    hollytrot_decoded decoded = hollytrot_barcode_decode(bytes, length);
+    agreed_in();
+    answer_out(hollytrot_barcode_check(bytes, length, agreed, agreed_length));
+    hollytrot_decoded decoded = hollytrot_barcode_decode(bytes, length, agreed, agreed_length);
     bytes_out(&decoded, sizeof decoded);
-    part_out(hollytrot_barcode_free_field(bytes, length));
-    answer_out(hollytrot_line_from_barcode(bytes, length, new_buffer(48), 48));
+    part_out(hollytrot_barcode_free_field(bytes, length, agreed, agreed_length));
+    answer_out(hollytrot_line_from_barcode(bytes, length, agreed, agreed_length, new_buffer(48), 48));
     buffer_out(48);
 }
 
@@ -129,10 +142,11 @@ static void line(void)
 {
     size_t length = byte_in();
     const uint8_t *bytes = bytes_in(length);
-    answer_out(hollytrot_line_check(bytes, length));
-    hollytrot_decoded decoded = hollytrot_line_decode(bytes, length);
+    agreed_in();
+    answer_out(hollytrot_line_check(bytes, length, agreed, agreed_length));
+    hollytrot_decoded decoded = hollytrot_line_decode(bytes, length, agreed, agreed_length);
     bytes_out(&decoded, sizeof decoded);
-    answer_out(hollytrot_line_to_barcode(bytes, length, new_buffer(44), 44));
+    answer_out(hollytrot_line_to_barcode(bytes, length, agreed, agreed_length, new_buffer(44), 44));
     buffer_out(44);
 }
 
@@ -141,11 +155,13 @@ static void record(void)
     size_t length = byte_in();
     const uint8_t *bytes = bytes_in(length);
     uint64_t version = number_in();
-    answer_out(hollytrot_record_check(bytes, length, version));
-    hollytrot_record record = hollytrot_record_decode(bytes, length, version);
+    agreed_in();
+    answer_out(hollytrot_record_check(bytes, length, version, agreed, agreed_length));
+    hollytrot_record record = hollytrot_record_decode(bytes, length, version, agreed, agreed_length);
     bytes_out(&record, sizeof record);
     size_t out_length = length > 0 && bytes[0] == 'A' ? HOLLYTROT_HEADER_FIELDS : HOLLYTROT_PAYMENT_FIELDS;
-    answer_out(hollytrot_record_join(bytes, length, version, new_buffer(out_length), out_length));
+    uint8_t *out = new_buffer(out_length);
+    answer_out(hollytrot_record_join(bytes, length, version, agreed, agreed_length, out, out_length));
     buffer_out(out_length);
 }
 
@@ -155,9 +171,10 @@ static void fields(void)
     size_t length = byte_in();
     const uint8_t *bytes = bytes_in(length);
     uint64_t version = number_in();
+    agreed_in();
     for (size_t row = 0; row <= HOLLYTROT_ROWS; row++)
-        part_out(hollytrot_record_field(bytes, length, version, row));
-    part_out(hollytrot_record_field(bytes, length, version, SIZE_MAX));
+        part_out(hollytrot_record_field(bytes, length, version, row, agreed, agreed_length));
+    part_out(hollytrot_record_field(bytes, length, version, SIZE_MAX, agreed, agreed_length));
 }
 
 /* The field bytes of a record, into a buffer of any length. */
@@ -166,7 +183,9 @@ static void join(void)
     size_t out_length = byte_in(), length = byte_in();
     const uint8_t *bytes = bytes_in(length);
     uint64_t version = number_in();
-    answer_out(hollytrot_record_join(bytes, length, version, new_buffer(out_length), out_length));
+    agreed_in();
+    uint8_t *out = new_buffer(out_length);
+    answer_out(hollytrot_record_join(bytes, length, version, agreed, agreed_length, out, out_length));
     buffer_out(out_length);
 }
 
@@ -176,23 +195,33 @@ static void conversion(void)
     uint8_t which = byte_in();
     size_t out_length = byte_in(), length = byte_in();
     const uint8_t *bytes = bytes_in(length);
+    agreed_in();
     uint8_t *out = new_buffer(out_length);
     if (which == 0)
-        answer_out(hollytrot_line_to_barcode(bytes, length, out, out_length));
+        answer_out(hollytrot_line_to_barcode(bytes, length, agreed, agreed_length, out, out_length));
     else
-        answer_out(hollytrot_line_from_barcode(bytes, length, out, out_length));
+        answer_out(hollytrot_line_from_barcode(bytes, length, agreed, agreed_length, out, out_length));
     buffer_out(out_length);
 }
 
-static void build(void)
+static hollytrot_issuer issuer_in(void)
 {
     hollytrot_issuer issuer;
     issuer.segment = number_in();
     issuer.number = number_in();
+    return issuer;
+}
+
+static void build(void)
+{
+    hollytrot_issuer issuer = issuer_in();
     uint64_t kind = number_in(), value = number_in();
     size_t out_length = byte_in(), length = byte_in();
     const uint8_t *bytes = bytes_in(length);
-    answer_out(hollytrot_barcode_build(issuer, kind, value, bytes, length, new_buffer(out_length), out_length));
+    agreed_in();
+    uint8_t *out = new_buffer(out_length);
+    answer_out(
+        hollytrot_barcode_build(issuer, kind, value, bytes, length, agreed, agreed_length, out, out_length));
     buffer_out(out_length);
 }
 
@@ -250,7 +279,9 @@ static void take_result_out(hollytrot_take_result result)
 static void take(void)
 {
     size_t length = byte_in();
-    take_result_out(hollytrot_session_take(session, bytes_in(length), length));
+    const uint8_t *bytes = bytes_in(length);
+    agreed_in();
+    take_result_out(hollytrot_session_take(session, bytes, length, agreed, agreed_length));
 }
 
 /* Whether more bytes are to come, then a length of eight bytes. */
@@ -258,7 +289,9 @@ static void run(void)
 {
     bool more = flag_in();
     size_t length = number_in();
-    hollytrot_run_result result = hollytrot_session_run(session, bytes_in(length), length, more);
+    const uint8_t *bytes = bytes_in(length);
+    agreed_in();
+    hollytrot_run_result result = hollytrot_session_run(session, bytes, length, more, agreed, agreed_length);
     answer_out(result.answer);
     number_out(result.records);
     number_out(result.files);
@@ -300,8 +333,11 @@ static void payment(void)
     uint64_t received = number_in(), tariff = number_in();
     size_t out_length = byte_in(), length = byte_in();
     const uint8_t *fields = bytes_in(length);
+    agreed_in();
     uint8_t *out = new_buffer(out_length);
-    write_result_out(hollytrot_writer_payment(writer, fields, length, received, tariff, out, out_length), out_length);
+    write_result_out(hollytrot_writer_payment(writer, fields, length, received, tariff, agreed, agreed_length, out,
+                                              out_length),
+                     out_length);
 }
 
 static void trailer(void)
@@ -334,6 +370,7 @@ static void serve(uint8_t which)
     case 'j': join(); break;
     case 'c': conversion(); break;
     case 'u': build(); break;
+    case 'k': number_out(hollytrot_issuer_key(issuer_in())); break;
     case 'd': date_read(); break;
     case 'D': date_check(); break;
     case 'm': check_digits(); break;

@@ -1,12 +1,14 @@
-//! `days ISSUERS PAYMENTS [lined | 06]`: writes a day of PAYMENTS payments to standard output, in files of at most
-//! 50,000, each of a random one of ISSUERS issuers. A longer day of as many issuers starts with the same payments. All
-//! files have version 04, and the days are the same bytes as before there was a version 06, so that new figures compare
-//! with old ones. A lined day has the same records, with CR and LF behind each. The files of a 06 day have version 06,
-//! and their payments any of its codes.
+//! `days ISSUERS PAYMENTS [lined | 06 | due]`: writes a day of PAYMENTS payments to standard output, in files of at
+//! most 50,000, each of a random one of ISSUERS issuers. A longer day of as many issuers starts with the same payments.
+//! All files have version 04, and the days are the same bytes as before there was a version 06, so that new figures
+//! compare with old ones. A lined day has the same records, with CR and LF behind each. The files of a 06 day have
+//! version 06, and their payments any of its codes. The barcodes of a due day all have a due date, so that its issuers,
+//! at most 64, may be agreed ones.
 
 use std::error::Error;
 use std::io::{self, BufWriter, Write};
 
+use reference::agreed::key;
 use reference::days;
 use reference::random::Random;
 use reference::records::{HEADER_FIELDS, LENGTH, LINED};
@@ -35,15 +37,20 @@ fn header_fields(random: &mut Random, version: &[u8; 2]) -> [u8; HEADER_FIELDS] 
 fn main() -> Result<(), Box<dyn Error>> {
     let words: Vec<String> = std::env::args().skip(1).collect();
     let words: Vec<&str> = words.iter().map(String::as_str).collect();
-    let (issuers, payments, size, version) = match words[..] {
-        [issuers, payments] => (issuers, payments, LENGTH, b"04"),
-        [issuers, payments, "lined"] => (issuers, payments, LINED, b"04"),
-        [issuers, payments, "06"] => (issuers, payments, LENGTH, b"06"),
-        _ => return Err("days ISSUERS PAYMENTS [lined | 06]".into()),
+    let (issuers, payments, form) = match words[..] {
+        [issuers, payments] => (issuers, payments, ""),
+        [issuers, payments, form @ ("lined" | "06" | "due")] => (issuers, payments, form),
+        _ => return Err("days ISSUERS PAYMENTS [lined | 06 | due]".into()),
     };
+    let size = if form == "lined" { LINED } else { LENGTH };
+    let version = if form == "06" { b"06" } else { b"04" };
     let (issuers, payments): (u64, u64) = (issuers.parse()?, payments.parse()?);
     let random = &mut Random::new(issuers);
     let issuers = days::issuers(random, issuers as usize);
+    let agreed: Vec<u64> = match form {
+        "due" => issuers.iter().map(|&issuer| key(issuer)).collect(),
+        _ => Vec::new(),
+    };
     let mut out = BufWriter::with_capacity(1 << 20, io::stdout().lock());
     let mut record = vec![0; size];
     let mut left = payments;
@@ -53,10 +60,11 @@ fn main() -> Result<(), Box<dyn Error>> {
         out.write_all(&record)?;
         for _ in 0..left.min(PAYMENTS_IN_FILE) {
             let issuer = issuers[random.index(issuers.len())];
-            let code = days::barcode_of(random, issuer)?;
+            let code = days::barcode_under(random, issuer, &agreed)?;
             let fields = days::payment_fields(random, &code, writer.version);
             let received = random.number(AMOUNT_DIGITS);
-            writer.payment(&fields, received, random.number(7), &mut record)?;
+            let tariff = random.number(7);
+            writer.payment(&fields, received, tariff, &agreed, &mut record)?;
             out.write_all(&record)?;
         }
         writer.trailer(&mut record)?;

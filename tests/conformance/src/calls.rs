@@ -2,9 +2,9 @@
 
 mod states;
 
-use std::collections::BTreeMap;
+use std::collections::{BTreeMap, BTreeSet};
 
-use reference::{barcode, line, records, Date, Modulus, Refusal, Session, Writer};
+use reference::{agreed, barcode, line, records, Date, Issuer, Modulus, Refusal, Session, Writer};
 
 use crate::engine::{Batch, Engine};
 use crate::wire;
@@ -32,20 +32,38 @@ const ROWS: [usize; 30] = {
 /// The letters of requests whose reply starts with an answer.
 const ANSWERED: &[u8] = b"blrjcutRehgzp";
 
-/// How many inputs were compared, and how often each number was answered.
+/// Those of them that have a list of agreed issuers, and the places where they may be refused for a missing due date.
+pub const LISTED: [(u8, &[u64]); 9] = [
+    (b'b', &[20, 24]),
+    (b'l', &[21, 26]),
+    (b'c', &[20, 21, 24, 26]),
+    (b'u', &[20, 24]),
+    (b'r', &[57, 61]),
+    (b'j', &[57, 61]),
+    (b't', &[57, 61]),
+    (b'R', &[57, 61]),
+    (b'g', &[57, 61]),
+];
+
+/// How many inputs were compared, how often each number was answered, and which answers, a number and a place, requests
+/// of each letter had.
 #[derive(Clone, Default)]
 pub struct Counts {
     pub inputs: u64,
     pub answers: BTreeMap<u64, u64>,
+    pub by_letter: BTreeSet<(u8, [u64; 2])>,
 }
 
 impl Counts {
     /// Counts the answers that a batch expects.
     fn count(&mut self, batch: &Batch) {
         for &(request, reply) in &batch.starts {
-            if ANSWERED.contains(&batch.requests[request]) {
+            let letter = batch.requests[request];
+            if ANSWERED.contains(&letter) {
                 let number = wire::number_at(&batch.expected, reply);
+                let place = wire::number_at(&batch.expected, reply + 8);
                 *self.answers.entry(number).or_insert(0) += 1;
+                self.by_letter.insert((letter, [number, place]));
             }
         }
     }
@@ -55,6 +73,7 @@ impl Counts {
         for (&number, &count) in &more.answers {
             *self.answers.entry(number).or_insert(0) += count;
         }
+        self.by_letter.extend(&more.by_letter);
     }
 }
 
@@ -121,77 +140,103 @@ impl Calls {
         (&mut batch.requests, &mut batch.expected)
     }
 
-    pub fn barcode(&mut self, code: &[u8]) {
+    pub fn barcode(&mut self, code: &[u8], agreed: &[u64]) {
         let (request, reply) = self.call(b'b');
         put(request, code);
-        let decoded = barcode::decode(code);
+        wire::list(request, agreed);
+        let decoded = barcode::decode(code, agreed);
         wire::answer(reply, &decoded);
         wire::decoded(reply, &decoded);
-        wire::part(reply, code, barcode::free_field(code));
-        answer_and_buffer(reply, 48, |out| line::line_from_barcode(code, out));
+        wire::part(reply, code, barcode::free_field(code, agreed));
+        answer_and_buffer(reply, 48, |out| line::line_from_barcode(code, agreed, out));
     }
 
-    pub fn line(&mut self, typed: &[u8]) {
+    pub fn line(&mut self, typed: &[u8], agreed: &[u64]) {
         let (request, reply) = self.call(b'l');
         put(request, typed);
-        let decoded = line::decode(typed);
+        wire::list(request, agreed);
+        let decoded = line::decode(typed, agreed);
         wire::answer(reply, &decoded);
         wire::decoded(reply, &decoded);
-        answer_and_buffer(reply, 44, |out| line::barcode_from_line(typed, out));
+        answer_and_buffer(reply, 44, |out| line::barcode_from_line(typed, agreed, out));
     }
 
     /// A record, told to be of a file of this version: any number.
-    pub fn record(&mut self, record: &[u8], version: u64) {
+    pub fn record(&mut self, record: &[u8], version: u64, agreed: &[u64]) {
         let (request, reply) = self.call(b'r');
         put(request, record);
         wire::number(request, version);
-        let decoded = records::decode(record, version);
+        wire::list(request, agreed);
+        let decoded = records::decode(record, version, agreed);
         wire::answer(reply, &decoded);
         wire::record(reply, &decoded);
         answer_and_buffer(reply, fields_length(record), |out| {
-            records::join(record, version, out)
+            records::join(record, version, agreed, out)
         });
     }
 
     /// The field of every row of [`ROWS`].
-    pub fn fields(&mut self, record: &[u8], version: u64) {
+    pub fn fields(&mut self, record: &[u8], version: u64, agreed: &[u64]) {
         let (request, reply) = self.call(b'f');
         put(request, record);
         wire::number(request, version);
+        wire::list(request, agreed);
         for row in ROWS {
-            wire::part(reply, record, records::field(record, version, row));
+            wire::part(reply, record, records::field(record, version, row, agreed));
         }
     }
 
     /// The field bytes of a record, into a buffer of any length.
-    pub fn join(&mut self, record: &[u8], version: u64, out_length: u8) {
+    pub fn join(&mut self, record: &[u8], version: u64, agreed: &[u64], out_length: u8) {
         let (request, reply) = self.call(b'j');
         request.push(out_length);
         put(request, record);
         wire::number(request, version);
+        wire::list(request, agreed);
         answer_and_buffer(reply, out_length.into(), |out| {
-            records::join(record, version, out)
+            records::join(record, version, agreed, out)
         });
     }
 
-    pub fn convert(&mut self, conversion: Conversion, bytes: &[u8], out_length: u8) {
+    pub fn convert(
+        &mut self,
+        conversion: Conversion,
+        bytes: &[u8],
+        agreed: &[u64],
+        out_length: u8,
+    ) {
         let (request, reply) = self.call(b'c');
         request.extend_from_slice(&[conversion as u8, out_length]);
         put(request, bytes);
+        wire::list(request, agreed);
         answer_and_buffer(reply, out_length.into(), |out| match conversion {
-            Conversion::LineToBarcode => line::barcode_from_line(bytes, out),
-            Conversion::LineFromBarcode => line::line_from_barcode(bytes, out),
+            Conversion::LineToBarcode => line::barcode_from_line(bytes, agreed, out),
+            Conversion::LineFromBarcode => line::line_from_barcode(bytes, agreed, out),
         });
     }
 
-    pub fn build(&mut self, [segment, issuer, kind, value]: [u64; 4], free: &[u8], out_length: u8) {
+    pub fn build(
+        &mut self,
+        [segment, issuer, kind, value]: [u64; 4],
+        free: &[u8],
+        agreed: &[u64],
+        out_length: u8,
+    ) {
         let (request, reply) = self.call(b'u');
         wire::numbers(request, &[segment, issuer, kind, value]);
         request.push(out_length);
         put(request, free);
+        wire::list(request, agreed);
         answer_and_buffer(reply, out_length.into(), |out| {
-            barcode::build(segment, kind, value, issuer, free, out)
+            barcode::build(segment, kind, value, issuer, free, agreed, out)
         });
+    }
+
+    /// The key of an issuer, or of two numbers that are none.
+    pub fn issuer_key(&mut self, segment: u64, number: u64) {
+        let (request, reply) = self.call(b'k');
+        wire::numbers(request, &[segment, number]);
+        wire::number(reply, agreed::key(Issuer { segment, number }));
     }
 
     pub fn date(&mut self, bytes: &[u8]) {

@@ -1,11 +1,14 @@
-//! The fuzzer's inputs. Any bytes are an input: the first says which calls are made, the rest are their arguments.
+//! The fuzzer's inputs. Any bytes are an input: the first says which calls are made, then there is a list of agreed
+//! issuers if they have one, and the rest are their other arguments.
+
+mod rest;
 
 use reference::records::LENGTH;
-use reference::session::LANES;
-use reference::{Board, Issuer, Lane, Session};
+use reference::Session;
 
 use crate::calls::{Calls, Conversion, PAGE};
 use crate::lines;
+use rest::Rest;
 
 /// The length of the largest buffer for a page.
 const MOST_PAGE: usize = 9000;
@@ -55,90 +58,62 @@ impl Kind {
         let first = input.first().copied().unwrap_or(0);
         Kind::ALL[usize::from(first) % Kind::ALL.len()]
     }
+
+    /// Whether its calls have a list of agreed issuers.
+    pub fn has_list(self) -> bool {
+        !matches!(
+            self,
+            Kind::Date | Kind::DateNumbers | Kind::CheckDigits | Kind::Page
+        )
+    }
 }
 
-/// The rest of an input. Past its end there are zeros.
-struct Rest<'a>(&'a [u8]);
-
-impl<'a> Rest<'a> {
-    fn bytes(&mut self, most: usize) -> &'a [u8] {
-        let (bytes, rest) = self.0.split_at(most.min(self.0.len()));
-        self.0 = rest;
-        bytes
-    }
-
-    fn byte(&mut self) -> u8 {
-        self.bytes(1).first().copied().unwrap_or(0)
-    }
-
-    fn number(&mut self) -> u64 {
-        let mut n = [0; 8];
-        let bytes = self.bytes(8);
-        n[..bytes.len()].copy_from_slice(bytes);
-        u64::from_le_bytes(n)
-    }
-
-    /// A length of one byte, then that many bytes.
-    fn counted(&mut self) -> &'a [u8] {
-        let length = self.byte();
-        self.bytes(length.into())
-    }
-
-    /// The rest, but at most 255 bytes.
-    fn short(&mut self) -> &'a [u8] {
-        self.bytes(255)
-    }
-
-    fn board(&mut self) -> Board {
-        let mut board = Board::new();
-        board.used = self.number() as usize;
-        board.payments = self.number();
-        board.centavos = self.number();
-        let given = usize::from(self.byte()).min(LANES);
-        for lane in &mut board.lanes[..given] {
-            let issuer = Issuer {
-                segment: self.number(),
-                number: self.number(),
-            };
-            *lane = Lane {
-                issuer,
-                payments: self.number(),
-                centavos: self.number(),
-            };
-        }
-        board
+/// How many bytes of an input without its first byte are the list: one that says how many entries it has, then eight
+/// for each. Past the end of the input the entries are 0.
+pub fn list_length(kind: Kind, rest: &[u8]) -> usize {
+    match rest.first() {
+        Some(&count) if kind.has_list() => rest.len().min(1 + 8 * usize::from(count)),
+        _ => 0,
     }
 }
 
 /// Makes the calls of an input. They do not depend on the inputs before it.
 pub fn compare(calls: &mut Calls, input: &[u8]) {
     let mut rest = Rest(input.get(1..).unwrap_or_default());
-    match Kind::of(input) {
-        Kind::Line => calls.line(rest.short()),
-        Kind::Barcode => calls.barcode(rest.short()),
+    let kind = Kind::of(input);
+    let agreed = if kind.has_list() {
+        rest.list()
+    } else {
+        Vec::new()
+    };
+    let agreed = &agreed[..];
+    match kind {
+        Kind::Line => calls.line(rest.short(), agreed),
+        Kind::Barcode => calls.barcode(rest.short(), agreed),
         Kind::Date => calls.date(rest.short()),
         Kind::DateNumbers => calls.is_date(rest.number(), rest.number(), rest.number()),
         Kind::CheckDigits => calls.check_digits(&digits(rest.short())),
         Kind::Build => {
             let numbers = [(); 4].map(|()| rest.number());
             let out_length = rest.byte();
-            calls.build(numbers, rest.short(), out_length);
+            calls.build(numbers, rest.short(), agreed, out_length);
+            calls.issuer_key(numbers[0], numbers[1]);
         }
         Kind::Record => {
             let version = rest.number();
             let record = rest.short();
-            calls.record(record, version);
-            calls.fields(record, version);
+            calls.record(record, version, agreed);
+            calls.fields(record, version, agreed);
         }
-        Kind::Convert => convert(calls, &mut rest),
-        Kind::Run => run(calls, &mut rest),
+        Kind::Convert => convert(calls, &mut rest, agreed),
+        Kind::Run => run(calls, &mut rest, agreed),
         Kind::Take => {
             calls.new_session();
-            take(calls, &mut rest, usize::MAX);
+            take(calls, &mut rest, usize::MAX, agreed);
         }
-        Kind::ArbitrarySession => arbitrary_session(calls, &mut rest),
+        Kind::ArbitrarySession => arbitrary_session(calls, &mut rest, agreed),
         Kind::Page => page(calls, &mut rest),
-        Kind::Write => write(calls, &mut rest),
+        Kind::Write => write(calls, &mut rest, agreed),
     }
 }
 
@@ -152,14 +127,19 @@ fn digits(bytes: &[u8]) -> Vec<u8> {
 }
 
 /// A conversion, or the field bytes of a record, which is told a version. The second byte is the buffer's length.
-fn convert(calls: &mut Calls, rest: &mut Rest) {
+fn convert(calls: &mut Calls, rest: &mut Rest, agreed: &[u64]) {
     let (which, out_length) = (rest.byte(), rest.byte());
     match which % 3 {
-        0 => calls.convert(Conversion::LineToBarcode, rest.short(), out_length),
-        1 => calls.convert(Conversion::LineFromBarcode, rest.short(), out_length),
+        0 => calls.convert(Conversion::LineToBarcode, rest.short(), agreed, out_length),
+        1 => calls.convert(
+            Conversion::LineFromBarcode,
+            rest.short(),
+            agreed,
+            out_length,
+        ),
         _ => {
             let version = rest.number();
-            calls.join(rest.short(), version, out_length);
+            calls.join(rest.short(), version, agreed, out_length);
         }
     }
 }
@@ -170,9 +150,9 @@ pub fn runs_start(first: u8) -> usize {
 }
 
 /// Runs of a new session. The first byte says how many cuts there are, and whether the bytes are fed as a caller would,
-/// which must come to the same end as one run. Each cut has a byte that says whether more bytes are to come and whether
-/// those that the run left are dropped, and a length in two bytes.
-fn run(calls: &mut Calls, rest: &mut Rest) {
+/// which must come to the same end as one run. Each cut has a byte that says whether more bytes are to come, whether
+/// those that the run left are dropped and whether its list is empty instead, and a length in two bytes.
+fn run(calls: &mut Calls, rest: &mut Rest, agreed: &[u64]) {
     calls.new_session();
     let first = rest.byte();
     let mut cuts = Vec::new();
@@ -186,7 +166,8 @@ fn run(calls: &mut Calls, rest: &mut Rest) {
         end = bytes.len().min(end + length);
         ends.push(end);
         if first < FED {
-            let result = calls.run(&bytes[start..end], how % 2 == 1);
+            let list = if how & 4 == 0 { agreed } else { &[] };
+            let result = calls.run(&bytes[start..end], how % 2 == 1, list);
             start = if how & 2 == 0 {
                 start + result.bytes
             } else {
@@ -195,9 +176,9 @@ fn run(calls: &mut Calls, rest: &mut Rest) {
         }
     }
     if first < FED {
-        calls.run(&bytes[start..], false);
+        calls.run(&bytes[start..], false, agreed);
     } else {
-        lines::feed(calls, bytes, &ends);
+        lines::feed(calls, bytes, &ends, agreed);
     }
     calls.finish_session();
 }
@@ -219,8 +200,8 @@ pub fn step(length: usize) -> u8 {
 }
 
 /// Takes at most `most` records one by one. The byte before each says its length, if it is not 150, and which call is
-/// made first, or that it is a run.
-fn take(calls: &mut Calls, rest: &mut Rest, most: usize) {
+/// made first, or that it is a run or has an empty list instead.
+fn take(calls: &mut Calls, rest: &mut Rest, most: usize, agreed: &[u64]) {
     for _ in 0..most {
         if rest.0.is_empty() {
             break;
@@ -234,8 +215,9 @@ fn take(calls: &mut Calls, rest: &mut Rest, most: usize) {
         }
         let record = rest.bytes(step_length(how));
         match how % 8 {
-            4 | 5 => drop(calls.run(record, how % 8 == 5)),
-            _ => drop(calls.take(record)),
+            4 | 5 => drop(calls.run(record, how % 8 == 5, agreed)),
+            6 => drop(calls.take(record, &[])),
+            _ => drop(calls.take(record, agreed)),
         }
     }
     calls.finish_session();
@@ -243,7 +225,7 @@ fn take(calls: &mut Calls, rest: &mut Rest, most: usize) {
 
 /// A session in an arbitrary state: whether its file is open and whether it is lined, its numbers, then up to four
 /// records, then its boards.
-fn arbitrary_session(calls: &mut Calls, rest: &mut Rest) {
+fn arbitrary_session(calls: &mut Calls, rest: &mut Rest, agreed: &[u64]) {
     let mut session = Session::new();
     let flags = rest.byte();
     session.open = flags & 1 != 0;
@@ -261,7 +243,7 @@ fn arbitrary_session(calls: &mut Calls, rest: &mut Rest) {
     session.shown = rest.board();
     session.working = rest.board();
     calls.set_session(&session);
-    take(calls, &mut steps, records);
+    take(calls, &mut steps, records, agreed);
 }
 
 /// The page of a board in an arbitrary state.
@@ -277,8 +259,8 @@ fn page(calls: &mut Calls, rest: &mut Rest) {
     calls.page(number, place, records, files, out_length);
 }
 
-/// The calls of a new writer, or of one in an arbitrary state, lined or bare.
-fn write(calls: &mut Calls, rest: &mut Rest) {
+/// The calls of a new writer, or of one in an arbitrary state, lined or bare. A payment may have an empty list instead.
+fn write(calls: &mut Calls, rest: &mut Rest, agreed: &[u64]) {
     let flags = rest.byte();
     if flags & 1 != 0 {
         calls.set_writer([(); 4].map(|()| rest.number()), flags & 2 != 0);
@@ -291,7 +273,8 @@ fn write(calls: &mut Calls, rest: &mut Rest) {
             0 => calls.header(rest.counted(), out_length),
             1 => {
                 let (received, tariff) = (rest.number(), rest.number());
-                calls.payment(rest.counted(), received, tariff, out_length);
+                let list = if which / 3 % 2 == 0 { agreed } else { &[] };
+                calls.payment(rest.counted(), received, tariff, list, out_length);
             }
             _ => calls.trailer(out_length),
         }

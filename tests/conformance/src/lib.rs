@@ -12,5 +12,6 @@ pub mod families;
 pub mod found;
 pub mod inputs;
 pub mod lines;
+pub mod lists;
 pub mod versions;
 pub mod wire;

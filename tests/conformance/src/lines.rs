@@ -8,6 +8,7 @@ use reference::records::{LENGTH, LINE_END};
 use reference::{RunResult, Stage};
 
 use crate::calls::Calls;
+use crate::lists;
 
 /// What may follow a record in place of CR and LF: less, other bytes, or more.
 pub const WRONG_ENDS: [&[u8]; 16] = [
@@ -97,21 +98,21 @@ pub fn cuts(random: &mut Random, length: usize) -> Vec<usize> {
 }
 
 /// Runs over the bytes in one call; then from the same session in pieces that end here, where the bytes that a call
-/// leaves are put in front of the next piece. Both must come to the same end. Every reply of the engine is compared
-/// with the reference program's, so this holds of the engine too.
-pub fn feed(calls: &mut Calls, bytes: &[u8], ends: &[usize]) {
+/// leaves are put in front of the next piece. All calls have the same list, and both must come to the same end. Every
+/// reply of the engine is compared with the reference program's, so this holds of the engine too.
+pub fn feed(calls: &mut Calls, bytes: &[u8], ends: &[usize], agreed: &[u64]) {
     let before = calls.session().clone();
-    let whole = calls.run(bytes, false);
+    let whole = calls.run(bytes, false, agreed);
     let after = calls.session().clone();
     calls.set_session(&before);
-    let mut fed = calls.run(b"", true);
+    let mut fed = calls.run(b"", true, agreed);
     for &end in ends {
         if fed.answer.is_ok() {
-            fed = sum(fed, calls.run(&bytes[fed.bytes..end], true));
+            fed = sum(fed, calls.run(&bytes[fed.bytes..end], true, agreed));
         }
     }
     if fed.answer.is_ok() {
-        fed = sum(fed, calls.run(&bytes[fed.bytes..], false));
+        fed = sum(fed, calls.run(&bytes[fed.bytes..], false, agreed));
     }
     assert_eq!(fed, whole);
     assert!(*calls.session() == after);
@@ -128,11 +129,13 @@ fn sum(first: RunResult, second: RunResult) -> RunResult {
 }
 
 /// Runs over pieces of the bytes that are cut anywhere, with more to come or not, whatever follows. The bytes that a
-/// call leaves are put in front of the next piece, or sometimes dropped. A refusal may be the end.
-pub fn run_pieces(calls: &mut Calls, random: &mut Random, bytes: &[u8]) {
+/// call leaves are put in front of the next piece, or sometimes dropped. A refusal may be the end. Some pieces have
+/// another list.
+pub fn run_pieces(calls: &mut Calls, random: &mut Random, bytes: &[u8], agreed: &[u64]) {
     let mut start = 0;
     for end in cuts(random, bytes.len()) {
-        let result = calls.run(&bytes[start..end], random.once_in(2));
+        let list = lists::sometimes_other(random, agreed);
+        let result = calls.run(&bytes[start..end], random.once_in(2), &list);
         if result.answer.is_err() && random.once_in(2) {
             break;
         }

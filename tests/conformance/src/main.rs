@@ -8,7 +8,7 @@ use std::sync::Mutex;
 use std::thread;
 use std::time::Instant;
 
-use conformance::calls::{Calls, Counts};
+use conformance::calls::{Calls, Counts, LISTED};
 use conformance::families::{Family, ALL};
 use reference::random::Random;
 use reference::Reason;
@@ -61,14 +61,28 @@ fn compare_all(seed: u64, times: u64) -> Result<Counts, String> {
     })
 }
 
-/// What is missing: inputs, or an answer that no input got.
+/// What is missing: inputs, an answer that no input got, or one about agreed issuers that no request of a letter got.
 fn missing(counts: &Counts) -> Option<String> {
     if counts.inputs < LEAST_INPUTS {
         return Some(format!("only {} inputs", counts.inputs));
     }
     let mut numbers = Reason::ALL.iter().map(|reason| reason.number()).chain([0]);
-    let unseen = numbers.find(|number| !counts.answers.contains_key(number))?;
-    Some(format!("no input was answered {unseen}"))
+    if let Some(unseen) = numbers.find(|number| !counts.answers.contains_key(number)) {
+        return Some(format!("no input was answered {unseen}"));
+    }
+    let mut expected = Vec::new();
+    for (letter, places) in LISTED {
+        expected.push((letter, [Reason::WrongList.number(), 0]));
+        for &place in places {
+            expected.push((letter, [Reason::NoDate.number(), place]));
+        }
+    }
+    let unseen = |expected: &&(u8, [u64; 2])| !counts.by_letter.contains(*expected);
+    let (letter, [number, place]) = expected.iter().find(unseen)?;
+    Some(format!(
+        "no request '{}' was answered {number} at {place}",
+        *letter as char
+    ))
 }
 
 fn main() -> ExitCode {

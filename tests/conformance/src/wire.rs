@@ -1,5 +1,5 @@
 //! The replies of `serve.c`, from the reference program's outcomes: little-endian numbers of eight bytes, and bools of
-//! one, in the order of the structs in hollytrot.h.
+//! one, in the order of the structs in hollytrot.h. Requests have lists of agreed issuers too.
 
 use reference::{Barcode, Board, Date, Header, Payment, Record, Refusal, Session, Trailer, Writer};
 
@@ -11,6 +11,12 @@ pub fn numbers(reply: &mut Vec<u8>, all: &[u64]) {
     for &n in all {
         number(reply, n);
     }
+}
+
+/// A list of agreed issuers: how many there are, in one byte, then a number for each.
+pub fn list(request: &mut Vec<u8>, agreed: &[u64]) {
+    request.push(agreed.len().try_into().expect("at most 255 entries"));
+    numbers(request, agreed);
 }
 
 /// A bool is one byte.

@@ -2,7 +2,7 @@
 
 use conformance::engine::{Batch, Engine};
 
-/// Two barcodes of length 0, and the engine's replies to them.
+/// Two barcodes of length 0 with empty lists, and the engine's replies to them.
 fn batch() -> Batch {
     let mut reply = vec![0; 168];
     // refused 1 by the check, the decoder and the conversion, which does not change its buffer
@@ -11,9 +11,9 @@ fn batch() -> Batch {
     }
     reply[120..].fill(0xA5);
     Batch {
-        requests: b"b\0b\0".to_vec(),
+        requests: b"b\0\0b\0\0".to_vec(),
         expected: [reply.clone(), reply].concat(),
-        starts: vec![(0, 0), (2, 168)],
+        starts: vec![(0, 0), (3, 168)],
     }
 }
 
@@ -44,6 +44,6 @@ fn a_changed_byte_is_found() {
 #[test]
 fn a_process_that_stops_is_found() {
     let mut other = batch();
-    other.requests[2] = b'?';
+    other.requests[3] = b'?';
     assert!(compare(other).is_err());
 }

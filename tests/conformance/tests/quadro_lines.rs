@@ -37,7 +37,7 @@ fn file(random: &mut Random, records: usize, lined: bool) -> Vec<u8> {
         let code = days::barcode_of(random, issuer).expect("a good barcode");
         let fields = days::payment_fields(random, &code, writer.version);
         writer
-            .payment(&fields, random.number(10), random.number(7), next())
+            .payment(&fields, random.number(10), random.number(7), &[], next())
             .expect("a good payment");
     }
     writer.trailer(next()).expect("a good trailer");

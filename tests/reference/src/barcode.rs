@@ -1,5 +1,6 @@
 //! The collection barcode of 44 digits: docs/SPEC.md, "Barcode" and "Builder".
 
+use crate::agreed;
 use crate::checks::Modulus;
 use crate::dates::Date;
 use crate::digits;
@@ -28,9 +29,20 @@ impl Issuer {
     pub const fn width(self) -> usize {
         issuer_width(self.segment)
     }
+
+    /// Whether the segment is 1 to 7 or 9, and the number has at most 4 digits, in segment 6 at most 8.
+    #[inline]
+    pub const fn is_issuer(self) -> bool {
+        let bound = if self.segment == 6 {
+            100_000_000
+        } else {
+            10_000
+        };
+        is_segment(self.segment) && self.number < bound
+    }
 }
 
-/// The fields of a barcode or a typed line.
+/// The fields of a barcode or a typed line. The due date is that of an agreed issuer; another issuer has none.
 #[derive(Clone, Copy, Debug, PartialEq, Eq, Hash)]
 pub struct Barcode {
     pub segment: u64,
@@ -49,6 +61,12 @@ impl Barcode {
             number: self.issuer,
         }
     }
+}
+
+/// Whether the number is a segment: 1 to 7 or 9.
+#[inline]
+const fn is_segment(segment: u64) -> bool {
+    matches!(segment, 1..=7 | 9)
 }
 
 /// How many digits an issuer's number has in a segment.
@@ -73,29 +91,32 @@ pub const fn free_length(segment: u64) -> usize {
     LENGTH + 1 - free_place(segment)
 }
 
-/// Decodes a barcode. Order: 1, 2, 3, 4, 5, 7.
-pub fn decode(barcode: &[u8]) -> Result<Barcode, Refusal> {
-    decode_within(require_length(barcode)?, 0)
+/// Decodes a barcode. Order: 25, 1, 2, 3, 4, 5, 7, 11.
+pub fn decode(barcode: &[u8], agreed: &[u64]) -> Result<Barcode, Refusal> {
+    agreed::check(agreed)?;
+    decode_within(require_length(barcode)?, 0, agreed)
 }
 
-/// The free field, as a part of the barcode; the empty slice if the barcode is refused.
-pub fn free_field(barcode: &[u8]) -> &[u8] {
-    match decode(barcode) {
+/// The free field, as a part of the barcode; the empty slice if the barcode or the list is refused.
+pub fn free_field<'a>(barcode: &'a [u8], agreed: &[u64]) -> &'a [u8] {
+    match decode(barcode, agreed) {
         Ok(decoded) => &barcode[free_place(decoded.segment) - 1..],
         Err(_) => &[],
     }
 }
 
-/// Builds a barcode from its fields. Order: 1 for `out`, 4, 5, 1 for the free field, 21 for the value, 21 for the
-/// issuer, 2. A refusal does not change `out`.
+/// Builds a barcode from its fields. Order: 25, 1 for `out`, 4, 5, 1 for the free field, 21 for the value, 21 for the
+/// issuer, 2, 11. A refusal does not change `out`.
 pub fn build(
     segment: u64,
     kind: u64,
     value: u64,
     issuer: u64,
     free: &[u8],
+    agreed: &[u64],
     out: &mut [u8],
 ) -> Result<(), Refusal> {
+    agreed::check(agreed)?;
     let out: &mut [u8; LENGTH] = out.try_into().map_err(|_| Reason::Length.at(0))?;
     check_segment(segment, 0)?;
     let modulus = check_kind(kind, 0)?;
@@ -116,6 +137,7 @@ pub fn build(
     }
     built[first_free - 1..].copy_from_slice(free);
     check_digits(&built, 0)?;
+    due_date(&built, agreed, |place| place)?;
     // A check is one digit, so the cast loses nothing.
     built[GENERAL_CHECK - 1] = b'0' + modulus.general_check(&built) as u8;
     *out = built;
@@ -129,11 +151,16 @@ pub(crate) fn require_length(barcode: &[u8]) -> Result<&[u8; LENGTH], Refusal> {
 
 /// Decodes a barcode that has `before` places before it: 37 inside a G.
 #[inline(always)]
-pub(crate) fn decode_within(barcode: &[u8; LENGTH], before: usize) -> Result<Barcode, Refusal> {
+pub(crate) fn decode_within(
+    barcode: &[u8; LENGTH],
+    before: usize,
+    agreed: &[u64],
+) -> Result<Barcode, Refusal> {
     check_digits(barcode, before)?;
     let modulus = check_first_three(barcode, before)?;
     check_general(barcode, modulus, before)?;
-    Ok(accepted_fields(barcode))
+    let due = due_date(barcode, agreed, |place| before + place)?;
+    Ok(accepted_fields(barcode, due))
 }
 
 /// 2 at the first byte that is not a digit.
@@ -165,10 +192,10 @@ pub(crate) fn check_first_three(digits: &[u8], before: usize) -> Result<Modulus,
 
 #[inline(always)]
 fn check_segment(segment: u64, before: usize) -> Result<(), Refusal> {
-    match segment {
-        1..=7 | 9 => Ok(()),
-        _ => Err(Reason::Segment.at(before + SEGMENT)),
+    if !is_segment(segment) {
+        return Err(Reason::Segment.at(before + SEGMENT));
     }
+    Ok(())
 }
 
 #[inline(always)]
@@ -190,27 +217,61 @@ pub(crate) fn check_general(
     Ok(())
 }
 
-/// The fields of an accepted barcode.
+/// The fields of an accepted barcode with this due date.
 #[inline(always)]
-pub(crate) fn accepted_fields(barcode: &[u8; LENGTH]) -> Barcode {
-    let segment = u64::from(barcode[SEGMENT - 1] - b'0');
-    // Each branch has constant places, so neither reads at a computed one.
-    let (issuer, due) = match segment {
-        6 => (digits::value(&barcode[15..23]), due_date(barcode, 23)),
-        _ => (digits::value(&barcode[15..19]), due_date(barcode, 19)),
-    };
+pub(crate) fn accepted_fields(barcode: &[u8; LENGTH], due: Option<Date>) -> Barcode {
+    let Issuer { segment, number } = issuer_of(barcode);
     Barcode {
         segment,
         kind: u64::from(barcode[KIND - 1] - b'0'),
         value: digits::value(&barcode[VALUE - 1..ISSUER - 1]),
-        issuer,
+        issuer: number,
         due,
     }
 }
 
-/// The due date: the date of the eight digits from index `first` on, if they are one.
+/// The issuer of a barcode of digits.
 #[inline(always)]
-fn due_date(barcode: &[u8; LENGTH], first: usize) -> Option<Date> {
-    let digits = barcode.get(first..first + 8)?;
-    Date::from_digits(digits.try_into().ok()?)
+fn issuer_of(barcode: &[u8; LENGTH]) -> Issuer {
+    let segment = u64::from(barcode[SEGMENT - 1] - b'0');
+    // Each branch has constant places, so neither reads at a computed one.
+    let number = match segment {
+        6 => digits::value(&barcode[15..23]),
+        _ => digits::value(&barcode[15..19]),
+    };
+    Issuer { segment, number }
+}
+
+/// The due date of a barcode of digits: the date of the free field's first eight digits if the issuer is agreed, else
+/// none. 11 if an agreed issuer has no date there; `shown` gives the place to show for the free field's first one. The
+/// list is already judged.
+#[inline(always)]
+pub(crate) fn due_date(
+    barcode: &[u8; LENGTH],
+    agreed: &[u64],
+    shown: impl FnOnce(usize) -> usize,
+) -> Result<Option<Date>, Refusal> {
+    if agreed.is_empty() {
+        return Ok(None);
+    }
+    listed_due_date(barcode, agreed, shown)
+}
+
+/// The due date under a list that is not empty. It is not inlined, so that an empty list costs one comparison.
+#[inline(never)]
+fn listed_due_date(
+    barcode: &[u8; LENGTH],
+    agreed: &[u64],
+    shown: impl FnOnce(usize) -> usize,
+) -> Result<Option<Date>, Refusal> {
+    let issuer = issuer_of(barcode);
+    if !agreed::is_agreed(issuer, agreed) {
+        return Ok(None);
+    }
+    let place = free_place(issuer.segment);
+    let first_eight = barcode[place - 1..].first_chunk();
+    match first_eight.and_then(Date::from_digits) {
+        None => Err(Reason::NoDate.at(shown(place))),
+        due => Ok(due),
+    }
 }

@@ -2,10 +2,13 @@
 
 mod damage;
 mod files;
+mod lists;
 
 pub use damage::{damage, damage_line_end, disorder, swap};
-pub use files::{day, day_of, Day, Form, Posted};
+pub use files::{day, day_of, day_under, Day, Form, Posted};
+pub use lists::{agreed, wrong_agreed};
 
+use crate::agreed::is_agreed;
 use crate::barcode::{self, Issuer};
 use crate::dates::{days_in, Date};
 use crate::digits;
@@ -59,13 +62,23 @@ pub fn issuers(random: &mut Random, count: usize) -> Vec<Issuer> {
     found
 }
 
-/// A random barcode of an issuer, of any kind, with or without a due date.
+/// A random barcode of an issuer, of any kind, with or without a date in the free field.
 pub fn barcode_of(random: &mut Random, issuer: Issuer) -> Result<[u8; 44], Refusal> {
+    barcode_under(random, issuer, &[])
+}
+
+/// A random barcode of an issuer that this list does not refuse: an agreed issuer always has a date. From equal seeds,
+/// another issuer has the same barcode under every right list. A wrong list is refused.
+pub fn barcode_under(
+    random: &mut Random,
+    issuer: Issuer,
+    agreed: &[u64],
+) -> Result<[u8; 44], Refusal> {
     let kind = random.between(6, 9);
     let value = random.number(11);
     let mut free = [b'0'; 25];
     free.fill_with(|| random.digit());
-    if random.once_in(2) {
+    if random.once_in(2) || is_agreed(issuer, agreed) {
         free[..8].copy_from_slice(&date(random).digits());
     }
     let mut code = [b'0'; 44];
@@ -75,6 +88,7 @@ pub fn barcode_of(random: &mut Random, issuer: Issuer) -> Result<[u8; 44], Refus
         value,
         issuer.number,
         &free[..barcode::free_length(issuer.segment)],
+        agreed,
         &mut code,
     )?;
     Ok(code)
@@ -89,7 +103,19 @@ pub fn barcode(random: &mut Random) -> Result<[u8; 44], Refusal> {
 /// A random typed line.
 pub fn line(random: &mut Random) -> Result<[u8; 48], Refusal> {
     let mut typed = [b'0'; 48];
-    line::line_from_barcode(&barcode(random)?, &mut typed)?;
+    line::line_from_barcode(&barcode(random)?, &[], &mut typed)?;
+    Ok(typed)
+}
+
+/// A random typed line of an issuer that this list does not refuse.
+pub fn line_under(
+    random: &mut Random,
+    issuer: Issuer,
+    agreed: &[u64],
+) -> Result<[u8; 48], Refusal> {
+    let mut typed = [b'0'; 48];
+    let code = barcode_under(random, issuer, agreed)?;
+    line::line_from_barcode(&code, agreed, &mut typed)?;
     Ok(typed)
 }
 
@@ -170,7 +196,18 @@ pub fn header(random: &mut Random) -> Result<[u8; 150], Refusal> {
 
 /// A random G of a file of this version, with amounts of any width. A version other than 4 and 6 is refused.
 pub fn payment(random: &mut Random, version: u64) -> Result<[u8; 150], Refusal> {
-    let code = barcode(random)?;
+    let issuer = issuer(random);
+    payment_under(random, issuer, version, &[])
+}
+
+/// Such a G of an issuer that this list does not refuse.
+pub fn payment_under(
+    random: &mut Random,
+    issuer: Issuer,
+    version: u64,
+    agreed: &[u64],
+) -> Result<[u8; 150], Refusal> {
+    let code = barcode_under(random, issuer, agreed)?;
     let mut out = [b' '; 150];
     let mut writer = Writer {
         stage: Stage::Open,
@@ -181,6 +218,7 @@ pub fn payment(random: &mut Random, version: u64) -> Result<[u8; 150], Refusal> 
         &payment_fields(random, &code, version),
         random.number(12),
         random.number(7),
+        agreed,
         &mut out,
     )?;
     Ok(out)

@@ -7,6 +7,7 @@
 
 #![forbid(unsafe_code)]
 
+pub mod agreed;
 pub mod barcode;
 pub mod checks;
 pub mod dates;
@@ -20,6 +21,7 @@ pub mod refusal;
 pub mod session;
 pub mod writer;
 
+pub use agreed::AGREED;
 pub use barcode::{Barcode, Issuer};
 pub use checks::Modulus;
 pub use dates::Date;

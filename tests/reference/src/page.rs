@@ -106,7 +106,8 @@ impl Reading {
 
     /// Takes records and counts them; returns how many bytes they had.
     fn run(&mut self, bytes: &[u8], more: bool) -> usize {
-        let result = self.session.run(bytes, more);
+        // The page shows no due date, so no issuer need be agreed.
+        let result = self.session.run(bytes, more, &[]);
         self.records = self.records.saturating_add(result.records);
         self.files = self.files.saturating_add(result.files);
         self.outcome = result.answer;

@@ -7,6 +7,7 @@ mod versions;
 pub use table::*;
 pub(crate) use versions::{codes, Codes};
 
+use crate::agreed;
 use crate::barcode::Barcode;
 use crate::dates::Date;
 use crate::digits;
@@ -62,34 +63,36 @@ pub enum Record {
     Z(Trailer),
 }
 
-/// Decodes a record. The version is that of the file; only a G has use for it. Order: 1, 9, for a G 10 at 80 if the
-/// version is neither 4 nor 6, then the fields from left to right.
-pub fn decode(record: &[u8], version: u64) -> Result<Record, Refusal> {
+/// Decodes a record. The version is that of the file; only a G has use for it and for the list. Order: 25, 1, 9, for a
+/// G 10 at 80 if the version is neither 4 nor 6, then the fields from left to right.
+pub fn decode(record: &[u8], version: u64, agreed: &[u64]) -> Result<Record, Refusal> {
+    agreed::check(agreed)?;
     let record = require_length(record)?;
     match record[0] {
         b'A' => header(record).map(Record::A),
-        b'G' => payment(record, codes(version)?).map(Record::G),
+        b'G' => payment(record, codes(version)?, agreed).map(Record::G),
         b'Z' => trailer(record).map(Record::Z),
         _ => Err(Reason::Unexpected.at(1)),
     }
 }
 
-/// The field of a row, as a part of the record. The empty slice if the record is refused under this version, and for a
-/// row of another letter or past the table.
-pub fn field(record: &[u8], version: u64, row: usize) -> &[u8] {
+/// The field of a row, as a part of the record. The empty slice if the record is refused under this version and this
+/// list, or the list is, and for a row of another letter or past the table.
+pub fn field<'a>(record: &'a [u8], version: u64, row: usize, agreed: &[u64]) -> &'a [u8] {
     let Some(row) = TABLE.get(row) else {
         return &[];
     };
-    if decode(record, version).is_err() || record[0] != row.letter {
+    if decode(record, version, agreed).is_err() || record[0] != row.letter {
         return &[];
     }
     &record[row.first - 1..row.last]
 }
 
-/// Writes the field bytes of an A (80) or a G (121), which the writer takes for the same record. Order: 1 for the
+/// Writes the field bytes of an A (80) or a G (121), which the writer takes for the same record. Order: 25, 1 for the
 /// record, 9 (a Z has no field bytes), 1 for `out`, for a G 10 at 80 if the version is neither 4 nor 6, then the
 /// record's fields. A refusal does not change `out`.
-pub fn join(record: &[u8], version: u64, out: &mut [u8]) -> Result<(), Refusal> {
+pub fn join(record: &[u8], version: u64, agreed: &[u64], out: &mut [u8]) -> Result<(), Refusal> {
+    agreed::check(agreed)?;
     let record = require_length(record)?;
     match record[0] {
         b'A' => {
@@ -99,7 +102,7 @@ pub fn join(record: &[u8], version: u64, out: &mut [u8]) -> Result<(), Refusal> 
         }
         b'G' => {
             let out = out.try_into().map_err(|_| Reason::Length.at(0))?;
-            payment(record, codes(version)?)?;
+            payment(record, codes(version)?, agreed)?;
             join_payment(record, out);
         }
         _ => return Err(Reason::Unexpected.at(1)),
@@ -171,13 +174,18 @@ pub(crate) fn header(record: &[u8; LENGTH]) -> Result<Header, Refusal> {
     })
 }
 
-/// The fields of a G, whose letter is already checked, with the codes of its file's version.
+/// The fields of a G, whose letter is already checked, with the codes of its file's version. The list is already
+/// judged.
 #[inline(always)]
-pub(crate) fn payment(record: &[u8; LENGTH], codes: Codes) -> Result<Payment, Refusal> {
+pub(crate) fn payment(
+    record: &[u8; LENGTH],
+    codes: Codes,
+    agreed: &[u64],
+) -> Result<Payment, Refusal> {
     text::<G_ACCOUNT>(record)?;
     let paid = date::<G_PAID>(record)?;
     let credited = date::<G_CREDITED>(record)?;
-    let barcode = barcode(record)?;
+    let barcode = barcode(record, agreed)?;
     let received = number::<G_RECEIVED>(record)?;
     let tariff = number::<G_TARIFF>(record)?;
     let number = number::<G_NUMBER>(record)?;

@@ -49,6 +49,7 @@ reasons! {
     // 20 is retired: it must not be given to another reason.
     WideNumber = 21, "number too wide for its field";
     NoLineEnd = 22, "bytes 13 and 10 do not follow the record";
+    WrongList = 25, "the list of agreed issuers is too long, or has an entry that names no issuer, or an issuer twice";
 }
 
 impl Reason {

@@ -4,6 +4,7 @@ mod board;
 
 pub use board::{Board, Lane, LANES, MOST_BOARD_TOTAL};
 
+use crate::agreed;
 use crate::records::{self, Payment, Trailer, LENGTH, LINED, LINE_END};
 use crate::refusal::{Reason, Refusal};
 
@@ -82,10 +83,17 @@ impl Session {
         }
     }
 
-    /// Takes one record, in a lined file with its line end. Order: 1, 9; for G 10 at 80 if the version, in an arbitrary
-    /// state, is neither 4 nor 6; the fields; then for Z 13, 14, and for G 15, 16, 17, 18; last 22. A refusal changes
-    /// nothing.
-    pub fn take(&mut self, record: &[u8]) -> Result<(), Refusal> {
+    /// Takes one record, in a lined file with its line end. Order: 25; 1, 9; for G 10 at 80 if the version, in an
+    /// arbitrary state, is neither 4 nor 6; the fields; then for Z 13, 14, and for G 15, 16, 17, 18; last 22. A refusal
+    /// changes nothing. The list is not kept: the next record may come with another one.
+    pub fn take(&mut self, record: &[u8], agreed: &[u64]) -> Result<(), Refusal> {
+        agreed::check(agreed)?;
+        self.take_one(record, agreed)
+    }
+
+    /// Takes one record. The list is already judged.
+    #[inline(always)]
+    fn take_one(&mut self, record: &[u8], agreed: &[u64]) -> Result<(), Refusal> {
         let (record, end) = self.split(record)?;
         match (record[0], self.open) {
             (b'A', false) => {
@@ -95,7 +103,7 @@ impl Session {
             }
             (b'G', true) => {
                 let codes = records::codes(self.version)?;
-                let payment = records::payment(record, codes)?;
+                let payment = records::payment(record, codes, agreed)?;
                 self.post(&payment, end)
             }
             (b'Z', true) => {
@@ -108,19 +116,22 @@ impl Session {
 
     /// Takes consecutive records up to the first refusal. Where more bytes are to come, nothing is taken once fewer
     /// than 152 are left: a line end may be among those to come. Else the last piece may be shorter than a record, and
-    /// is one of the wrong length.
-    pub fn run(&mut self, bytes: &[u8], more: bool) -> RunResult {
+    /// is one of the wrong length. The list is judged once, before all else: under a wrong one nothing is taken.
+    pub fn run(&mut self, bytes: &[u8], more: bool, agreed: &[u64]) -> RunResult {
         let least = if more { LINED } else { 1 };
         let mut result = RunResult {
             records: 0,
             files: 0,
-            answer: Ok(()),
+            answer: agreed::check(agreed),
             bytes: 0,
         };
+        if result.answer.is_err() {
+            return result;
+        }
         let mut rest = bytes;
         while rest.len() >= least {
             let (piece, after) = rest.split_at(self.piece_length(rest));
-            result.answer = self.take(piece);
+            result.answer = self.take_one(piece, agreed);
             if result.answer.is_err() {
                 break;
             }

@@ -1,5 +1,6 @@
 //! The writer of one file: docs/SPEC.md, "Writer".
 
+use crate::agreed;
 use crate::records::{self, G_RECEIVED, G_TARIFF, LENGTH, LINE_END, TABLE, Z_COUNT, Z_TOTAL};
 use crate::refusal::{Reason, Refusal};
 use crate::session::{check_payment_count, file_sum, MOST_PAYMENTS};
@@ -87,22 +88,25 @@ impl Writer {
         Ok(())
     }
 
-    /// Writes the G of 121 field bytes and two amounts. Order: 1, 9, 10 at 80 if the version, in an arbitrary state, is
-    /// neither 4 nor 6, the fields (21 in the turn of its field), 15, 16. A refusal changes nothing.
+    /// Writes the G of 121 field bytes and two amounts. Order: 25, 1, 9, 10 at 80 if the version, in an arbitrary
+    /// state, is neither 4 nor 6, the fields (21 in the turn of its field), 15, 16. A refusal changes nothing. The list
+    /// is not kept.
     pub fn payment(
         &mut self,
         fields: &[u8],
         received: u64,
         tariff: u64,
+        agreed: &[u64],
         out: &mut [u8],
     ) -> Result<(), Refusal> {
+        agreed::check(agreed)?;
         let fields = fields.try_into().map_err(|_| Reason::Length.at(0))?;
         let buffer = self.buffer(out)?;
         self.expects(Stage::Open)?;
         let codes = records::codes(self.version)?;
         let mut record = records::payment_from_fields(fields);
         let money = write_money(&mut record, received, tariff);
-        first_refusal(records::payment(&record, codes).map(|_| ()), money)?;
+        first_refusal(records::payment(&record, codes, agreed).map(|_| ()), money)?;
         check_payment_count(self.taken)?;
         self.total = file_sum(self.total, received)?;
         // No overflow: `taken` is below 999,997 here.

@@ -4,19 +4,23 @@ mod common;
 
 use std::collections::BTreeMap;
 
-use common::assert_answer;
+use common::{any_list, assert_answer};
 use reference::days;
 use reference::random::Random;
 use reference::{answer, Session, Stage, Writer};
 
-/// Any list of calls of a new writer, refused ones among them: a new session accepts the file that the writer closed.
+/// Any calls of a new writer that is lent one list, refused calls among them, also some under a wrong list: a new
+/// session that is lent the same list accepts the file that the writer closed.
 #[test]
 fn any_calls_of_a_writer() {
     let mut random = Random::new(11);
     let mut closed = BTreeMap::new();
+    let mut refused = BTreeMap::new();
     for _ in 0..2_000 {
         let mut writer = Writer::new();
         let mut bytes = Vec::new();
+        let issuers = days::issuers(&mut random, 6);
+        let agreed = days::agreed(&mut random, &issuers);
         for _ in 0..random.below(60) {
             let mut out = [7; 154];
             // Mostly the length that is right.
@@ -38,14 +42,20 @@ fn any_calls_of_a_writer() {
                 }
                 6 => writer.trailer(buffer),
                 _ => {
-                    let code = days::barcode(&mut random).unwrap();
+                    let issuer = issuers[random.index(issuers.len())];
+                    let code = days::barcode_of(&mut random, issuer).unwrap();
                     let version = days::version(&mut random);
                     let mut fields = days::payment_fields(&mut random, &code, version);
                     if random.once_in(4) {
                         days::damage(&mut random, &mut fields);
                     }
                     let (received, tariff) = (random.number(13), random.number(8));
-                    writer.payment(&fields, received, tariff, buffer)
+                    if random.once_in(8) {
+                        let wrong = days::wrong_agreed(&mut random, &issuers);
+                        writer.payment(&fields, received, tariff, &wrong, buffer)
+                    } else {
+                        writer.payment(&fields, received, tariff, &agreed, buffer)
+                    }
                 }
             };
             match outcome {
@@ -56,11 +66,12 @@ fn any_calls_of_a_writer() {
                 Err(refusal) => {
                     assert_eq!((&writer, out), (&before, [7; 154]));
                     assert_ne!(refusal.number(), 22);
+                    *refused.entry(refusal.number()).or_insert(0) += 1;
                 }
             }
         }
         let mut session = Session::new();
-        let run = session.run(&bytes, false);
+        let run = session.run(&bytes, false, &agreed);
         assert_eq!(run.answer, Ok(()));
         assert_eq!(run.files, u64::from(writer.stage == Stage::Closed));
         assert_eq!(session.open, writer.stage == Stage::Open);
@@ -78,6 +89,7 @@ fn any_calls_of_a_writer() {
     for kind in [(4, false), (4, true), (6, false), (6, true)] {
         assert!(closed[&kind] > 50, "{closed:?}");
     }
+    assert!(refused[&11] > 1_000 && refused[&25] > 1_000, "{refused:?}");
 }
 
 /// The writer refuses a G that the naive check of the record refuses, with 21 in the turn of its field.
@@ -91,7 +103,9 @@ fn writer_refuses_as_the_record_would() {
             version,
             ..Writer::new()
         };
-        let code = days::barcode(&mut random).unwrap();
+        let issuer = days::issuer(&mut random);
+        let agreed = any_list(&mut random, &[issuer]);
+        let code = days::barcode_of(&mut random, issuer).unwrap();
         let made = days::version(&mut random);
         let mut fields = days::payment_fields(&mut random, &code, made);
         if !random.once_in(8) {
@@ -108,7 +122,7 @@ fn writer_refuses_as_the_record_would() {
         ]
         .concat();
         let mut refusals = Vec::new();
-        if let Err((number, place)) = common::naive::record(&text, version, b"G") {
+        if let Err((number, place)) = common::naive::record(&text, version, b"G", &agreed) {
             refusals.push((place, number));
         }
         if received >= 1_000_000_000_000 {
@@ -120,7 +134,7 @@ fn writer_refuses_as_the_record_would() {
         refusals.sort_unstable();
         let (place, number) = refusals.first().copied().unwrap_or((0, 0));
         let mut out = [7; 150];
-        let outcome = writer.payment(&fields, received, tariff, &mut out);
+        let outcome = writer.payment(&fields, received, tariff, &agreed, &mut out);
         assert_answer(outcome, number, place);
         let written: &[u8] = if outcome.is_ok() { &text } else { &[7; 150] };
         assert_eq!(out, written);
@@ -152,7 +166,7 @@ fn writer_refuses_headers_as_the_record_would() {
         let mut writer = Writer::new();
         let mut out = [7; 150];
         let outcome = writer.header(&fields, &mut out);
-        let expected = common::naive::record(&text, 0, b"A")
+        let expected = common::naive::record(&text, 0, b"A", &[])
             .err()
             .unwrap_or((0, 0));
         assert_eq!(answer(&outcome), expected);

@@ -38,7 +38,7 @@ fn days_with_0_to_70_issuers() {
         for files in [1, 2, 9, 40] {
             let day = days::day(&mut random, issuers, files, 30).unwrap();
             let mut session = Session::new();
-            let run = session.run(&day.bytes, false);
+            let run = session.run(&day.bytes, false, &[]);
             let accepted = match refused_at(&day) {
                 Some((accepted, record)) => {
                     assert!(issuers > 64);
@@ -82,7 +82,7 @@ fn sequence_numbers_rise_for_each_pair() {
         let day = days::day(&mut Random::new(seed), 10, 200, 3).unwrap();
         let mut last: BTreeMap<(Vec<u8>, Vec<u8>), u64> = BTreeMap::new();
         for record in day.bytes.chunks(150).filter(|record| record[0] == b'A') {
-            let field = |row| records::field(record, 0, row).to_vec();
+            let field = |row| records::field(record, 0, row, &[]).to_vec();
             let pair = (field(records::A_BANK), field(records::A_AGREEMENT));
             let sequence = reference::digits::number(&field(records::A_SEQUENCE)).unwrap();
             if let Some(before) = last.insert(pair, sequence) {
@@ -192,8 +192,8 @@ fn damaged_days_against_the_naive_session() {
         let mut naive = NaiveSession::default();
         for record in day.bytes.chunks(150) {
             let before = session.clone();
-            let outcome = session.take(record);
-            let expected = naive.take(record);
+            let outcome = session.take(record, &[]);
+            let expected = naive.take(record, &[]);
             assert_eq!(answer(&outcome), expected.clone().err().unwrap_or((0, 0)));
             *numbers.entry(answer(&outcome).0).or_insert(0) += 1;
             match expected {

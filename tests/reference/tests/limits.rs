@@ -5,9 +5,9 @@ mod common;
 use std::collections::BTreeMap;
 
 use common::naive::NaiveSession;
-use common::{a, assert_answer, code_for, followed, g, p4_code, with_bytes, z};
+use common::{a, any_list, assert_answer, code_for, followed, g, header_fields, p4_code};
+use common::{payment_fields, with_bytes, z};
 use reference::random::Random;
-use reference::records;
 use reference::{answer, days, Board, Lane, Session, Writer};
 
 const MOST_RECEIVED: u64 = 999_999_999_999;
@@ -16,11 +16,11 @@ const E18: u64 = 1_000_000_000_000_000_000;
 
 /// Takes the payments of a file whose total is exactly the limit.
 fn take_full_file(session: &mut Session, most: &[u8], rest: &[u8]) {
-    assert_answer(session.take(&a()), 0, 0);
+    assert_answer(session.take(&a(), &[]), 0, 0);
     for _ in 0..100_000 {
-        session.take(most).unwrap();
+        session.take(most, &[]).unwrap();
     }
-    assert_answer(session.take(rest), 0, 0);
+    assert_answer(session.take(rest, &[]), 0, 0);
     assert_eq!(session.total, FILE_LIMIT);
 }
 
@@ -32,7 +32,7 @@ fn past_2_to_the_32_in_one_lane() {
     for received in [4_294_967_295, 1, 1, 4_294_967_296, MOST_RECEIVED] {
         sum += received;
         for record in [a(), g(&code, received), z(3, received)] {
-            assert_answer(session.take(&record), 0, 0);
+            assert_answer(session.take(&record, &[]), 0, 0);
         }
         assert_eq!(session.board().in_use()[0].centavos, sum);
         assert_eq!(session.board().centavos, sum);
@@ -45,28 +45,26 @@ fn a_file_of_999_997_payments() {
     let mut session = Session::new();
     let mut writer = Writer::new();
     let mut out = [0; 150];
-    let (header, payment) = (a(), g(&p4_code(), 3));
-    let (mut header_fields, mut payment_fields) = ([0; 80], [0; 121]);
-    records::join(&header, 4, &mut header_fields).unwrap();
-    records::join(&payment, 4, &mut payment_fields).unwrap();
-    writer.header(&header_fields, &mut out).unwrap();
-    session.take(&out).unwrap();
+    let (payment, fields) = (g(&p4_code(), 3), payment_fields());
+    writer.header(&header_fields(), &mut out).unwrap();
+    session.take(&out, &[]).unwrap();
     for _ in 0..999_997 {
-        writer.payment(&payment_fields, 3, 150, &mut out).unwrap();
-        session.take(&out).unwrap();
+        writer.payment(&fields, 3, 150, &[], &mut out).unwrap();
+        session.take(&out, &[]).unwrap();
     }
     assert_eq!(out, payment);
     let before = session.clone();
-    assert_answer(session.take(&payment), 15, 1);
-    assert_answer(session.take(&with_bytes(payment, 22, b"20230229")), 11, 22);
+    assert_answer(session.take(&payment, &[]), 15, 1);
+    let bad = with_bytes(payment, 22, b"20230229");
+    assert_answer(session.take(&bad, &[]), 11, 22);
     assert_eq!(session, before);
     let before = writer.clone();
-    assert_answer(writer.payment(&payment_fields, 3, 150, &mut out), 15, 1);
+    assert_answer(writer.payment(&fields, 3, 150, &[], &mut out), 15, 1);
     assert_eq!((&writer, out), (&before, payment));
-    assert_answer(session.take(&z(999_998, 2_999_991)), 13, 2);
+    assert_answer(session.take(&z(999_998, 2_999_991), &[]), 13, 2);
     writer.trailer(&mut out).unwrap();
     assert_eq!(out, z(999_999, 2_999_991));
-    assert_answer(session.take(&out), 0, 0);
+    assert_answer(session.take(&out, &[]), 0, 0);
     assert_eq!(session.board().in_use()[0].payments, 999_997);
     assert_eq!(session.board().centavos, 2_999_991);
 }
@@ -80,51 +78,49 @@ fn file_and_board_totals_at_their_limits() {
     for files in 1..=10 {
         take_full_file(&mut session, &most, &rest);
         let before = session.clone();
-        assert_answer(session.take(&g(&code, 1)), 16, 82);
+        assert_answer(session.take(&g(&code, 1), &[]), 16, 82);
         assert_eq!(session, before);
-        assert_answer(session.take(&g(&code, 0)), 0, 0);
-        assert_answer(session.take(&z(100_004, FILE_LIMIT)), 0, 0);
+        assert_answer(session.take(&g(&code, 0), &[]), 0, 0);
+        assert_answer(session.take(&z(100_004, FILE_LIMIT), &[]), 0, 0);
         assert_eq!(session.board().centavos, files * FILE_LIMIT);
         assert_eq!(session.board().payments, files * 100_002);
     }
-    assert_answer(session.take(&a()), 0, 0);
-    assert_answer(session.take(&g(&code, 11)), 18, 82);
-    assert_answer(session.take(&g(&code_for(2, 1), 11)), 18, 82);
-    assert_answer(session.take(&g(&code, 10)), 0, 0);
+    assert_answer(session.take(&a(), &[]), 0, 0);
+    assert_answer(session.take(&g(&code, 11), &[]), 18, 82);
+    assert_answer(session.take(&g(&code_for(2, 1), 11), &[]), 18, 82);
+    assert_answer(session.take(&g(&code, 10), &[]), 0, 0);
     let before = session.clone();
-    assert_answer(session.take(&g(&code, 1)), 18, 82);
-    assert_answer(session.take(&g(&code_for(2, 1), 1)), 18, 82);
+    assert_answer(session.take(&g(&code, 1), &[]), 18, 82);
+    assert_answer(session.take(&g(&code_for(2, 1), 1), &[]), 18, 82);
     assert_eq!(session, before);
-    assert_answer(session.take(&g(&code_for(2, 1), 0)), 0, 0);
-    assert_answer(session.take(&z(4, 10)), 0, 0);
+    assert_answer(session.take(&g(&code_for(2, 1), 0), &[]), 0, 0);
+    assert_answer(session.take(&z(4, 10), &[]), 0, 0);
     assert_eq!(session.board().centavos, E18);
     assert_eq!(session.board().in_use()[0].centavos, E18);
     // At the limit, a new file accepts payments of 0 only.
-    assert_answer(session.take(&a()), 0, 0);
-    assert_answer(session.take(&g(&code, 1)), 18, 82);
-    assert_answer(session.take(&g(&code, 0)), 0, 0);
-    assert_answer(session.take(&z(3, 0)), 0, 0);
+    assert_answer(session.take(&a(), &[]), 0, 0);
+    assert_answer(session.take(&g(&code, 1), &[]), 18, 82);
+    assert_answer(session.take(&g(&code, 0), &[]), 0, 0);
+    assert_answer(session.take(&z(3, 0), &[]), 0, 0);
 }
 
 #[test]
 fn writer_total_at_its_limit() {
     let mut writer = Writer::new();
     let mut out = [0; 150];
-    let (mut header, mut payment) = ([0; 80], [0; 121]);
-    records::join(&a(), 4, &mut header).unwrap();
-    records::join(&g(&p4_code(), 0), 4, &mut payment).unwrap();
-    writer.header(&header, &mut out).unwrap();
+    let payment = payment_fields();
+    writer.header(&header_fields(), &mut out).unwrap();
     for _ in 0..100_000 {
         writer
-            .payment(&payment, MOST_RECEIVED, 0, &mut out)
+            .payment(&payment, MOST_RECEIVED, 0, &[], &mut out)
             .unwrap();
     }
     let before = (writer.clone(), out);
-    assert_answer(writer.payment(&payment, 100_000, 0, &mut out), 16, 82);
+    assert_answer(writer.payment(&payment, 100_000, 0, &[], &mut out), 16, 82);
     assert_eq!((writer.clone(), out), before);
-    assert_answer(writer.payment(&payment, 99_999, 0, &mut out), 0, 0);
-    assert_answer(writer.payment(&payment, 1, 0, &mut out), 16, 82);
-    assert_answer(writer.payment(&payment, 0, 0, &mut out), 0, 0);
+    assert_answer(writer.payment(&payment, 99_999, 0, &[], &mut out), 0, 0);
+    assert_answer(writer.payment(&payment, 1, 0, &[], &mut out), 16, 82);
+    assert_answer(writer.payment(&payment, 0, 0, &[], &mut out), 0, 0);
     assert_answer(writer.trailer(&mut out), 0, 0);
     assert_eq!(out, z(100_004, FILE_LIMIT));
 }
@@ -135,7 +131,7 @@ fn lanes_keep_the_order_of_first_appearance_in_accepted_files() {
     let (one, two, three) = (code_for(1, 1), code_for(2, 2), code_for(6, 33_333_333));
     let take = |session: &mut Session, records: &[[u8; 150]]| {
         for record in records {
-            assert_answer(session.take(record), 0, 0);
+            assert_answer(session.take(record, &[]), 0, 0);
         }
     };
     take(&mut session, &[a(), g(&three, 1)]);
@@ -266,8 +262,9 @@ fn arbitrary_sessions_against_the_naive_one() {
         };
         let before = session.clone();
         let record = followed(&record, any_end(&mut random));
-        let expected = NaiveSession::of(&session).take(&record);
-        let outcome = session.take(&record);
+        let agreed = any_list(&mut random, &few);
+        let expected = NaiveSession::of(&session).take(&record, &agreed);
+        let outcome = session.take(&record, &agreed);
         assert_eq!(answer(&outcome), expected.clone().err().unwrap_or((0, 0)));
         match expected {
             Ok(next) => {
@@ -286,7 +283,7 @@ fn arbitrary_sessions_against_the_naive_one() {
         }
         *seen.entry(answer(&outcome).0).or_insert(0) += 1;
     }
-    for number in [0, 1, 9, 10, 12, 13, 14, 15, 16, 17, 18, 22] {
+    for number in [0, 1, 9, 10, 11, 12, 13, 14, 15, 16, 17, 18, 22, 25] {
         assert!(seen.get(&number) > Some(&100), "{number} of {seen:?}");
     }
 }

@@ -6,10 +6,11 @@ use std::collections::{BTreeMap, BTreeSet};
 
 use common::assert_answer;
 use common::naive::{self, NaiveRun, NaiveSession};
+use reference::agreed::is_agreed;
 use reference::days::{self, Day, Form};
 use reference::page::page_of;
 use reference::random::Random;
-use reference::{answer, Session};
+use reference::{answer, records, Record, Session};
 
 fn made(seed: u64, form: Form) -> Day {
     days::day_of(&mut Random::new(seed), 20, 8, 20, form).unwrap()
@@ -28,8 +29,8 @@ fn days_of_each_form() {
         assert_eq!(lines.collect::<Vec<u8>>(), ended.bytes);
         assert_eq!(bare.files, ended.files);
         let (mut session, mut same) = (Session::new(), Session::new());
-        let run = session.run(&bare.bytes, false);
-        let ran = same.run(&ended.bytes, false);
+        let run = session.run(&bare.bytes, false, &[]);
+        let ran = same.run(&ended.bytes, false, &[]);
         assert_answer(run.answer, 0, 0);
         assert_eq!(
             (run.records, run.files, run.answer),
@@ -50,7 +51,7 @@ fn days_of_both_forms() {
     for seed in 0..60 {
         let day = made(seed, Form::Both);
         let mut session = Session::new();
-        assert_answer(session.run(&day.bytes, false).answer, 0, 0);
+        assert_answer(session.run(&day.bytes, false, &[]).answer, 0, 0);
         assert_eq!(session.board().in_use(), day.lanes(8));
         let payments: usize = day.files.iter().map(Vec::len).sum();
         let ends = day.bytes.len() - 150 * (payments + 16);
@@ -61,6 +62,40 @@ fn days_of_both_forms() {
     assert!(lengths.contains(&(false, false)));
     let no_files = days::day_of(&mut Random::new(1), 5, 0, 5, Form::Lined);
     assert_eq!(no_files, Ok(Day::default()));
+}
+
+/// A day written under a list is accepted under it, and leaves the same session as under an empty list. Of its
+/// payments, those of agreed issuers show a due date.
+#[test]
+fn days_under_lists() {
+    let mut random = Random::new(94);
+    let mut shown = [0; 2];
+    for round in 0..90 {
+        let issuers = days::issuers(&mut random, 20);
+        let agreed = days::agreed(&mut random, &issuers);
+        let form = Form::ALL[round % 3];
+        let day = days::day_under(&mut random, &issuers, 8, 20, form, &agreed).unwrap();
+        let (mut session, mut same) = (Session::new(), Session::new());
+        let run = session.run(&day.bytes, false, &agreed);
+        assert_answer(run.answer, 0, 0);
+        assert_eq!(run, same.run(&day.bytes, false, &[]));
+        assert_eq!(session, same);
+        assert_eq!(session.board().in_use(), day.lanes(8));
+        if form == Form::Bare {
+            for record in day.bytes.chunks(150).filter(|record| record[0] == b'G') {
+                let Ok(Record::G(decoded)) = records::decode(record, 6, &agreed) else {
+                    panic!("accepted")
+                };
+                let listed = is_agreed(decoded.barcode.issuer(), &agreed);
+                assert_eq!(decoded.barcode.due.is_some(), listed);
+                shown[usize::from(listed)] += 1;
+            }
+        }
+        let wrong = days::wrong_agreed(&mut random, &issuers);
+        let refused = days::day_under(&mut random, &issuers, 8, 20, form, &wrong);
+        assert_answer(refused, 25, 0);
+    }
+    assert!(shown.iter().all(|&count| count > 500), "{shown:?}");
 }
 
 /// Damages a day in one way or two.
@@ -83,8 +118,8 @@ fn assert_runs(random: &mut Random, bytes: &[u8]) -> u64 {
     loop {
         let end = (start + random.index(2000)).min(bytes.len());
         let more = end < bytes.len();
-        let result = session.run(&bytes[start..end], more);
-        let expected = naive::run(&naive, &bytes[start..end], more);
+        let result = session.run(&bytes[start..end], more, &[]);
+        let expected = naive::run(&naive, &bytes[start..end], more, &[]);
         let left = NaiveRun {
             session: NaiveSession::of(&session),
             records: result.records,
@@ -146,8 +181,8 @@ fn any_pieces_against_the_naive_session() {
             };
             let (piece, after) = rest.split_at(length.min(rest.len()));
             let before = session.clone();
-            let outcome = session.take(piece);
-            match naive.take(piece) {
+            let outcome = session.take(piece, &[]);
+            match naive.take(piece, &[]) {
                 Ok(next) => {
                     assert_answer(outcome, 0, 0);
                     naive = next;

@@ -23,7 +23,7 @@ fn file() -> [[u8; 150]; 3] {
 #[track_caller]
 fn assert_run(input: &[u8], records: u64, files: u64, answer: (u64, usize), bytes: usize) {
     let mut session = Session::new();
-    let run = session.run(input, false);
+    let run = session.run(input, false, &[]);
     assert_eq!(
         (run.records, run.files, run.bytes),
         (records, files, bytes),
@@ -31,7 +31,7 @@ fn assert_run(input: &[u8], records: u64, files: u64, answer: (u64, usize), byte
         run.answer
     );
     assert_answer(run.answer, answer.0, answer.1);
-    let expected = naive::run(&naive::NaiveSession::default(), input, false);
+    let expected = naive::run(&naive::NaiveSession::default(), input, false, &[]);
     assert_eq!(naive::NaiveSession::of(&session), expected.session);
     assert_eq!(page_of(input), naive::page(input).into_bytes());
 }
@@ -59,7 +59,7 @@ fn a_header_and_a_lone_cr() {
     assert_run(&followed(&a(), b"\r\n"), 1, 0, (0, 0), 152);
     assert_run(&followed(&a(), b"\r\n\r"), 1, 0, (1, 0), 152);
     let mut session = Session::new();
-    session.run(&followed(&a(), b"\r"), false);
+    session.run(&followed(&a(), b"\r"), false, &[]);
     assert!(session.open && !session.lined);
 }
 
@@ -147,19 +147,19 @@ fn with_more_to_come() {
     for input in [&ended[..], &bare, &[b'x'; 456], &[13; 456]] {
         for length in 0..152 {
             let mut session = Session::new();
-            let run = session.run(&input[..length], true);
+            let run = session.run(&input[..length], true, &[]);
             assert_eq!((run.records, run.files, run.bytes), (0, 0, 0));
             assert_eq!((session, run.answer), (Session::new(), Ok(())));
         }
     }
     for input in [[b'x'; 152], [13; 152]] {
-        let run = Session::new().run(&input, true);
+        let run = Session::new().run(&input, true, &[]);
         assert_answer(run.answer, 9, 1);
         assert_eq!(run.bytes, 0);
     }
     for (input, length) in [(&ended, 152), (&bare, 150)] {
         for end in 0..=input.len() {
-            let run = Session::new().run(&input[..end], true);
+            let run = Session::new().run(&input[..end], true, &[]);
             let mut taken = 0;
             while end - taken >= 152 {
                 taken += length;
@@ -180,8 +180,8 @@ fn arbitrary_closed_sessions() {
                 ..Session::new()
             };
             let mut same = Session::new();
-            let run = session.run(&input, more);
-            assert_eq!(run, same.run(&input, more));
+            let run = session.run(&input, more, &[]);
+            assert_eq!(run, same.run(&input, more, &[]));
             // Only an accepted header replaces it.
             same.lined |= run.records == 0;
             assert_eq!(session, same);
@@ -192,10 +192,10 @@ fn arbitrary_closed_sessions() {
 /// The input in parts that end at these places, with the rest carried over; at last a run over the rest alone.
 fn fed(input: &[u8], cuts: &[usize]) -> (Session, RunResult) {
     let mut session = Session::new();
-    let mut sum = Session::new().run(b"", false);
+    let mut sum = Session::new().run(b"", false, &[]);
     let parts = cuts.iter().map(|&cut| (cut, true));
     for (end, more) in parts.chain([(input.len(), true), (input.len(), false)]) {
-        let run = session.run(&input[sum.bytes..end], more);
+        let run = session.run(&input[sum.bytes..end], more, &[]);
         sum.records += run.records;
         sum.files += run.files;
         sum.bytes += run.bytes;
@@ -210,7 +210,7 @@ fn fed(input: &[u8], cuts: &[usize]) -> (Session, RunResult) {
 
 fn in_one_run(input: &[u8]) -> (Session, RunResult) {
     let mut session = Session::new();
-    let run = session.run(input, false);
+    let run = session.run(input, false, &[]);
     (session, run)
 }
 

@@ -62,16 +62,16 @@ fn later_buffers_are_as_long() {
         for size in SIZES.into_iter().filter(|&size| size != right) {
             let writer = open_writer(right);
             assert_refused(&writer, size, 1, |w, out| {
-                w.payment(&payment_fields(), 5, 150, out)
+                w.payment(&payment_fields(), 5, 150, &[], out)
             });
             assert_refused(&writer, size, 1, |w, out| {
-                w.payment(&[0; 121], u64::MAX, 0, out)
+                w.payment(&[0; 121], u64::MAX, 0, &[], out)
             });
             assert_refused(&writer, size, 1, |w, out| w.trailer(out));
         }
         let mut writer = open_writer(right);
         let mut out = vec![7; right];
-        let outcome = writer.payment(&payment_fields(), 5, 150, &mut out);
+        let outcome = writer.payment(&payment_fields(), 5, 150, &[], &mut out);
         assert_answer(outcome, 0, 0);
         assert_eq!(out, lined(&g(&p4_code(), 5))[..right]);
         assert_answer(writer.trailer(&mut out), 0, 0);
@@ -85,7 +85,7 @@ fn later_buffers_are_as_long() {
 #[test]
 fn calls_that_are_not_expected() {
     let header = |w: &mut Writer, out: &mut [u8]| w.header(&header_fields(), out);
-    let payment = |w: &mut Writer, out: &mut [u8]| w.payment(&payment_fields(), 5, 150, out);
+    let payment = |w: &mut Writer, out: &mut [u8]| w.payment(&payment_fields(), 5, 150, &[], out);
     let trailer = |w: &mut Writer, out: &mut [u8]| w.trailer(out);
     for size in SIZES {
         let number = |right: bool| if right { 9 } else { 1 };
@@ -102,7 +102,7 @@ fn calls_that_are_not_expected() {
         // The field bytes of the wrong length are 1, whatever the buffer.
         assert_refused(&Writer::new(), size, 1, |w, out| w.header(&[0; 79], out));
         assert_refused(&Writer::new(), size, 1, |w, out| {
-            w.payment(&[0; 120], 5, 150, out)
+            w.payment(&[0; 120], 5, 150, &[], out)
         });
         assert_refused(&closed_writer(152), size, 1, |w, out| {
             w.header(&[0; 78], out)
@@ -121,7 +121,7 @@ fn arbitrary_fresh_writers() {
         let right = size == 150 || size == 152;
         let number = if right { 9 } else { 1 };
         assert_refused(&strange, size, number, |w, out| {
-            w.payment(&payment_fields(), 5, 150, out)
+            w.payment(&payment_fields(), 5, 150, &[], out)
         });
         assert_refused(&strange, size, number, |w, out| w.trailer(out));
         if right {
@@ -147,14 +147,14 @@ fn refused_records_write_no_line_end() {
     let mut writer = open_writer(152);
     let before = writer.clone();
     let bad = with_byte(payment_fields(), 121, b'4');
-    assert_answer(writer.payment(&bad, 5, 150, &mut out), 12, 141);
-    let outcome = writer.payment(&payment_fields(), 1_000_000_000_000, 0, &mut out);
+    assert_answer(writer.payment(&bad, 5, 150, &[], &mut out), 12, 141);
+    let outcome = writer.payment(&payment_fields(), 1_000_000_000_000, 0, &[], &mut out);
     assert_answer(outcome, 21, 82);
     assert_eq!((&writer, out), (&before, [7; 152]));
     for (taken, total, number, place) in [(999_998, 0, 15, 1), (0, u64::MAX, 16, 82)] {
         (writer.taken, writer.total) = (taken, total);
         assert_answer(writer.trailer(&mut out), number, place);
-        let outcome = writer.payment(&payment_fields(), 1, 0, &mut out);
+        let outcome = writer.payment(&payment_fields(), 1, 0, &[], &mut out);
         assert_answer(outcome, number, place);
         assert_eq!(out, [7; 152]);
     }
@@ -180,20 +180,20 @@ fn written_back(bytes: &[u8]) -> Vec<u8> {
             b'A' => {
                 writer = Writer::new();
                 let mut fields = [0; 80];
-                records::join(record, 0, &mut fields).unwrap();
+                records::join(record, 0, &[], &mut fields).unwrap();
                 writer.header(&fields, &mut out)
             }
             b'G' => {
                 let mut fields = [0; 121];
-                records::join(record, session.version, &mut fields).unwrap();
+                records::join(record, session.version, &[], &mut fields).unwrap();
                 let received = digits::number(&record[81..93]).unwrap();
                 let tariff = digits::number(&record[93..100]).unwrap();
-                writer.payment(&fields, received, tariff, &mut out)
+                writer.payment(&fields, received, tariff, &[], &mut out)
             }
             _ => writer.trailer(&mut out),
         };
         assert_answer(outcome, 0, 0);
-        assert_answer(session.take(piece), 0, 0);
+        assert_answer(session.take(piece, &[]), 0, 0);
         written.extend_from_slice(&out);
         rest = after;
     }

@@ -15,7 +15,7 @@ const NO_ENDS: [&[u8]; 10] = [
 
 fn opened(header: &[u8]) -> Session {
     let mut session = Session::new();
-    assert_answer(session.take(header), 0, 0);
+    assert_answer(session.take(header, &[]), 0, 0);
     session
 }
 
@@ -31,7 +31,7 @@ fn good() -> [u8; 150] {
 #[track_caller]
 fn assert_refused(session: &mut Session, record: &[u8], number: u64, place: usize) {
     let before = session.clone();
-    assert_answer(session.take(record), number, place);
+    assert_answer(session.take(record, &[]), number, place);
     assert_eq!(*session, before);
 }
 
@@ -50,18 +50,22 @@ fn lengths_in_each_state() {
     for length in lengths {
         // Where A is expected.
         let number = u64::from(length != 150 && length != 152);
-        assert_answer(Session::new().take(&of_length(&a(), length)), number, 0);
+        assert_answer(
+            Session::new().take(&of_length(&a(), length), &[]),
+            number,
+            0,
+        );
         // In an open bare file and in an open lined file.
         for record in [good(), z(2, 0)] {
             let bytes = of_length(&record, length);
             let number = u64::from(length != 150);
-            assert_answer(opened(&a()).take(&bytes), number, 0);
+            assert_answer(opened(&a()).take(&bytes, &[]), number, 0);
             let (number, place) = match length {
                 150 | 151 => (22, 151),
                 152 => (0, 0),
                 _ => (1, 0),
             };
-            assert_answer(opened_lined().take(&bytes), number, place);
+            assert_answer(opened_lined().take(&bytes, &[]), number, place);
         }
     }
 }
@@ -94,7 +98,7 @@ fn a_header_of_152_bytes_that_ends_otherwise() {
         for second in 0..=255 {
             let number = u64::from((first, second) != (13, 10));
             let bytes = followed(&a(), &[first, second]);
-            assert_answer(Session::new().take(&bytes), number, 0);
+            assert_answer(Session::new().take(&bytes, &[]), number, 0);
         }
     }
 }
@@ -108,7 +112,7 @@ fn a_later_record_that_ends_otherwise() {
                 let bytes = followed(&record, &[first, second]);
                 let ended = (first, second) == (13, 10);
                 let (number, place) = if ended { (0, 0) } else { (22, 151) };
-                assert_answer(session.clone().take(&bytes), number, place);
+                assert_answer(session.clone().take(&bytes, &[]), number, place);
             }
         }
     }
@@ -137,7 +141,7 @@ fn records_that_are_not_expected() {
 fn all_other_checks_come_before_the_line_end() {
     let good = good();
     let mut plain = opened_lined();
-    assert_answer(plain.take(&lined(&good)), 0, 0);
+    assert_answer(plain.take(&lined(&good), &[]), 0, 0);
     let with = |change: &dyn Fn(&mut Session)| {
         let mut session = plain.clone();
         change(&mut session);
@@ -181,7 +185,7 @@ fn a_refused_22_changes_nothing() {
         for end in NO_ENDS {
             assert_refused(&mut session, &followed(&record, end), 22, 151);
         }
-        assert_answer(session.take(&lined(&record)), 0, 0);
+        assert_answer(session.take(&lined(&record), &[]), 0, 0);
     }
     let lanes = session.board().in_use();
     assert_eq!((lanes.len(), lanes[0].centavos), (2, 5));
@@ -197,22 +201,22 @@ fn a_session_keeps_its_headers_form() {
     // A refused header decides nothing.
     assert_refused(&mut session, &lined(&with_bytes(a(), 80, b"05")), 10, 80);
     for header in [a(), a06()] {
-        assert_answer(session.take(&lined(&header)), 0, 0);
+        assert_answer(session.take(&lined(&header), &[]), 0, 0);
         assert!(session.lined);
-        assert_answer(session.take(&lined(&good())), 0, 0);
+        assert_answer(session.take(&lined(&good()), &[]), 0, 0);
         assert!(session.lined);
         assert_answer(session.finish(), 19, 0);
-        assert_answer(session.take(&lined(&z(3, 5))), 0, 0);
+        assert_answer(session.take(&lined(&z(3, 5)), &[]), 0, 0);
         assert!(!session.lined);
         // A bare file in turn.
         for record in [header, good(), z(3, 5)] {
-            assert_answer(session.take(&record), 0, 0);
+            assert_answer(session.take(&record, &[]), 0, 0);
             assert!(!session.lined);
         }
     }
     assert_eq!(session.board().payments, 4);
     let closed = session.clone();
-    assert_answer(session.take(&lined(&a())), 0, 0);
+    assert_answer(session.take(&lined(&a()), &[]), 0, 0);
     session.abandon();
     assert_eq!(session, closed);
     assert_refused(&mut bare, &lined(&good()), 1, 0);
@@ -235,10 +239,10 @@ fn arbitrary_closed_sessions() {
     assert_refused(&mut session, &lined(&good()), 9, 1);
     assert_refused(&mut session, &with_byte(a(), 2, b'1'), 10, 2);
     assert_eq!(session, strange);
-    assert_answer(session.take(&a()), 0, 0);
+    assert_answer(session.take(&a(), &[]), 0, 0);
     assert_eq!(session, opened(&a()));
     let mut session = strange.clone();
-    assert_answer(session.take(&lined(&a())), 0, 0);
+    assert_answer(session.take(&lined(&a()), &[]), 0, 0);
     assert_eq!(session, opened_lined());
 }
 
@@ -272,8 +276,8 @@ fn the_forms_agree() {
         for _ in 0..60 {
             let record = any_record(&mut random, &bare);
             let before = ended.clone();
-            let outcome = bare.take(&record);
-            assert_eq!(ended.take(&lined(&record)), outcome);
+            let outcome = bare.take(&record, &[]);
+            assert_eq!(ended.take(&lined(&record), &[]), outcome);
             if outcome.is_err() {
                 assert_eq!(ended, before);
             }

@@ -8,7 +8,7 @@ use common::naive;
 use reference::random::Random;
 use reference::{answer, barcode, days, line, records, Modulus};
 
-fn expected(outcome: Result<(), naive::Answer>) -> naive::Answer {
+fn expected<T>(outcome: Result<T, naive::Answer>) -> naive::Answer {
     outcome.err().unwrap_or((0, 0))
 }
 
@@ -30,9 +30,9 @@ fn assert_joined(random: &mut Random, record: &[u8], version: u64) {
         _ => 121,
     };
     let mut out = [7; 150];
-    let outcome = records::join(record, version, &mut out[..length]);
+    let outcome = records::join(record, version, &[], &mut out[..length]);
     let mut left = [7; 150];
-    match naive::join(record, version, length) {
+    match naive::join(record, version, &[], length) {
         Ok(fields) => {
             assert_eq!(answer(&outcome), (0, 0));
             left[..length].copy_from_slice(&fields);
@@ -52,16 +52,16 @@ fn barcodes() {
             1 => drop(days::swap(&mut random, &mut code)),
             _ => drop(days::damage(&mut random, &mut code)),
         }
-        let outcome = barcode::decode(&code);
-        assert_eq!(answer(&outcome), expected(naive::barcode(&code)));
+        let outcome = barcode::decode(&code, &[]);
+        assert_eq!(answer(&outcome), expected(naive::barcode(&code, &[])));
         let mut typed = [7; 48];
-        let converted = line::line_from_barcode(&code, &mut typed);
+        let converted = line::line_from_barcode(&code, &[], &mut typed);
         assert_eq!(answer(&converted), answer(&outcome));
         if outcome.is_ok() {
-            assert_eq!(expected(naive::typed_line(&typed)), (0, 0));
+            assert_eq!(expected(naive::typed_line(&typed, &[])), (0, 0));
         } else {
             assert_eq!(typed, [7; 48]);
-            assert!(barcode::free_field(&code).is_empty());
+            assert!(barcode::free_field(&code, &[]).is_empty());
         }
     }
 }
@@ -76,13 +76,13 @@ fn lines() {
             1 => drop(days::swap(&mut random, &mut typed)),
             _ => drop(days::damage(&mut random, &mut typed)),
         }
-        let outcome = line::decode(&typed);
-        assert_eq!(answer(&outcome), expected(naive::typed_line(&typed)));
+        let outcome = line::decode(&typed, &[]);
+        assert_eq!(answer(&outcome), expected(naive::typed_line(&typed, &[])));
         let mut code = [7; 44];
-        let converted = line::barcode_from_line(&typed, &mut code);
+        let converted = line::barcode_from_line(&typed, &[], &mut code);
         assert_eq!(answer(&converted), answer(&outcome));
         match outcome {
-            Ok(decoded) => assert_eq!(barcode::decode(&code), Ok(decoded)),
+            Ok(decoded) => assert_eq!(barcode::decode(&code, &[]), Ok(decoded)),
             Err(_) => assert_eq!(code, [7; 44]),
         }
     }
@@ -94,10 +94,13 @@ fn any_digits_after_a_good_start() {
     for _ in 0..200_000 {
         let mut typed: [u8; 48] = std::array::from_fn(|_| random.digit());
         typed[0] = b'8';
-        let outcome = line::decode(&typed);
-        assert_eq!(answer(&outcome), expected(naive::typed_line(&typed)));
-        let outcome = barcode::decode(&typed[..44]);
-        assert_eq!(answer(&outcome), expected(naive::barcode(&typed[..44])));
+        let outcome = line::decode(&typed, &[]);
+        assert_eq!(answer(&outcome), expected(naive::typed_line(&typed, &[])));
+        let outcome = barcode::decode(&typed[..44], &[]);
+        assert_eq!(
+            answer(&outcome),
+            expected(naive::barcode(&typed[..44], &[]))
+        );
     }
 }
 
@@ -114,10 +117,10 @@ fn records_alone() {
             1 => drop(days::swap(&mut random, &mut record)),
             _ => drop(days::damage(&mut random, &mut record)),
         }
-        let outcome = records::decode(&record, version);
+        let outcome = records::decode(&record, version, &[]);
         assert_eq!(
             answer(&outcome),
-            expected(naive::record(&record, version, b"AGZ"))
+            expected(naive::record(&record, version, b"AGZ", &[]))
         );
         seen.insert(answer(&outcome).0);
         assert_joined(&mut random, &record, version);
@@ -143,16 +146,16 @@ fn any_bytes_of_any_length() {
         }
         let version = told(&mut random, 4);
         assert_eq!(
-            answer(&barcode::decode(&bytes)),
-            expected(naive::barcode(&bytes))
+            answer(&barcode::decode(&bytes, &[])),
+            expected(naive::barcode(&bytes, &[]))
         );
         assert_eq!(
-            answer(&line::decode(&bytes)),
-            expected(naive::typed_line(&bytes))
+            answer(&line::decode(&bytes, &[])),
+            expected(naive::typed_line(&bytes, &[]))
         );
         assert_eq!(
-            answer(&records::decode(&bytes, version)),
-            expected(naive::record(&bytes, version, b"AGZ"))
+            answer(&records::decode(&bytes, version, &[])),
+            expected(naive::record(&bytes, version, b"AGZ", &[]))
         );
         assert_joined(&mut random, &bytes, version);
     }
@@ -173,8 +176,8 @@ fn every_byte_in_every_place_of_a_record() {
                     let record = common::with_byte(good, place, byte);
                     for version in [4, 6, 5] {
                         assert_eq!(
-                            answer(&records::decode(&record, version)),
-                            expected(naive::record(&record, version, b"AGZ"))
+                            answer(&records::decode(&record, version, &[])),
+                            expected(naive::record(&record, version, b"AGZ", &[]))
                         );
                     }
                 }

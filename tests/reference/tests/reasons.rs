@@ -27,6 +27,7 @@ const NUMBERS: &[(Reason, u64)] = &[
     (Reason::FileOpen, 19),
     (Reason::WideNumber, 21),
     (Reason::NoLineEnd, 22),
+    (Reason::WrongList, 25),
 ];
 
 #[test]

@@ -49,7 +49,7 @@ fn capture_and_form_are_only_12() {
     for (version, captures, forms) in versions {
         for (place, known) in [(117, captures), (141, forms)] {
             for byte in 0..=255u8 {
-                let outcome = records::decode(&with_byte(good, place, byte), version);
+                let outcome = records::decode(&with_byte(good, place, byte), version, &[]);
                 if known.contains(&byte) {
                     assert_answer(outcome, 0, 0);
                 } else {
@@ -114,13 +114,16 @@ fn zeros_are_allowed() {
     assert_eq!((decoded.bank, decoded.sequence), (0, 0));
     assert_eq!(decoded.version, 4);
     let mut session = Session::new();
-    assert_answer(session.take(&header), 0, 0);
-    assert_answer(session.take(&g(&p4_code(), 0)), 0, 0);
-    assert_answer(session.take(&z(3, 0)), 0, 0);
+    assert_answer(session.take(&header, &[]), 0, 0);
+    assert_answer(session.take(&g(&p4_code(), 0), &[]), 0, 0);
+    assert_answer(session.take(&z(3, 0), &[]), 0, 0);
     assert_eq!(session.board().in_use()[0].payments, 1);
     assert_eq!(session.board().payments, 1);
     let code = code_for(1, 0);
-    assert_eq!(barcode::decode(&code).map(|decoded| decoded.value), Ok(0));
+    assert_eq!(
+        barcode::decode(&code, &[]).map(|decoded| decoded.value),
+        Ok(0)
+    );
 }
 
 #[test]
@@ -129,7 +132,7 @@ fn a_refused_record_has_no_field() {
     for record in samples {
         let mut covered = 0;
         for (i, row) in TABLE.iter().enumerate() {
-            let field = records::field(&record, 4, i);
+            let field = records::field(&record, 4, i, &[]);
             if row.letter == record[0] {
                 assert_eq!(field, &record[row.first - 1..row.last]);
                 assert_eq!(field.as_ptr(), record[row.first - 1..].as_ptr());
@@ -137,13 +140,13 @@ fn a_refused_record_has_no_field() {
             } else {
                 assert!(field.is_empty());
             }
-            assert!(records::field(&with_byte(record, 1, b'B'), 4, i).is_empty());
-            assert!(records::field(&with_byte(record, 150, b'B'), 4, i).is_empty());
-            assert!(records::field(&record[..149], 4, i).is_empty());
+            assert!(records::field(&with_byte(record, 1, b'B'), 4, i, &[]).is_empty());
+            assert!(records::field(&with_byte(record, 150, b'B'), 4, i, &[]).is_empty());
+            assert!(records::field(&record[..149], 4, i, &[]).is_empty());
         }
         assert_eq!(covered, 150);
         for past in [28, 29, usize::MAX] {
-            assert!(records::field(&record, 4, past).is_empty());
+            assert!(records::field(&record, 4, past, &[]).is_empty());
         }
     }
 }
@@ -160,7 +163,7 @@ fn what_is_not_checked() {
         with_bytes(g(&code, 1), 101, b"00000002"),
         z(4, 2),
     ] {
-        assert_answer(session.take(&record), 0, 0);
+        assert_answer(session.take(&record, &[]), 0, 0);
     }
 }
 
@@ -174,34 +177,38 @@ fn field_bytes() {
             with_byte(z(2, 0), 2, b'x'),
             with_byte(a(), 1, b'B'),
         ] {
-            assert_answer(records::join(&record, 4, &mut out[..length]), 9, 1);
-            assert_answer(records::join(&record[..149], 4, &mut out[..length]), 1, 0);
+            assert_answer(records::join(&record, 4, &[], &mut out[..length]), 9, 1);
+            assert_answer(
+                records::join(&record[..149], 4, &[], &mut out[..length]),
+                1,
+                0,
+            );
         }
     }
-    assert_answer(records::join(&a(), 4, &mut out[..121]), 1, 0);
-    assert_answer(records::join(&a()[..149], 4, &mut out[..80]), 1, 0);
+    assert_answer(records::join(&a(), 4, &[], &mut out[..121]), 1, 0);
+    assert_answer(records::join(&a()[..149], 4, &[], &mut out[..80]), 1, 0);
     let bad = with_byte(a(), 43, b'x');
     for length in [0, 77, 78, 79, 81] {
-        assert_answer(records::join(&bad, 4, &mut out[..length]), 1, 0);
+        assert_answer(records::join(&bad, 4, &[], &mut out[..length]), 1, 0);
     }
-    assert_answer(records::join(&bad, 4, &mut out[..80]), 2, 43);
+    assert_answer(records::join(&bad, 4, &[], &mut out[..80]), 2, 43);
     let payment = g(&p4_code(), 5);
-    assert_answer(records::join(&payment, 4, &mut out[..80]), 1, 0);
+    assert_answer(records::join(&payment, 4, &[], &mut out[..80]), 1, 0);
     assert_answer(
-        records::join(&with_byte(payment, 41, b'0'), 4, &mut out[..121]),
+        records::join(&with_byte(payment, 41, b'0'), 4, &[], &mut out[..121]),
         7,
         41,
     );
     assert_eq!(out, [7; 200]);
     assert_answer(
-        records::join(&with_byte(a(), 83, 211), 4, &mut out[..80]),
+        records::join(&with_byte(a(), 83, 211), 4, &[], &mut out[..80]),
         0,
         0,
     );
     assert_eq!((out[79], out[80]), (211, 7));
     assert_eq!(&out[..77], &a()[2..79]);
     assert_eq!(&out[77..79], b"04");
-    assert_answer(records::join(&payment, 4, &mut out[..121]), 0, 0);
+    assert_answer(records::join(&payment, 4, &[], &mut out[..121]), 0, 0);
     assert_eq!(&out[..80], &payment[1..81]);
     assert_eq!(&out[80..121], &payment[100..141]);
     assert_eq!(out[121], 7);

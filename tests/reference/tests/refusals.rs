@@ -10,7 +10,7 @@ use reference::{answer, barcode, line, records, Board, Date, Modulus, Reason, Re
 /// A session with an open file that has these figures.
 fn session(taken: u64, total: u64, change: impl Fn(&mut Board)) -> Session {
     let mut session = Session::new();
-    session.take(&a()).unwrap();
+    session.take(&a(), &[]).unwrap();
     session.taken = taken;
     session.total = total;
     change(&mut session.working);
@@ -26,12 +26,12 @@ fn each_number_with_its_place() {
         assert_eq!(answer(&outcome), (number, place));
         seen.extend(outcome.err().map(|refusal| refusal.reason));
     };
-    let check_barcode = |bytes: &[u8]| barcode::decode(bytes).map(|_| ());
-    let check_line = |bytes: &[u8]| line::decode(bytes).map(|_| ());
+    let check_barcode = |bytes: &[u8]| barcode::decode(bytes, &[]).map(|_| ());
+    let check_line = |bytes: &[u8]| line::decode(bytes, &[]).map(|_| ());
     let check_record = |bytes: &[u8]| decode(bytes).map(|_| ());
     let take = |mut session: Session, record: &[u8]| {
         let before = session.clone();
-        let outcome = session.take(record);
+        let outcome = session.take(record, &[]);
         assert_eq!(session, before, "a refusal changes nothing");
         outcome
     };
@@ -95,10 +95,10 @@ fn each_number_with_its_place() {
     assert_seen(check_record(&with_bytes(good, 30, b"20241301")), 11, 30);
     assert_seen(check_record(&with_byte(good, 117, b'j')), 12, 117);
     assert_seen(check_record(&with_byte(good, 141, b'0')), 12, 141);
-    let under_04 = |bytes: &[u8]| records::decode(bytes, 4).map(|_| ());
+    let under_04 = |bytes: &[u8]| records::decode(bytes, 4, &[]).map(|_| ());
     assert_seen(under_04(&with_byte(good, 117, b'g')), 12, 117);
     assert_seen(under_04(&with_byte(good, 141, b'4')), 12, 141);
-    assert_seen(records::decode(&good, 77).map(|_| ()), 10, 80);
+    assert_seen(records::decode(&good, 77, &[]).map(|_| ()), 10, 80);
     assert_seen(take(session(0, 0, none), &z(3, 1)), 13, 2);
     assert_seen(take(session(0, 0, none), &z(2, 1)), 14, 8);
     assert_seen(take(session(999_997, u64::MAX, none), &good), 15, 1);
@@ -131,16 +131,17 @@ fn each_number_with_its_place() {
     }
     let mut out = [0; 44];
     assert_seen(
-        barcode::build(1, 6, 100_000_000_000, 0, &[b'0'; 25], &mut out),
+        barcode::build(1, 6, 100_000_000_000, 0, &[b'0'; 25], &[], &mut out),
         21,
         5,
     );
     assert_seen(
-        barcode::build(1, 6, 0, 10_000, &[b'0'; 25], &mut out),
+        barcode::build(1, 6, 0, 10_000, &[b'0'; 25], &[], &mut out),
         21,
         16,
     );
     assert_eq!(out, [0; 44]);
+    assert_seen(barcode::decode(&code, &[0]).map(|_| ()), 25, 0);
     assert_eq!(seen, Reason::ALL.iter().copied().collect());
 }
 
@@ -226,9 +227,13 @@ fn a_line_is_checked_in_its_order() {
         (1, b'x', 2, 1),
     ] {
         typed[place - 1] = byte;
-        assert_answer(line::decode(&typed), number, shown);
+        assert_answer(line::decode(&typed, &[]), number, shown);
         let mut code = [7; 44];
-        assert_answer(line::barcode_from_line(&typed, &mut code), number, shown);
+        assert_answer(
+            line::barcode_from_line(&typed, &[], &mut code),
+            number,
+            shown,
+        );
         assert_eq!(code, [7; 44]);
     }
 }

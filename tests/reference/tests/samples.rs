@@ -24,38 +24,41 @@ fn p3_general_check_and_refusal() {
     let mut rest = code[..3].to_vec();
     rest.extend_from_slice(&code[4..]);
     assert_eq!(Modulus::Ten.check_digit(&rest), Ok(1));
-    assert_answer(barcode::decode(code), 5, 3);
+    assert_answer(barcode::decode(code, &[]), 5, 3);
 }
 
 #[test]
 fn p4_accepted() {
-    let decoded = line::decode(P4).expect("accepted");
+    let decoded = line::decode(P4, &[]).expect("accepted");
     assert_eq!(
         (decoded.segment, decoded.kind, decoded.value, decoded.issuer),
         (1, 7, 109, 3659)
     );
-    assert_eq!(barcode::decode(&p4_code()), Ok(decoded));
+    assert_eq!(barcode::decode(&p4_code(), &[]), Ok(decoded));
 }
 
 #[test]
 fn p5_swapped_value() {
     let mut typed = *P4;
     typed[12..24].copy_from_slice(b"019036599702");
-    assert_eq!(line::decode(&typed).map(|decoded| decoded.value), Ok(190));
+    assert_eq!(
+        line::decode(&typed, &[]).map(|decoded| decoded.value),
+        Ok(190)
+    );
 }
 
 #[test]
 fn p6_last_box() {
     let mut typed = *P4;
     typed[47] = b'9';
-    assert_answer(line::decode(&typed), 6, 48);
+    assert_answer(line::decode(&typed, &[]), 6, 48);
 }
 
 #[test]
 fn p7_general_check() {
     let mut typed = *P4;
     typed[..12].copy_from_slice(b"817800000009");
-    assert_answer(line::decode(&typed), 7, 4);
+    assert_answer(line::decode(&typed, &[]), 7, 4);
 }
 
 #[test]
@@ -63,7 +66,7 @@ fn p8_p9_accepted() {
     let p8 = b"818000000004000000100005000000000000000000000000";
     let p9 = b"818000000004000000100005000000000000000000000060";
     for typed in [p8, p9] {
-        let decoded = line::decode(typed).expect("accepted");
+        let decoded = line::decode(typed, &[]).expect("accepted");
         assert_eq!(
             (
                 decoded.segment,
@@ -88,8 +91,8 @@ fn p10_leap_days() {
 #[test]
 fn p11_empty_file() {
     let mut session = Session::new();
-    assert_answer(session.take(&a()), 0, 0);
-    assert_answer(session.take(&z(2, 0)), 0, 0);
+    assert_answer(session.take(&a(), &[]), 0, 0);
+    assert_answer(session.take(&z(2, 0), &[]), 0, 0);
     assert_eq!(session, Session::new());
 }
 
@@ -98,10 +101,10 @@ fn p12_past_32_bits() {
     let mut session = Session::new();
     let code = p4_code();
     for record in [a(), g(&code, 2_147_483_648), g(&code, 2_147_483_649)] {
-        assert_answer(session.take(&record), 0, 0);
+        assert_answer(session.take(&record, &[]), 0, 0);
     }
-    assert_answer(session.take(&z(4, 1)), 14, 8);
+    assert_answer(session.take(&z(4, 1), &[]), 14, 8);
     let written = with_bytes(z(4, 0), 8, b"00000004294967297");
-    assert_answer(session.take(&written), 0, 0);
+    assert_answer(session.take(&written, &[]), 0, 0);
     assert_eq!(session.board().centavos, 4_294_967_297);
 }

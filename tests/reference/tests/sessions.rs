@@ -10,7 +10,7 @@ const FILE_LIMIT: u64 = 99_999_999_999_999_999;
 
 fn opened() -> Session {
     let mut session = Session::new();
-    assert_answer(session.take(&a()), 0, 0);
+    assert_answer(session.take(&a(), &[]), 0, 0);
     session
 }
 
@@ -19,21 +19,25 @@ fn limits_are_checked_after_the_fields() {
     let mut session = opened();
     session.taken = 999_997;
     let good = g(&p4_code(), 1);
-    assert_answer(session.take(&with_bytes(good, 22, b"20230229")), 11, 22);
-    assert_answer(session.take(&with_bytes(good, 142, b"x")), 10, 142);
-    assert_answer(session.take(&good), 15, 1);
+    assert_answer(
+        session.take(&with_bytes(good, 22, b"20230229"), &[]),
+        11,
+        22,
+    );
+    assert_answer(session.take(&with_bytes(good, 142, b"x"), &[]), 10, 142);
+    assert_answer(session.take(&good, &[]), 15, 1);
 }
 
 #[test]
 fn a_refused_z_leaves_the_file_open() {
     let mut session = opened();
-    assert_answer(session.take(&g(&p4_code(), 109)), 0, 0);
+    assert_answer(session.take(&g(&p4_code(), 109), &[]), 0, 0);
     let before = session.clone();
-    assert_answer(session.take(&z(3, 1)), 14, 8);
+    assert_answer(session.take(&z(3, 1), &[]), 14, 8);
     assert_eq!(session, before);
-    assert_answer(session.take(&z(2, 1)), 13, 2);
+    assert_answer(session.take(&z(2, 1), &[]), 13, 2);
     assert_eq!(session, before);
-    assert_answer(session.take(&z(3, 109)), 0, 0);
+    assert_answer(session.take(&z(3, 109), &[]), 0, 0);
     assert_eq!(session.board().centavos, 109);
 }
 
@@ -41,13 +45,13 @@ fn a_refused_z_leaves_the_file_open() {
 fn lanes_of_the_open_file_count() {
     let mut session = opened();
     for number in 0..64 {
-        assert_answer(session.take(&g(&code_for(1, number), 1)), 0, 0);
+        assert_answer(session.take(&g(&code_for(1, number), 1), &[]), 0, 0);
     }
     let before = session.clone();
-    assert_answer(session.take(&g(&code_for(2, 0), 1)), 17, 53);
+    assert_answer(session.take(&g(&code_for(2, 0), 1), &[]), 17, 53);
     assert_eq!(session, before);
     // An issuer of the open file is not new a second time.
-    assert_answer(session.take(&g(&code_for(1, 63), 1)), 0, 0);
+    assert_answer(session.take(&g(&code_for(1, 63), 1), &[]), 0, 0);
     assert_eq!(session.board().used, 0);
     session.abandon();
     assert_eq!(session, Session::new());
@@ -57,20 +61,20 @@ fn lanes_of_the_open_file_count() {
 fn exactly_at_the_limit_is_accepted() {
     let mut session = opened();
     session.total = FILE_LIMIT - 1;
-    assert_answer(session.take(&g(&p4_code(), 2)), 16, 82);
-    assert_answer(session.take(&g(&p4_code(), 1)), 0, 0);
-    assert_answer(session.take(&g(&p4_code(), 1)), 16, 82);
-    assert_answer(session.take(&g(&p4_code(), 0)), 0, 0);
+    assert_answer(session.take(&g(&p4_code(), 2), &[]), 16, 82);
+    assert_answer(session.take(&g(&p4_code(), 1), &[]), 0, 0);
+    assert_answer(session.take(&g(&p4_code(), 1), &[]), 16, 82);
+    assert_answer(session.take(&g(&p4_code(), 0), &[]), 0, 0);
     let mut session = opened();
     session.working.centavos = E18 - 1;
-    assert_answer(session.take(&g(&p4_code(), 2)), 18, 82);
-    assert_answer(session.take(&g(&p4_code(), 1)), 0, 0);
-    assert_answer(session.take(&g(&p4_code(), 1)), 18, 82);
-    assert_answer(session.take(&g(&p4_code(), 0)), 0, 0);
+    assert_answer(session.take(&g(&p4_code(), 2), &[]), 18, 82);
+    assert_answer(session.take(&g(&p4_code(), 1), &[]), 0, 0);
+    assert_answer(session.take(&g(&p4_code(), 1), &[]), 18, 82);
+    assert_answer(session.take(&g(&p4_code(), 0), &[]), 0, 0);
     let mut session = opened();
     session.working.payments = E18 - 1;
-    assert_answer(session.take(&g(&p4_code(), 0)), 0, 0);
-    assert_answer(session.take(&g(&p4_code(), 0)), 18, 82);
+    assert_answer(session.take(&g(&p4_code(), 0), &[]), 0, 0);
+    assert_answer(session.take(&g(&p4_code(), 0), &[]), 18, 82);
 }
 
 #[test]
@@ -109,21 +113,21 @@ fn an_accepted_a_starts_from_the_board_shown() {
             ..Board::new()
         },
     };
-    assert_answer(session.take(&a()), 0, 0);
+    assert_answer(session.take(&a(), &[]), 0, 0);
     assert_eq!(session, opened());
 }
 
 #[test]
 fn closed_sessions_are_equal() {
     let mut session = opened();
-    assert_answer(session.take(&g(&p4_code(), 5)), 0, 0);
-    assert_answer(session.take(&z(3, 5)), 0, 0);
+    assert_answer(session.take(&g(&p4_code(), 5), &[]), 0, 0);
+    assert_answer(session.take(&z(3, 5), &[]), 0, 0);
     assert_eq!((session.taken, session.total, session.version), (0, 0, 0));
     assert!(!session.lined);
     assert_eq!(session.working, session.shown);
     let closed = session.clone();
-    assert_answer(session.take(&a()), 0, 0);
-    assert_answer(session.take(&g(&code_for(3, 3), 5)), 0, 0);
+    assert_answer(session.take(&a(), &[]), 0, 0);
+    assert_answer(session.take(&g(&code_for(3, 3), 5), &[]), 0, 0);
     session.abandon();
     assert_eq!(session, closed);
 }
@@ -134,9 +138,9 @@ fn finish_answers_for_an_open_file() {
     assert_answer(Session::new().finish(), 0, 0);
     let mut session = opened();
     assert_answer(session.finish(), 19, 0);
-    assert_answer(session.take(&g(&p4_code(), 5)), 0, 0);
+    assert_answer(session.take(&g(&p4_code(), 5), &[]), 0, 0);
     assert_answer(session.finish(), 19, 0);
-    assert_answer(session.take(&z(3, 5)), 0, 0);
+    assert_answer(session.take(&z(3, 5), &[]), 0, 0);
     assert_answer(session.finish(), 0, 0);
 }
 
@@ -145,34 +149,34 @@ fn arbitrary_sessions() {
     let code = p4_code();
     let mut most = opened();
     most.taken = u64::MAX;
-    assert_answer(most.take(&g(&code, 0)), 15, 1);
-    assert_answer(most.take(&z(1, 0)), 13, 2);
-    assert_answer(most.take(&z(999_999, 0)), 13, 2);
+    assert_answer(most.take(&g(&code, 0), &[]), 15, 1);
+    assert_answer(most.take(&z(1, 0), &[]), 13, 2);
+    assert_answer(most.take(&z(999_999, 0), &[]), 13, 2);
     let mut wide = opened();
     wide.total = u64::MAX;
-    assert_answer(wide.take(&g(&code, 1)), 16, 82);
-    assert_answer(wide.take(&g(&code, 0)), 16, 82);
-    assert_answer(wide.take(&z(2, 0)), 14, 8);
+    assert_answer(wide.take(&g(&code, 1), &[]), 16, 82);
+    assert_answer(wide.take(&g(&code, 0), &[]), 16, 82);
+    assert_answer(wide.take(&z(2, 0), &[]), 14, 8);
     let mut crowded = opened();
     crowded.working.used = usize::MAX;
-    assert_answer(crowded.take(&g(&code, 1)), 17, 53);
+    assert_answer(crowded.take(&g(&code, 1), &[]), 17, 53);
     // Lanes are searched among the 64, however large `used` is.
-    assert_answer(crowded.take(&g(&code_for(1, 1), 1)), 17, 53);
+    assert_answer(crowded.take(&g(&code_for(1, 1), 1), &[]), 17, 53);
     crowded.working.lanes[63] = Lane {
-        issuer: barcode::decode(&code).unwrap().issuer(),
+        issuer: barcode::decode(&code, &[]).unwrap().issuer(),
         payments: 0,
         centavos: 0,
     };
-    assert_answer(crowded.take(&g(&code, 1)), 0, 0);
+    assert_answer(crowded.take(&g(&code, 1), &[]), 0, 0);
     assert_eq!(crowded.working.used, usize::MAX);
     crowded.working.used = 63;
-    assert_answer(crowded.take(&g(&code, 1)), 0, 0);
+    assert_answer(crowded.take(&g(&code, 1), &[]), 0, 0);
     assert_eq!(crowded.working.lanes[63].payments, 1);
     assert_eq!(crowded.working.used, 64);
     for (lane, board) in [(u64::MAX, 0), (0, u64::MAX), (E18, 0), (0, E18)] {
         for payments in [true, false] {
             let mut past = opened();
-            assert_answer(past.take(&g(&code, 0)), 0, 0);
+            assert_answer(past.take(&g(&code, 0), &[]), 0, 0);
             if payments {
                 past.working.lanes[0].payments = lane;
                 past.working.payments = board;
@@ -181,7 +185,7 @@ fn arbitrary_sessions() {
                 past.working.centavos = board;
             }
             let before = past.clone();
-            assert_answer(past.take(&g(&code, 1)), 18, 82);
+            assert_answer(past.take(&g(&code, 1), &[]), 18, 82);
             assert_eq!(past, before);
         }
     }
@@ -191,21 +195,21 @@ fn arbitrary_sessions() {
 fn run_takes_records_up_to_a_refusal() {
     let mut bytes = [a(), g(&p4_code(), 109), z(3, 109), a()].concat();
     let mut session = Session::new();
-    let run = session.run(&bytes, false);
+    let run = session.run(&bytes, false, &[]);
     assert_eq!((run.records, run.files, run.answer), (4, 1, Ok(())));
     assert_eq!(run.bytes, 600);
     let mut session = Session::new();
     bytes.extend_from_slice(&g(&p4_code(), 1)[..149]);
-    let run = session.run(&bytes, false);
+    let run = session.run(&bytes, false, &[]);
     assert_eq!((run.records, run.files, run.bytes), (4, 1, 600));
     assert_answer(run.answer, 1, 0);
     assert!(session.open);
     assert_eq!(session.board().centavos, 109);
-    let run = Session::new().run(&[], false);
+    let run = Session::new().run(&[], false, &[]);
     assert_eq!((run.records, run.files, run.answer), (0, 0, Ok(())));
     assert_eq!(run.bytes, 0);
     let bytes = [a(), z(3, 0), z(2, 0)].concat();
-    let run = Session::new().run(&bytes, false);
+    let run = Session::new().run(&bytes, false, &[]);
     assert_eq!((run.records, run.bytes), (1, 150));
     assert_answer(run.answer, 13, 2);
 }
@@ -220,7 +224,7 @@ fn issuers_differ_by_segment() {
         g(&code_for(1, 3659), 4),
         z(5, 7),
     ] {
-        assert_answer(session.take(&record), 0, 0);
+        assert_answer(session.take(&record, &[]), 0, 0);
     }
     let lanes = session.board().in_use();
     assert_eq!(lanes.len(), 2);

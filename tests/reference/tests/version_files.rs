@@ -18,7 +18,7 @@ fn captured(byte: u8) -> [u8; 150] {
 #[track_caller]
 fn take_all(session: &mut Session, records: &[[u8; 150]]) {
     for record in records {
-        assert_answer(session.take(record), 0, 0);
+        assert_answer(session.take(record, &[]), 0, 0);
     }
 }
 
@@ -45,9 +45,9 @@ fn the_header_of_the_open_file_decides() {
     take_all(&mut session, &[a06(), captured(b'9'), z(3, 5)]);
     take_all(&mut session, &[a()]);
     let before = session.clone();
-    assert_answer(session.take(&captured(b'9')), 12, 117);
+    assert_answer(session.take(&captured(b'9'), &[]), 12, 117);
     let card = with_byte(captured(b'1'), 141, b'4');
-    assert_answer(session.take(&card), 12, 141);
+    assert_answer(session.take(&card, &[]), 12, 141);
     assert_eq!(session, before);
     take_all(&mut session, &[captured(b'6'), z(3, 5)]);
     take_all(&mut session, &[a06(), captured(b'i'), card, z(4, 10)]);
@@ -56,7 +56,7 @@ fn the_header_of_the_open_file_decides() {
     take_all(&mut session, &[a06()]);
     session.abandon();
     take_all(&mut session, &[a()]);
-    assert_answer(session.take(&captured(b'9')), 12, 117);
+    assert_answer(session.take(&captured(b'9'), &[]), 12, 117);
     session.abandon();
     take_all(&mut session, &[a06(), captured(b'9')]);
 }
@@ -66,19 +66,19 @@ fn a_session_keeps_its_headers_version() {
     for (header, version) in [(a(), 4), (a06(), 6)] {
         let mut session = Session::new();
         assert_eq!(session.version, 0);
-        assert_answer(session.take(&with_bytes(header, 80, b"05")), 10, 80);
-        assert_answer(session.take(&with_byte(header, 83, b'o')), 10, 82);
+        assert_answer(session.take(&with_bytes(header, 80, b"05"), &[]), 10, 80);
+        assert_answer(session.take(&with_byte(header, 83, b'o'), &[]), 10, 82);
         assert_eq!(session, Session::new());
         take_all(&mut session, &[header, captured(b'1')]);
         assert_eq!(session.version, version);
         // None of these is accepted, so the version stays.
         for record in [a(), a06(), captured(b'j'), z(3, 6), z(2, 5)] {
             let before = session.clone();
-            assert!(session.take(&record).is_err());
+            assert!(session.take(&record, &[]).is_err());
             assert_eq!(session, before);
         }
         let (number, place) = if version == 4 { (12, 117) } else { (0, 0) };
-        assert_answer(session.take(&captured(b'9')), number, place);
+        assert_answer(session.take(&captured(b'9'), &[]), number, place);
         assert_eq!(session.version, version);
     }
 }
@@ -111,17 +111,17 @@ fn arbitrary_sessions() {
             ..Session::new()
         };
         let before = open.clone();
-        assert_answer(open.take(&captured(b'1')[..149]), 1, 0);
-        assert_answer(open.take(&a()), 9, 1);
-        assert_answer(open.take(&with_byte(captured(b'1'), 1, b'g')), 9, 1);
-        assert_answer(open.take(&captured(b'1')), 10, 80);
-        assert_answer(open.take(&with_byte(captured(b'1'), 2, 7)), 10, 80);
-        assert_answer(open.take(&z(4, 6)), 14, 8);
+        assert_answer(open.take(&captured(b'1')[..149], &[]), 1, 0);
+        assert_answer(open.take(&a(), &[]), 9, 1);
+        assert_answer(open.take(&with_byte(captured(b'1'), 1, b'g'), &[]), 9, 1);
+        assert_answer(open.take(&captured(b'1'), &[]), 10, 80);
+        assert_answer(open.take(&with_byte(captured(b'1'), 2, 7), &[]), 10, 80);
+        assert_answer(open.take(&z(4, 6), &[]), 14, 8);
         assert_answer(open.finish(), 19, 0);
         assert_eq!(open, before);
         let mut full = before.clone();
         (full.taken, full.total) = (u64::MAX, u64::MAX);
-        assert_answer(full.take(&captured(b'1')), 10, 80);
+        assert_answer(full.take(&captured(b'1'), &[]), 10, 80);
         // A Z has nothing to do with the version.
         let mut abandoned = open.clone();
         take_all(&mut open, &[z(4, 5)]);
@@ -144,9 +144,9 @@ fn arbitrary_closed_sessions() {
         };
         let before = session.clone();
         session.abandon();
-        assert_answer(session.take(&captured(b'1')), 9, 1);
-        assert_answer(session.take(&z(2, 0)), 9, 1);
-        assert_answer(session.take(&with_bytes(a(), 80, b"05")), 10, 80);
+        assert_answer(session.take(&captured(b'1'), &[]), 9, 1);
+        assert_answer(session.take(&z(2, 0), &[]), 9, 1);
+        assert_answer(session.take(&with_bytes(a(), 80, b"05"), &[]), 10, 80);
         assert_answer(session.finish(), 0, 0);
         assert_eq!(session, before);
         let mut other = session.clone();
@@ -208,7 +208,7 @@ fn a_writer_keeps_its_headers_version() {
             (with_byte(captured(b'1'), 141, b'6'), 141),
         ] {
             let before = writer.clone();
-            let outcome = writer.payment(&payment_fields(&payment), 5, 150, &mut out);
+            let outcome = writer.payment(&payment_fields(&payment), 5, 150, &[], &mut out);
             if version == 4 {
                 assert_answer(outcome, 12, place);
                 assert_eq!((&writer, out), (&before, [7; 150]));
@@ -239,17 +239,19 @@ fn arbitrary_writers() {
             lined: false,
         };
         let before = writer.clone();
-        assert_answer(writer.payment(&good[..120], 1, 1, &mut out), 1, 0);
-        assert_answer(writer.payment(&good, 1, 1, &mut out[..149]), 1, 0);
+        assert_answer(writer.payment(&good[..120], 1, 1, &[], &mut out), 1, 0);
+        assert_answer(writer.payment(&good, 1, 1, &[], &mut out[..149]), 1, 0);
         assert_answer(writer.header(&header_fields(&a()), &mut out), 9, 1);
-        assert_answer(writer.payment(&good, 1, 1, &mut out), 10, 80);
-        assert_answer(writer.payment(&bad, 1, 1, &mut out), 10, 80);
-        assert_answer(writer.payment(&good, u64::MAX, u64::MAX, &mut out), 10, 80);
-        assert_answer(writer.payment(&good, 0, u64::MAX, &mut out), 10, 80);
+        assert_answer(writer.payment(&good, 1, 1, &[], &mut out), 10, 80);
+        assert_answer(writer.payment(&bad, 1, 1, &[], &mut out), 10, 80);
+        for received in [0, u64::MAX] {
+            let outcome = writer.payment(&good, received, u64::MAX, &[], &mut out);
+            assert_answer(outcome, 10, 80);
+        }
         assert_eq!((&writer, out), (&before, [7; 150]));
         for stage in [Stage::Fresh, Stage::Closed] {
             writer.stage = stage;
-            assert_answer(writer.payment(&bad, 1, 1, &mut out), 9, 1);
+            assert_answer(writer.payment(&bad, 1, 1, &[], &mut out), 9, 1);
             assert_answer(writer.trailer(&mut out), 9, 1);
         }
         // A Z has nothing to do with the version.
@@ -267,19 +269,19 @@ fn days_under_06() {
     for _ in 0..50 {
         let mut day = days::day(&mut random, 20, 12, 20).unwrap();
         let mut session = Session::new();
-        assert_eq!(session.run(&day.bytes, false).answer, Ok(()));
+        assert_eq!(session.run(&day.bytes, false, &[]).answer, Ok(()));
         let headers = |record: &&mut [u8]| record[0] == b'A';
         for header in day.bytes.chunks_mut(150).filter(headers) {
             header[79..81].copy_from_slice(b"06");
         }
         let mut newer = Session::new();
-        assert_eq!(newer.run(&day.bytes, false).answer, Ok(()));
+        assert_eq!(newer.run(&day.bytes, false, &[]).answer, Ok(()));
         assert_eq!(newer, session);
         // Under 04 the further codes are refused, and nothing else is.
         for header in day.bytes.chunks_mut(150).filter(headers) {
             header[79..81].copy_from_slice(b"04");
         }
-        let run = Session::new().run(&day.bytes, false);
+        let run = Session::new().run(&day.bytes, false, &[]);
         assert!([(12, 117), (12, 141)].contains(&answer(&run.answer)));
     }
 }

@@ -6,7 +6,7 @@ mod common;
 use common::{a, a06, assert_answer, g, p4_code, with_byte, with_bytes, z};
 use reference::random::Random;
 use reference::records::{self, TABLE};
-use reference::{answer, days, digits, Record, Session, Stage, Writer};
+use reference::{answer, days, digits, Record, Refusal, Session, Stage, Writer};
 
 /// Numbers that are no version; some are 4 or 6 if they are cut to fewer bits, or read as other digits.
 const NO_VERSIONS: [u64; 16] = [
@@ -28,21 +28,31 @@ const NO_VERSIONS: [u64; 16] = [
     u64::MAX,
 ];
 
+/// Decodes a record, no issuer being agreed.
+fn decode(record: &[u8], version: u64) -> Result<Record, Refusal> {
+    records::decode(record, version, &[])
+}
+
+/// Writes the field bytes of a record, no issuer being agreed.
+fn join(record: &[u8], version: u64, out: &mut [u8]) -> Result<(), Refusal> {
+    records::join(record, version, &[], out)
+}
+
 /// The answer for a G by each way in: alone, and by a session and a writer with this version. It must be one answer,
 /// and a refusal changes nothing.
 #[track_caller]
 fn payment_answer(payment: &[u8; 150], version: u64) -> (u64, usize) {
-    let alone = answer(&records::decode(payment, version));
+    let alone = answer(&decode(payment, version));
     let mut fields = [7; 121];
-    let joined = answer(&records::join(payment, version, &mut fields));
-    let field = records::field(payment, version, records::G_CAPTURE);
+    let joined = answer(&join(payment, version, &mut fields));
+    let field = records::field(payment, version, records::G_CAPTURE, &[]);
     let mut session = Session {
         open: true,
         version,
         ..Session::new()
     };
     let before = session.clone();
-    let taken = answer(&session.take(payment));
+    let taken = answer(&session.take(payment, &[]));
     let mut writer = Writer {
         stage: Stage::Open,
         version,
@@ -51,7 +61,7 @@ fn payment_answer(payment: &[u8; 150], version: u64) -> (u64, usize) {
     let mut out = [7; 150];
     let given = [&payment[1..81], &payment[100..141]].concat();
     let money = |first: usize, last: usize| digits::number(&payment[first - 1..last]).unwrap();
-    let written = answer(&writer.payment(&given, money(82, 93), money(94, 100), &mut out));
+    let written = answer(&writer.payment(&given, money(82, 93), money(94, 100), &[], &mut out));
     assert_eq!([joined, taken, written], [alone; 3]);
     assert_eq!((session.version, writer.version), (version, version));
     if alone == (0, 0) {
@@ -70,17 +80,17 @@ fn payment_answer(payment: &[u8; 150], version: u64) -> (u64, usize) {
 /// The answer for an A by each way in; the version that is told with a single record must not matter.
 #[track_caller]
 fn header_answer(header: &[u8; 150]) -> (u64, usize) {
-    let alone = answer(&records::decode(header, 4));
+    let alone = answer(&decode(header, 4));
     for version in [0, 6, 77, u64::MAX] {
-        assert_eq!(records::decode(header, version), records::decode(header, 4));
+        assert_eq!(decode(header, version), decode(header, 4));
         let mut fields = [7; 80];
-        assert_eq!(answer(&records::join(header, version, &mut fields)), alone);
+        assert_eq!(answer(&join(header, version, &mut fields)), alone);
         assert_eq!(fields == [7; 80], alone != (0, 0));
-        let field = records::field(header, version, records::A_VERSION);
+        let field = records::field(header, version, records::A_VERSION, &[]);
         assert_eq!(field.is_empty(), alone != (0, 0));
     }
     let mut session = Session::new();
-    assert_eq!(answer(&session.take(header)), alone);
+    assert_eq!(answer(&session.take(header, &[])), alone);
     assert_eq!(session == Session::new(), alone != (0, 0));
     alone
 }
@@ -92,7 +102,7 @@ fn further_captures_under_06() {
         let payment = with_byte(good, 117, byte);
         assert_eq!(payment_answer(&payment, 6), (0, 0));
         assert_eq!(payment_answer(&payment, 4), (12, 117));
-        let Ok(Record::G(decoded)) = records::decode(&payment, 6) else {
+        let Ok(Record::G(decoded)) = decode(&payment, 6) else {
             panic!("accepted")
         };
         assert_eq!((decoded.capture, decoded.form), (byte, b'2'));
@@ -116,7 +126,7 @@ fn further_payment_forms_under_06() {
         let payment = with_byte(good, 141, byte);
         assert_eq!(payment_answer(&payment, 6), (0, 0));
         assert_eq!(payment_answer(&payment, 4), (12, 141));
-        let Ok(Record::G(decoded)) = records::decode(&payment, 6) else {
+        let Ok(Record::G(decoded)) = decode(&payment, 6) else {
             panic!("accepted")
         };
         assert_eq!((decoded.capture, decoded.form), (b'a', byte));
@@ -157,16 +167,16 @@ fn a_g_told_another_version() {
         // A writer cannot be given these two.
         for (place, byte) in [(82, b'x'), (150, b'x')] {
             let bad = with_byte(good, place, byte);
-            assert_answer(records::decode(&bad, version), 10, 80);
-            assert_answer(records::join(&bad, version, &mut [0; 121]), 10, 80);
+            assert_answer(decode(&bad, version), 10, 80);
+            assert_answer(join(&bad, version, &mut [0; 121]), 10, 80);
         }
-        assert_answer(records::decode(&good[..149], version), 1, 0);
-        assert_answer(records::decode(b"", version), 1, 0);
+        assert_answer(decode(&good[..149], version), 1, 0);
+        assert_answer(decode(b"", version), 1, 0);
         for byte in [b'B', b'g', 0] {
-            assert_answer(records::decode(&with_byte(good, 1, byte), version), 9, 1);
+            assert_answer(decode(&with_byte(good, 1, byte), version), 9, 1);
         }
         for row in 0..TABLE.len() {
-            assert!(records::field(&good, version, row).is_empty());
+            assert!(records::field(&good, version, row, &[]).is_empty());
         }
     }
 }
@@ -177,12 +187,12 @@ fn join_checks_both_lengths_before_the_version() {
     let mut out = [7; 150];
     for version in NO_VERSIONS {
         for length in [0, 80, 120, 122, 150] {
-            let outcome = records::join(&good, version, &mut out[..length]);
+            let outcome = join(&good, version, &mut out[..length]);
             assert_answer(outcome, 1, 0);
         }
-        assert_answer(records::join(&good[..149], version, &mut out[..121]), 1, 0);
-        assert_answer(records::join(&z(2, 0), version, &mut out[..121]), 9, 1);
-        assert_answer(records::join(&good, version, &mut out[..121]), 10, 80);
+        assert_answer(join(&good[..149], version, &mut out[..121]), 1, 0);
+        assert_answer(join(&z(2, 0), version, &mut out[..121]), 9, 1);
+        assert_answer(join(&good, version, &mut out[..121]), 10, 80);
     }
     assert_eq!(out, [7; 150]);
 }
@@ -191,33 +201,29 @@ fn join_checks_both_lengths_before_the_version() {
 fn an_a_or_z_is_not_asked_its_version() {
     for version in NO_VERSIONS.into_iter().chain([4, 6]) {
         for record in [a(), a06(), z(3, 7)] {
-            let outcome = records::decode(&record, version);
-            assert_eq!(outcome, records::decode(&record, 4));
+            let outcome = decode(&record, version);
+            assert_eq!(outcome, decode(&record, 4));
             assert_answer(outcome, 0, 0);
             for (i, row) in TABLE.iter().enumerate() {
-                let field = records::field(&record, version, i);
+                let field = records::field(&record, version, i, &[]);
                 assert_eq!(field.is_empty(), row.letter != record[0]);
             }
         }
-        assert_answer(records::decode(&with_byte(a06(), 74, b'x'), version), 2, 74);
+        assert_answer(decode(&with_byte(a06(), 74, b'x'), version), 2, 74);
         let bad = with_bytes(a(), 80, b"05");
-        assert_answer(records::decode(&bad, version), 10, 80);
-        assert_answer(
-            records::decode(&with_byte(z(3, 7), 24, b'x'), version),
-            2,
-            24,
-        );
+        assert_answer(decode(&bad, version), 10, 80);
+        assert_answer(decode(&with_byte(z(3, 7), 24, b'x'), version), 2, 24);
         let mut fields = [7; 80];
-        assert_answer(records::join(&a06(), version, &mut fields), 0, 0);
+        assert_answer(join(&a06(), version, &mut fields), 0, 0);
         assert_eq!(fields, *[&a06()[2..81], b"O"].concat());
-        assert_answer(records::join(&a06(), version, &mut [7; 121]), 1, 0);
+        assert_answer(join(&a06(), version, &mut [7; 121]), 1, 0);
     }
 }
 
 #[test]
 fn a_decoded_a_shows_its_version() {
     for (header, version) in [(a(), 4), (a06(), 6)] {
-        let Ok(Record::A(decoded)) = records::decode(&header, 77) else {
+        let Ok(Record::A(decoded)) = decode(&header, 77) else {
             panic!("accepted")
         };
         assert_eq!(decoded.version, version);
@@ -276,7 +282,7 @@ fn under_06_nothing_is_lost() {
         if round % 2 == 0 {
             days::damage(&mut random, &mut record);
         }
-        let (old, new) = (records::decode(&record, 4), records::decode(&record, 6));
+        let (old, new) = (decode(&record, 4), decode(&record, 6));
         match (old, new) {
             (Ok(_), _) => assert_eq!(old, new),
             (Err(_), Ok(_)) => {

@@ -18,10 +18,10 @@ fn order_of_calls() {
     let (header, payment) = (header_fields(), payment_fields());
     let mut out = [7; 150];
     let mut writer = Writer::new();
-    assert_answer(writer.payment(&payment, 1, 1, &mut out), 9, 1);
-    assert_answer(writer.payment(&[0; 121], 1, 1, &mut out), 9, 1);
-    assert_answer(writer.payment(&payment[..120], 1, 1, &mut out), 1, 0);
-    assert_answer(writer.payment(&payment, 1, 1, &mut out[..149]), 1, 0);
+    assert_answer(writer.payment(&payment, 1, 1, &[], &mut out), 9, 1);
+    assert_answer(writer.payment(&[0; 121], 1, 1, &[], &mut out), 9, 1);
+    assert_answer(writer.payment(&payment[..120], 1, 1, &[], &mut out), 1, 0);
+    assert_answer(writer.payment(&payment, 1, 1, &[], &mut out[..149]), 1, 0);
     assert_answer(writer.trailer(&mut out), 9, 1);
     assert_answer(writer.trailer(&mut out[..149]), 1, 0);
     assert_answer(writer.header(&header[..79], &mut out), 1, 0);
@@ -32,7 +32,7 @@ fn order_of_calls() {
     assert_answer(writer.header(&header, &mut out), 9, 1);
     assert_answer(writer.header(&[0; 80], &mut out), 9, 1);
     assert_eq!(out, a());
-    assert_answer(writer.payment(&payment, 109, 150, &mut out), 0, 0);
+    assert_answer(writer.payment(&payment, 109, 150, &[], &mut out), 0, 0);
     assert_eq!(out, g(&p4_code(), 109));
     assert_answer(writer.trailer(&mut out), 0, 0);
     assert_eq!(out, z(3, 109));
@@ -46,10 +46,10 @@ fn order_of_calls() {
     };
     assert_eq!(writer, closed);
     assert_answer(writer.header(&header, &mut out), 9, 1);
-    assert_answer(writer.payment(&payment, u64::MAX, 0, &mut out), 9, 1);
+    assert_answer(writer.payment(&payment, u64::MAX, 0, &[], &mut out), 9, 1);
     assert_answer(writer.trailer(&mut out), 9, 1);
     assert_answer(writer.header(&header[..79], &mut out), 1, 0);
-    assert_answer(writer.payment(&payment[..9], 1, 1, &mut out), 1, 0);
+    assert_answer(writer.payment(&payment[..9], 1, 1, &[], &mut out), 1, 0);
     assert_answer(writer.trailer(&mut out[..9]), 1, 0);
     assert_eq!((writer, out), (closed, z(3, 109)));
 }
@@ -77,7 +77,7 @@ fn places_are_those_of_the_record() {
     ] {
         let fields = with_byte(payment_fields(), byte, value);
         assert_answer(
-            open_writer().payment(&fields, 1, 1, &mut out),
+            open_writer().payment(&fields, 1, 1, &[], &mut out),
             number,
             place,
         );
@@ -95,7 +95,7 @@ fn wide_numbers_in_their_turn() {
     let mut out = [7; 150];
     let mut assert_refused = |fields: &[u8; 121], received, tariff, number, place| {
         let mut writer = open_writer();
-        let outcome = writer.payment(fields, received, tariff, &mut out);
+        let outcome = writer.payment(fields, received, tariff, &[], &mut out);
         assert_eq!(answer(&outcome), (number, place));
         assert_eq!((&writer, out), (&open_writer(), [7; 150]));
     };
@@ -109,7 +109,7 @@ fn wide_numbers_in_their_turn() {
     assert_refused(&good, u64::MAX, u64::MAX, 21, 82);
     assert_refused(&good, 0, u64::MAX, 21, 94);
     let mut writer = open_writer();
-    common::assert_answer(writer.payment(&good, e12 - 1, e7 - 1, &mut out), 0, 0);
+    common::assert_answer(writer.payment(&good, e12 - 1, e7 - 1, &[], &mut out), 0, 0);
     assert_eq!(&out[81..100], b"9999999999999999999");
 }
 
@@ -145,17 +145,33 @@ fn arbitrary_writers() {
         version: 4,
         lined: false,
     };
-    assert_answer(writer.payment(&payment_fields(), 0, 0, &mut out), 15, 1);
+    assert_answer(
+        writer.payment(&payment_fields(), 0, 0, &[], &mut out),
+        15,
+        1,
+    );
     writer.taken = 0;
-    assert_answer(writer.payment(&payment_fields(), 0, 0, &mut out), 16, 82);
+    assert_answer(
+        writer.payment(&payment_fields(), 0, 0, &[], &mut out),
+        16,
+        82,
+    );
     writer.total = FILE_LIMIT;
-    assert_answer(writer.payment(&payment_fields(), 1, 0, &mut out), 16, 82);
+    assert_answer(
+        writer.payment(&payment_fields(), 1, 0, &[], &mut out),
+        16,
+        82,
+    );
     assert_eq!(out, [7; 150]);
-    assert_answer(writer.payment(&payment_fields(), 0, 0, &mut out), 0, 0);
+    assert_answer(writer.payment(&payment_fields(), 0, 0, &[], &mut out), 0, 0);
     writer.taken = 999_997;
     let bad = with_byte(payment_fields(), 121, b'4');
-    assert_answer(writer.payment(&bad, 1, 0, &mut out), 12, 141);
-    assert_answer(writer.payment(&payment_fields(), 1, 0, &mut out), 15, 1);
+    assert_answer(writer.payment(&bad, 1, 0, &[], &mut out), 12, 141);
+    assert_answer(
+        writer.payment(&payment_fields(), 1, 0, &[], &mut out),
+        15,
+        1,
+    );
     assert_answer(writer.trailer(&mut out), 0, 0);
     assert_eq!(out, z(999_999, FILE_LIMIT));
     let closed = Writer {
@@ -189,7 +205,7 @@ fn arbitrary_fresh_writers() {
         let before = writer.clone();
         let bad = with_byte(header_fields(), 80, b'o');
         assert_answer(writer.header(&bad, &mut out), 10, 82);
-        assert_answer(writer.payment(&payment_fields(), 1, 1, &mut out), 9, 1);
+        assert_answer(writer.payment(&payment_fields(), 1, 1, &[], &mut out), 9, 1);
         assert_answer(writer.trailer(&mut out), 9, 1);
         assert_eq!((&writer, out), (&before, [7; 150]));
         assert_answer(writer.header(&header_fields(), &mut out), 0, 0);

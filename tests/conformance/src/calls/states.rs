@@ -24,27 +24,29 @@ impl Calls {
         wire::session(request, session);
     }
 
-    pub fn take(&mut self, record: &[u8]) -> Result<(), Refusal> {
+    pub fn take(&mut self, record: &[u8], agreed: &[u64]) -> Result<(), Refusal> {
         let before = self.session.clone();
-        let outcome = self.session.take(record);
+        let outcome = self.session.take(record, agreed);
         assert!(outcome.is_ok() || before == self.session);
         let after = self.session.clone();
         let (request, reply) = self.call(b't');
         put(request, record);
+        wire::list(request, agreed);
         wire::answer(reply, &outcome);
         wire::session(reply, &after);
         outcome
     }
 
     /// Takes consecutive records; each counts as an input. More bytes may be to come.
-    pub fn run(&mut self, bytes: &[u8], more: bool) -> RunResult {
-        let result = self.session.run(bytes, more);
+    pub fn run(&mut self, bytes: &[u8], more: bool, agreed: &[u64]) -> RunResult {
+        let result = self.session.run(bytes, more, agreed);
         let after = self.session.clone();
         self.counts.inputs += result.records;
         let (request, reply) = self.call(b'R');
         wire::flag(request, more);
         wire::number(request, bytes.len() as u64);
         request.extend_from_slice(bytes);
+        wire::list(request, agreed);
         wire::answer(reply, &result.answer);
         wire::numbers(reply, &[result.records, result.files, result.bytes as u64]);
         wire::session(reply, &after);
@@ -130,13 +132,23 @@ impl Calls {
         put(request, fields);
     }
 
-    pub fn payment(&mut self, fields: &[u8], received: u64, tariff: u64, out_length: u8) {
+    pub fn payment(
+        &mut self,
+        fields: &[u8],
+        received: u64,
+        tariff: u64,
+        agreed: &[u64],
+        out_length: u8,
+    ) {
         let mut out = vec![FILL; out_length.into()];
-        let outcome = self.writer.payment(fields, received, tariff, &mut out);
+        let outcome = self
+            .writer
+            .payment(fields, received, tariff, agreed, &mut out);
         let request = self.write(b'g', outcome, &out);
         wire::numbers(request, &[received, tariff]);
         request.push(out_length);
         put(request, fields);
+        wire::list(request, agreed);
     }
 
     pub fn trailer(&mut self, out_length: u8) {

@@ -6,7 +6,7 @@ use reference::records::{G_CAPTURE, G_FORM, LINE_END, TABLE};
 
 use super::sessions;
 use crate::calls::Calls;
-use crate::versions;
+use crate::{lists, versions};
 
 /// Both versions.
 const VERSIONS: [u64; 2] = [4, 6];
@@ -29,13 +29,19 @@ pub fn codes(calls: &mut Calls, random: &mut Random, times: u64) {
     }
 }
 
-/// A G of each version, with each byte as its capture and each as its payment form.
+/// A G of each version, with each byte as its capture and each as its payment form. Version 06 has its issuer agreed.
 fn each_two_codes(calls: &mut Calls, random: &mut Random) {
     for version in VERSIONS {
-        let mut record = days::payment(random, version).expect("a good payment");
+        let issuer = days::issuer(random);
+        let agreed = match version {
+            4 => Vec::new(),
+            _ => lists::only(&[issuer]),
+        };
+        let payment = days::payment_under(random, issuer, version, &agreed);
+        let mut record = payment.expect("a good payment");
         for two in 0..=u16::MAX {
             [record[CAPTURE], record[FORM]] = two.to_be_bytes();
-            calls.record(&record, version);
+            calls.record(&record, version, &agreed);
         }
     }
 }
@@ -47,7 +53,7 @@ fn each_version(calls: &mut Calls, random: &mut Random) {
     calls.new_writer();
     for two in 0..=u16::MAX {
         record[79..81].copy_from_slice(&two.to_be_bytes());
-        calls.record(&record, versions::told(random));
+        calls.record(&record, versions::told(random), &[]);
         fields[77..79].copy_from_slice(&two.to_be_bytes());
         calls.header(&fields, random.one_of(&[150, 152]));
         // In an open file the next header would not be expected.
@@ -62,18 +68,21 @@ fn each_version(calls: &mut Calls, random: &mut Random) {
 fn each_told(calls: &mut Calls, random: &mut Random) {
     for told in versions::OTHERS.into_iter().chain(VERSIONS) {
         for version in VERSIONS {
-            let payment = days::payment(random, version).expect("a good payment");
+            let issuer = days::issuer(random);
+            let agreed = lists::right(random, &[issuer]);
+            let payment = days::payment_under(random, issuer, version, &agreed);
+            let payment = payment.expect("a good payment");
             for byte in 0..=255 {
                 for code in [CAPTURE, FORM] {
                     let mut record = payment;
                     record[code] = byte;
-                    calls.record(&record, told);
+                    calls.record(&record, told, &agreed);
                 }
             }
             let header = versions::header(random, version);
             for record in [header, payment, days::trailer(random)] {
-                calls.record(&record, told);
-                calls.fields(&record, told);
+                calls.record(&record, told, &agreed);
+                calls.fields(&record, told, &agreed);
             }
         }
     }
@@ -86,22 +95,23 @@ fn taken(calls: &mut Calls, random: &mut Random) {
     for version in VERSIONS {
         for end in ENDS {
             let header = versions::header(random, version);
+            let agreed = lists::right(random, &sessions::FEW);
             calls
-                .take(&[&header, end].concat())
+                .take(&[&header, end].concat(), &agreed)
                 .expect("a file to open");
             for byte in 0..=255 {
                 for code in [CAPTURE, FORM] {
-                    let mut record = sessions::payment(random, version);
+                    let mut record = sessions::payment(random, version, &agreed);
                     let before = record;
                     record[code] = byte;
-                    let _ = calls.take(&[&record, end].concat());
+                    let _ = calls.take(&[&record, end].concat(), &agreed);
                     let two = [&before, end, &record, end].concat();
-                    calls.run(&two, random.once_in(2));
+                    calls.run(&two, random.once_in(2), &agreed);
                 }
             }
             let trailer = sessions::trailer(calls.session());
             calls
-                .take(&[&trailer, end].concat())
+                .take(&[&trailer, end].concat(), &agreed)
                 .expect("its own trailer");
         }
     }
@@ -113,12 +123,15 @@ fn written(calls: &mut Calls, random: &mut Random) {
         for end in ENDS {
             let size = 150 + end.len() as u8;
             calls.set_writer([1, 0, 0, version], !end.is_empty());
-            let code = days::barcode(random).expect("a good barcode");
+            let issuer = days::issuer(random);
+            let agreed = lists::right(random, &[issuer]);
+            let code = days::barcode_under(random, issuer, &agreed).expect("a good barcode");
             for byte in 0..=255 {
                 for place in GIVEN {
                     let mut fields = days::payment_fields(random, &code, version);
                     fields[place] = byte;
-                    calls.payment(&fields, random.number(12), random.number(7), size);
+                    let (received, tariff) = (random.number(12), random.number(7));
+                    calls.payment(&fields, received, tariff, &agreed, size);
                 }
             }
             calls.trailer(size);

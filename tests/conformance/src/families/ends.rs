@@ -9,7 +9,7 @@ use reference::{days, digits, Session};
 use super::sessions;
 use crate::calls::Calls;
 use crate::lines::WRONG_ENDS;
-use crate::versions;
+use crate::{lists, versions};
 
 /// A session with a file open.
 fn open(version: u64, lined: bool) -> Session {
@@ -43,9 +43,14 @@ fn states(version: u64) -> Vec<Session> {
     states
 }
 
-/// An A, a G and a right Z for the session's file.
-fn right_records(random: &mut Random, session: &Session, version: u64) -> [[u8; 150]; 3] {
-    let mut payment = sessions::payment(random, version);
+/// An A, a G and a right Z for the session's file, accepted under this list.
+fn right_records(
+    random: &mut Random,
+    session: &Session,
+    version: u64,
+    agreed: &[u64],
+) -> [[u8; 150]; 3] {
+    let mut payment = sessions::payment(random, version, agreed);
     // An amount of 0 passes no limit.
     digits::write(1 + random.number(10), &mut payment[81..93]);
     [
@@ -57,12 +62,17 @@ fn right_records(random: &mut Random, session: &Session, version: u64) -> [[u8; 
 
 /// Records that are refused for other reasons than their line end: a wrong count, a wrong total, a letter that names no
 /// record, and damaged records.
-fn wrong_records(random: &mut Random, session: &Session, version: u64) -> Vec<[u8; 150]> {
+fn wrong_records(
+    random: &mut Random,
+    session: &Session,
+    version: u64,
+    agreed: &[u64],
+) -> Vec<[u8; 150]> {
     let mut counted = session.clone();
     counted.taken += 1;
     let mut summed = session.clone();
     summed.total -= session.total.min(1);
-    let right = right_records(random, session, version);
+    let right = right_records(random, session, version, agreed);
     let mut wrong = right.to_vec();
     for record in &mut wrong {
         days::damage(random, record);
@@ -85,12 +95,12 @@ fn start(calls: &mut Calls, session: &Session) {
 }
 
 /// The bytes as one record, and in runs.
-fn compare(calls: &mut Calls, session: &Session, bytes: &[u8]) {
+fn compare(calls: &mut Calls, session: &Session, bytes: &[u8], agreed: &[u64]) {
     start(calls, session);
-    let _ = calls.take(bytes);
+    let _ = calls.take(bytes, agreed);
     for more in [false, true] {
         start(calls, session);
-        calls.run(bytes, more);
+        calls.run(bytes, more, agreed);
     }
 }
 
@@ -100,7 +110,8 @@ pub fn each_two_bytes(calls: &mut Calls, random: &mut Random, times: u64) {
     for _ in 0..times {
         let version = days::version(random);
         let lined = open(version, true);
-        let [header, payment, trailer] = right_records(random, &lined, version);
+        let agreed = lists::right(random, &sessions::FEW);
+        let [header, payment, trailer] = right_records(random, &lined, version, &agreed);
         let closed = Session::new();
         for (session, record) in [(&closed, header), (&lined, payment), (&lined, trailer)] {
             let mut bytes = [&record, LINE_END.as_slice()].concat();
@@ -108,10 +119,10 @@ pub fn each_two_bytes(calls: &mut Calls, random: &mut Random, times: u64) {
                 let end = two.to_be_bytes();
                 bytes[150..].copy_from_slice(&end);
                 start(calls, session);
-                let _ = calls.take(&bytes);
+                let _ = calls.take(&bytes, &agreed);
                 if record[0] == b'G' || end[0] == LINE_END[0] || end[1] == LINE_END[1] {
                     start(calls, session);
-                    calls.run(&bytes, true);
+                    calls.run(&bytes, true, &agreed);
                 }
             }
         }
@@ -119,19 +130,22 @@ pub fn each_two_bytes(calls: &mut Calls, random: &mut Random, times: u64) {
 }
 
 /// Right and wrong records with each damaged line end; then each length of two records, with and without line ends.
+/// Payments may be of agreed issuers and have no due date.
 pub fn each_length(calls: &mut Calls, random: &mut Random, times: u64) {
     for _ in 0..times {
         for version in [4, 6] {
             for session in states(version) {
-                let right = right_records(random, &session, version);
-                let wrong = wrong_records(random, &session, version);
+                let agreed = lists::lent(random, &sessions::FEW);
+                let made = lists::made(random, &agreed);
+                let right = right_records(random, &session, version, made);
+                let wrong = wrong_records(random, &session, version, made);
                 for record in right.iter().chain(&wrong) {
                     for end in WRONG_ENDS.iter().chain([&LINE_END.as_slice()]) {
-                        compare(calls, &session, &[record, *end].concat());
+                        compare(calls, &session, &[record, *end].concat(), &agreed);
                     }
                 }
                 for record in right {
-                    cut_anywhere(calls, random, &session, &record);
+                    cut_anywhere(calls, random, &session, &record, &agreed);
                 }
             }
         }
@@ -139,18 +153,25 @@ pub fn each_length(calls: &mut Calls, random: &mut Random, times: u64) {
 }
 
 /// Each length of a record and a G behind it: as one record up to 160 bytes, and in runs.
-fn cut_anywhere(calls: &mut Calls, random: &mut Random, session: &Session, record: &[u8; 150]) {
-    let second = sessions::payment(random, session.version.max(4));
+fn cut_anywhere(
+    calls: &mut Calls,
+    random: &mut Random,
+    session: &Session,
+    record: &[u8; 150],
+    agreed: &[u64],
+) {
+    let made = lists::made(random, agreed);
+    let second = sessions::payment(random, session.version.max(4), made);
     for end in [b"".as_slice(), LINE_END] {
         let bytes = [record, end, &second, end].concat();
         for length in 0..=160 {
             start(calls, session);
-            let _ = calls.take(&bytes[..length]);
+            let _ = calls.take(&bytes[..length], agreed);
         }
         for length in 0..=bytes.len() {
             for more in [false, true] {
                 start(calls, session);
-                calls.run(&bytes[..length], more);
+                calls.run(&bytes[..length], more, agreed);
             }
         }
     }

@@ -1,5 +1,6 @@
 //! The inputs, in families: all inputs of a kind where that is possible, else random ones from a seed.
 
+mod agreed;
 mod codes;
 mod digits;
 mod ends;
@@ -18,7 +19,7 @@ pub struct Family {
 }
 
 /// The slowest first, so that two workers end at about the same time.
-pub const ALL: [Family; 18] = [
+pub const ALL: [Family; 20] = [
     Family {
         name: "line ends, every two bytes",
         compare: ends::each_two_bytes,
@@ -54,6 +55,14 @@ pub const ALL: [Family; 18] = [
     Family {
         name: "records, damaged and noise",
         compare: records::damaged,
+    },
+    Family {
+        name: "agreed issuers, every kind of list, and keys",
+        compare: agreed::lists,
+    },
+    Family {
+        name: "due dates of agreed issuers",
+        compare: agreed::due_dates,
     },
     Family {
         name: "versions, every code and every version",

@@ -5,24 +5,33 @@ use reference::random::Random;
 
 use super::{each_change, noise, out_length};
 use crate::calls::{fields_length, Calls};
+use crate::lists::{self, Choice};
 use crate::versions;
 
-/// An A and a G of a file of this version, and a Z, all accepted.
-fn records(random: &mut Random, version: u64) -> [[u8; 150]; 3] {
+/// An A and a G of a file of this version, and a Z, each with a list of this choice. All are accepted under an empty
+/// one.
+fn records(random: &mut Random, version: u64, choice: Choice) -> [([u8; 150], Vec<u64>); 3] {
+    let issuer = days::issuer(random);
+    let agreed = choice(random, &[issuer]);
+    let made = lists::made(random, &agreed);
+    let payment = days::payment_under(random, issuer, version, made).expect("a good payment");
+    let header = versions::header(random, version);
     [
-        versions::header(random, version),
-        days::payment(random, version).expect("a good payment"),
-        days::trailer(random),
+        (header, choice(random, &[])),
+        (payment, agreed),
+        (days::trailer(random), choice(random, &[])),
     ]
 }
 
-/// Accepted records of each version with each byte at each place.
+/// Records of each version with each byte at each place.
 pub fn changed(calls: &mut Calls, random: &mut Random, times: u64) {
     for _ in 0..7 * times {
         for version in [4, 6] {
-            for mut record in records(random, version) {
-                calls.fields(&record, version);
-                each_change(&mut record, |changed| calls.record(changed, version));
+            for (mut record, agreed) in records(random, version, lists::right) {
+                calls.fields(&record, version, &agreed);
+                each_change(&mut record, |changed| {
+                    calls.record(changed, version, &agreed)
+                });
             }
         }
     }
@@ -34,18 +43,18 @@ pub fn damaged(calls: &mut Calls, random: &mut Random, times: u64) {
     for _ in 0..100_000 * times {
         let told = versions::told(random);
         let made = versions::made(random, told);
-        for mut record in records(random, made) {
+        for (mut record, agreed) in records(random, made, lists::lent) {
             if random.once_in(8) {
                 let required = fields_length(&record) as u8;
-                calls.join(&record, told, out_length(random, required));
+                calls.join(&record, told, &agreed, out_length(random, required));
             }
             match random.below(4) {
                 0 => versions::change(random, &mut record),
                 _ => drop(days::damage(random, &mut record)),
             }
-            calls.record(&record, told);
+            calls.record(&record, told, &agreed);
             if random.once_in(8) {
-                calls.fields(&record, told);
+                calls.fields(&record, told, &agreed);
             }
         }
     }
@@ -56,8 +65,9 @@ pub fn damaged(calls: &mut Calls, random: &mut Random, times: u64) {
                 *first = random.one_of(b"AGZ");
             }
             let told = versions::told(random);
-            calls.record(&bytes, told);
-            calls.fields(&bytes, told);
+            let agreed = lists::lent(random, &[]);
+            calls.record(&bytes, told, &agreed);
+            calls.fields(&bytes, told, &agreed);
         }
     }
 }

@@ -7,19 +7,22 @@ use reference::{days, digits, Board, Issuer, Reason, Session};
 
 use super::near;
 use crate::calls::{Calls, PAGE};
-use crate::{lines, versions};
+use crate::{lines, lists, versions};
 
 /// Numbers at the limits of counts and sums.
 const LIMITS: [u64; 4] = [0, 999_997, 1_000_000_000_000_000_000, u64::MAX];
 
-/// A day of 0 to 70 issuers, with files of both versions, lined, bare or both: unchanged, damaged at one to three
-/// places, out of order, or both. One in four has another version or another code in one to three records, one in four
-/// a damaged line end.
-fn day(random: &mut Random) -> Vec<u8> {
-    let issuers = random.index(71);
+/// A day of 0 to 70 issuers and a list, with files of both versions, lined, bare or both: unchanged, damaged at one to
+/// three places, out of order, or both. One in four has another version or another code in one to three records, one in
+/// four a damaged line end.
+fn day(random: &mut Random) -> (Vec<u8>, Vec<u64>) {
+    let count = random.index(71);
+    let issuers = days::issuers(random, count);
+    let agreed = lists::lent(random, &issuers);
+    let made = lists::made(random, &agreed);
     let (files, most) = (random.index(5), random.index(30));
     let form = lines::form(random);
-    let mut bytes = days::day_of(random, issuers, files, most, form)
+    let mut bytes = days::day_under(random, &issuers, files, most, form, made)
         .expect("a good day")
         .bytes;
     let how = random.below(4);
@@ -34,28 +37,29 @@ fn day(random: &mut Random) -> Vec<u8> {
         1 => days::damage_line_end(random, &mut bytes),
         _ => {}
     }
-    bytes
+    (bytes, agreed)
 }
 
-/// Days record by record, with the session after each. Sometimes a record is tried with another line end first.
-/// Sometimes a refused record is taken again, or the file abandoned.
+/// Days record by record, with the session after each. Sometimes a record is tried with another line end first, or has
+/// another list. Sometimes a refused record is taken again, or the file abandoned.
 pub fn by_record(calls: &mut Calls, random: &mut Random, times: u64) {
     for _ in 0..1_500 * times {
         calls.new_session();
-        let bytes = day(random);
+        let (bytes, agreed) = day(random);
         for range in lines::records(&bytes) {
             let record = &bytes[range];
+            let list = lists::sometimes_other(random, &agreed);
             if random.once_in(8) {
                 if let Some(record) = record.first_chunk() {
                     let lined = random.once_in(2);
-                    let _ = calls.take(&lines::with_end(random, record, lined));
+                    let _ = calls.take(&lines::with_end(random, record, lined), &agreed);
                 }
             }
-            if calls.take(record).is_err() {
+            if calls.take(record, &list).is_err() {
                 match random.below(4) {
                     0 => calls.abandon(),
                     1 => calls.finish_session(),
-                    2 => calls.take(record).unwrap_or(()),
+                    2 => calls.take(record, &agreed).unwrap_or(()),
                     _ => {}
                 }
             }
@@ -72,12 +76,12 @@ pub fn by_record(calls: &mut Calls, random: &mut Random, times: u64) {
 pub fn by_run(calls: &mut Calls, random: &mut Random, times: u64) {
     for _ in 0..8_000 * times {
         calls.new_session();
-        let bytes = day(random);
+        let (bytes, agreed) = day(random);
         if random.once_in(2) {
             let ends = lines::cuts(random, bytes.len());
-            lines::feed(calls, &bytes, &ends);
+            lines::feed(calls, &bytes, &ends, &agreed);
         } else {
-            lines::run_pieces(calls, random, &bytes);
+            lines::run_pieces(calls, random, &bytes, &agreed);
         }
         calls.finish_session();
         calls.page(0, 0, random.number(19), random.number(19), PAGE);
@@ -93,7 +97,7 @@ pub fn noise(calls: &mut Calls, random: &mut Random, times: u64) {
             let header = days::header(random).expect("a good header");
             let end: &[u8] = if i % 4 == 1 { b"" } else { LINE_END };
             calls
-                .take(&[&header, end].concat())
+                .take(&[&header, end].concat(), &[])
                 .expect("a file to open");
         }
         for length in 0..=200 {
@@ -104,20 +108,32 @@ pub fn noise(calls: &mut Calls, random: &mut Random, times: u64) {
             if let (Some(end), true) = (bytes.get_mut(LENGTH..LINED), random.once_in(2)) {
                 end.copy_from_slice(LINE_END);
             }
-            let _ = calls.take(&bytes);
-            calls.run(&bytes, false);
-            calls.run(&bytes, true);
+            let agreed = lists::lent(random, &[]);
+            let _ = calls.take(&bytes, &agreed);
+            calls.run(&bytes, false, &agreed);
+            calls.run(&bytes, true, &agreed);
         }
     }
 }
 
-/// One of twelve issuers.
-fn issuer(random: &mut Random) -> Issuer {
-    let number = random.below(4);
-    Issuer {
-        segment: [1, 2, 6][random.index(3)],
-        number,
+/// A few issuers.
+pub const FEW: [Issuer; 12] = {
+    let mut few = [Issuer {
+        segment: 1,
+        number: 0,
+    }; 12];
+    let mut i = 0;
+    while i < 12 {
+        few[i].segment = [1, 2, 6][i % 3];
+        few[i].number = i as u64 / 3;
+        i += 1;
     }
+    few
+};
+
+/// One of the few issuers.
+fn issuer(random: &mut Random) -> Issuer {
+    FEW[random.index(FEW.len())]
 }
 
 /// A board in an arbitrary state, with numbers near the limits. Some of its lanes have one of the few issuers, so
@@ -140,12 +156,10 @@ pub fn board(random: &mut Random) -> Board {
     board
 }
 
-/// A payment of one of the few issuers, in a file of this version.
-pub fn payment(random: &mut Random, version: u64) -> [u8; 150] {
-    let mut record = days::payment(random, version).expect("a good payment");
+/// A payment of one of the few issuers, in a file of this version, accepted under this list.
+pub fn payment(random: &mut Random, version: u64, agreed: &[u64]) -> [u8; 150] {
     let issuer = issuer(random);
-    record[37..81].copy_from_slice(&days::barcode_of(random, issuer).expect("a good barcode"));
-    record
+    days::payment_under(random, issuer, version, agreed).expect("a good payment")
 }
 
 /// A trailer with the count and the total of the session's file, if they fit in its fields.
@@ -172,8 +186,9 @@ pub fn arbitrary(calls: &mut Calls, random: &mut Random, times: u64) {
             working: board(random),
         };
         calls.set_session(&session);
+        let agreed = lists::lent(random, &FEW);
         for _ in 0..random.index(5) {
-            call(calls, random);
+            call(calls, random, &agreed);
         }
         match random.below(4) {
             0 => calls.abandon(),
@@ -191,25 +206,26 @@ pub fn arbitrary(calls: &mut Calls, random: &mut Random, times: u64) {
 }
 
 /// One record for the session as it is, or a run of three, mostly with the line ends of its file.
-fn call(calls: &mut Calls, random: &mut Random) {
+fn call(calls: &mut Calls, random: &mut Random, agreed: &[u64]) {
     let Session { version, lined, .. } = *calls.session();
     let version = versions::made(random, version);
+    let made = lists::made(random, agreed);
     let next = match random.below(10) {
         0 => trailer(calls.session()),
         1 => days::trailer(random),
         2 => days::header(random).expect("a good header"),
-        _ => payment(random, version),
+        _ => payment(random, version, made),
     };
     let mut bytes = lines::with_end(random, &next, lined);
     if random.once_in(8) {
-        let second = payment(random, version);
+        let second = payment(random, version, made);
         bytes.extend(lines::with_end(random, &second, lined));
         let mut ahead = calls.session().clone();
-        ahead.run(&bytes, false);
+        ahead.run(&bytes, false, agreed);
         bytes.extend(lines::with_end(random, &trailer(&ahead), lined));
-        calls.run(&bytes, random.once_in(2));
+        calls.run(&bytes, random.once_in(2), agreed);
     } else {
-        let _ = calls.take(&bytes);
+        let _ = calls.take(&bytes, agreed);
     }
 }
 

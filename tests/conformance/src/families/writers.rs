@@ -5,7 +5,7 @@ use reference::random::Random;
 
 use super::near;
 use crate::calls::Calls;
-use crate::{lines, versions};
+use crate::{lines, lists, versions};
 
 /// A header of either version, sometimes with another byte in its version.
 fn header(calls: &mut Calls, random: &mut Random) {
@@ -19,7 +19,7 @@ fn header(calls: &mut Calls, random: &mut Random) {
 
 /// A payment, mostly with codes of the version of the writer's file.
 fn payment(calls: &mut Calls, random: &mut Random) {
-    let code = days::barcode(random).expect("a good barcode");
+    let (code, agreed) = lists::barcode(random, lists::lent);
     let version = versions::made(random, calls.writer().version);
     let mut fields = days::payment_fields(random, &code, version).to_vec();
     damage(random, &mut fields);
@@ -31,7 +31,8 @@ fn payment(calls: &mut Calls, random: &mut Random) {
         }
     };
     let (received, tariff) = (amount(random, 12), amount(random, 7));
-    calls.payment(&fields, received, tariff, lines::buffer_size(random, calls));
+    let size = lines::buffer_size(random, calls);
+    calls.payment(&fields, received, tariff, &agreed, size);
 }
 
 /// Sometimes damages the field bytes at one to three places, or changes their length: by one, or two fewer.
@@ -86,7 +87,7 @@ pub fn buffer_sizes(calls: &mut Calls, random: &mut Random, times: u64) {
 /// before these.
 fn each_call(calls: &mut Calls, random: &mut Random, stage: u64, lined: bool, size: u8) {
     let version = days::version(random);
-    let code = days::barcode(random).expect("a good barcode");
+    let (code, agreed) = lists::barcode(random, lists::lent);
     let mut header = days::header_fields(random);
     let mut payment = days::payment_fields(random, &code, version);
     for damaged in [false, true] {
@@ -98,7 +99,7 @@ fn each_call(calls: &mut Calls, random: &mut Random, stage: u64, lined: bool, si
         start(calls);
         calls.header(&header, size);
         start(calls);
-        calls.payment(&payment, 7, 1, size);
+        calls.payment(&payment, 7, 1, &agreed, size);
         start(calls);
         calls.trailer(size);
     }

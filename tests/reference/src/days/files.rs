@@ -1,6 +1,6 @@
 //! Random days: files of many banks and agreements, one after the other.
 
-use super::{barcode_of, header_fields, issuers, payment_fields, text};
+use super::{barcode_under, header_fields, issuers, payment_fields, text};
 use crate::barcode::Issuer;
 use crate::digits;
 use crate::random::Random;
@@ -135,6 +135,19 @@ pub fn day_of(
     form: Form,
 ) -> Result<Day, Refusal> {
     let issuers = issuers(random, issuer_count);
+    day_under(random, &issuers, files, most, form, &[])
+}
+
+/// Such a day of these issuers, which must all differ, that this list does not refuse: agreed issuers always have a due
+/// date.
+pub fn day_under(
+    random: &mut Random,
+    issuers: &[Issuer],
+    files: usize,
+    most: usize,
+    form: Form,
+    agreed: &[u64],
+) -> Result<Day, Refusal> {
     let mut pairs = pairs(random);
     let mut seen = 0;
     let mut day = Day::default();
@@ -142,7 +155,7 @@ pub fn day_of(
         let mut chosen = Vec::new();
         if !issuers.is_empty() {
             for _ in 0..random.index(most.saturating_add(1)) {
-                chosen.push(next_issuer(random, &issuers, &mut seen));
+                chosen.push(next_issuer(random, issuers, &mut seen));
             }
         }
         if i + 1 == files {
@@ -151,7 +164,7 @@ pub fn day_of(
         let pair = random.index(pairs.len());
         let fields = next_header(random, &mut pairs[pair]);
         let room = form.room(random);
-        file(random, &fields, &chosen, room, &mut day)?;
+        file(random, &fields, &chosen, room, agreed, &mut day)?;
     }
     Ok(day)
 }
@@ -172,19 +185,21 @@ fn file(
     header: &[u8; HEADER_FIELDS],
     issuers: &[Issuer],
     room: usize,
+    agreed: &[u64],
     day: &mut Day,
 ) -> Result<(), Refusal> {
     let mut writer = Writer::new();
     let mut payments = Vec::new();
     writer.header(header, new_record(&mut day.bytes, room))?;
     for &issuer in issuers {
-        let code = barcode_of(random, issuer)?;
+        let code = barcode_under(random, issuer, agreed)?;
         let fields = payment_fields(random, &code, writer.version);
         let received = random.number(AMOUNT_DIGITS);
         writer.payment(
             &fields,
             received,
             random.number(7),
+            agreed,
             new_record(&mut day.bytes, room),
         )?;
         payments.push(Posted { issuer, received });

@@ -94,9 +94,10 @@ pub(super) fn date<const ROW: usize>(record: &[u8; LENGTH]) -> Result<Date, Refu
 
 /// The barcode of a G; its refusals have places of the record.
 #[inline(always)]
-pub(super) fn barcode(record: &[u8; LENGTH]) -> Result<Barcode, Refusal> {
+pub(super) fn barcode(record: &[u8; LENGTH], agreed: &[u64]) -> Result<Barcode, Refusal> {
     let before = TABLE[G_BARCODE].first - 1;
-    barcode::decode_within(barcode::require_length(bytes::<G_BARCODE>(record))?, before)
+    let code = barcode::require_length(bytes::<G_BARCODE>(record))?;
+    barcode::decode_within(code, before, agreed)
 }
 
 /// Capture: only 12.

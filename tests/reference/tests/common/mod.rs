@@ -5,7 +5,8 @@
 
 pub mod naive;
 
-use reference::{answer, line, records, Record, Refusal};
+use reference::random::Random;
+use reference::{answer, days, line, records, Issuer, Record, Refusal};
 
 /// The typed line of P4, without blanks.
 pub const P4: &[u8; 48] = b"817700000000010936599702411310797039001433708318";
@@ -19,7 +20,7 @@ pub fn p4_code() -> [u8; 44] {
 
 pub fn barcode_of_line(typed: &[u8]) -> [u8; 44] {
     let mut code = [0; 44];
-    line::barcode_from_line(typed, &mut code).expect("a good line");
+    line::barcode_from_line(typed, &[], &mut code).expect("a good line");
     code
 }
 
@@ -56,14 +57,14 @@ pub fn z(count: u64, total: u64) -> [u8; 150] {
 /// The field bytes of the header `a`.
 pub fn header_fields() -> [u8; 80] {
     let mut fields = [0; 80];
-    records::join(&a(), 4, &mut fields).expect("a good header");
+    records::join(&a(), 4, &[], &mut fields).expect("a good header");
     fields
 }
 
 /// The field bytes of a payment of P4.
 pub fn payment_fields() -> [u8; 121] {
     let mut fields = [0; 121];
-    records::join(&g(&p4_code(), 0), 4, &mut fields).expect("a good payment");
+    records::join(&g(&p4_code(), 0), 4, &[], &mut fields).expect("a good payment");
     fields
 }
 
@@ -101,15 +102,65 @@ pub fn with_byte<const N: usize>(mut bytes: [u8; N], place: usize, byte: u8) -> 
 pub fn code_for(segment: u64, number: u64) -> [u8; 44] {
     let mut code = [0; 44];
     let free = vec![b'0'; reference::barcode::free_length(segment)];
-    reference::barcode::build(segment, 6, 0, number, &free, &mut code).expect("good fields");
+    reference::barcode::build(segment, 6, 0, number, &free, &[], &mut code).expect("good fields");
     code
 }
+
+/// The barcode of an issuer in kind 6, without value, whose free field begins with these digits.
+pub fn code_due(segment: u64, number: u64, first: &[u8; 8]) -> [u8; 44] {
+    let mut code = [0; 44];
+    let mut free = vec![b'0'; reference::barcode::free_length(segment)];
+    free[..8].copy_from_slice(first);
+    reference::barcode::build(segment, 6, 0, number, &free, &[], &mut code).expect("good fields");
+    code
+}
+
+/// The key of an issuer.
+pub fn key_of(segment: u64, number: u64) -> u64 {
+    reference::agreed::key(Issuer { segment, number })
+}
+
+/// A right list of this length, in rising order.
+pub fn rising(length: u64) -> Vec<u64> {
+    (0..length).map(|number| key_of(3, number * 7)).collect()
+}
+
+/// A random list, mostly a right one, with these issuers or without them.
+pub fn any_list(random: &mut Random, issuers: &[Issuer]) -> Vec<u64> {
+    match random.below(8) {
+        0 => days::wrong_agreed(random, issuers),
+        1 => Vec::new(),
+        _ => days::agreed(random, issuers),
+    }
+}
+
+/// Wrong lists: of 65 entries, with an entry that names no issuer, with an issuer twice.
+pub const WRONG: [&[u64]; 7] = [
+    &SIXTY_FIVE,
+    &[0],
+    &[3_659],
+    &[800_003_659],
+    &[100_003_659, 200_010_000],
+    &[100_003_659, 200_000_001, 100_003_659],
+    &[u64::MAX],
+];
+
+/// 65 issuers.
+const SIXTY_FIVE: [u64; 65] = {
+    let mut list = [0; 65];
+    let mut i = 0;
+    while i < 65 {
+        list[i] = 100_003_600 + i as u64;
+        i += 1;
+    }
+    list
+};
 
 /// Decodes a record that both versions decode alike.
 #[track_caller]
 pub fn decode(record: &[u8]) -> Result<Record, Refusal> {
-    let outcome = records::decode(record, 4);
-    assert_eq!(records::decode(record, 6), outcome);
+    let outcome = records::decode(record, 4, &[]);
+    assert_eq!(records::decode(record, 6, &[]), outcome);
     outcome
 }
 

@@ -1,8 +1,10 @@
 //! A naive version of the same rules, which does nothing for speed: numbers have 128 bits and boards are vectors. The
 //! program is compared with it.
 
+mod lists;
 mod sessions;
 
+pub use lists::*;
 pub use sessions::*;
 
 pub type Answer = (u64, usize);
@@ -94,15 +96,20 @@ fn general(code: &[u8]) -> Outcome<()> {
     Ok(())
 }
 
-pub fn barcode(code: &[u8]) -> Outcome<()> {
+/// The due date that a barcode shows.
+pub fn barcode(code: &[u8], agreed: &[u64]) -> Outcome<Option<Due>> {
+    list(agreed)?;
     if code.len() != 44 {
         return Err((1, 0));
     }
     start(code)?;
-    general(code)
+    general(code)?;
+    due(code, agreed)
 }
 
-pub fn typed_line(line: &[u8]) -> Outcome<()> {
+/// The due date that a typed line shows.
+pub fn typed_line(line: &[u8], agreed: &[u64]) -> Outcome<Option<Due>> {
+    list(agreed)?;
     if line.len() != 48 {
         return Err((1, 0));
     }
@@ -116,7 +123,10 @@ pub fn typed_line(line: &[u8]) -> Outcome<()> {
             return Err((6, (i + 1) * 12));
         }
     }
-    general(&code)
+    general(&code)?;
+    // The places of the line's digits that are no checks: the barcode's places, one by one.
+    let places: Vec<usize> = (1..=48).filter(|place| place % 12 != 0).collect();
+    due(&code, agreed).map_err(|(number, place)| (number, places[place - 1]))
 }
 
 /// First place, last place and content: t text, n number, d date, b barcode, c capture, f payment form, v version,
@@ -159,7 +169,7 @@ fn is_code(codes: &[(&[u8], u64)], byte: u8, version: u64) -> bool {
         .any(|(bytes, since)| bytes.contains(&byte) && *since <= version)
 }
 
-fn field(first: usize, bytes: &[u8], content: &str, version: u64) -> Outcome<()> {
+fn field(first: usize, bytes: &[u8], content: &str, version: u64, agreed: &[u64]) -> Outcome<()> {
     let no = |number: u64, bad: &dyn Fn(u8) -> bool| match bytes.iter().position(|byte| bad(*byte))
     {
         Some(i) => Err((number, first + i)),
@@ -173,7 +183,10 @@ fn field(first: usize, bytes: &[u8], content: &str, version: u64) -> Outcome<()>
             no(2, &|byte| !is_digit(byte))?;
             or(is_date(bytes), 11)
         }
-        "b" => barcode(bytes).map_err(|(number, place)| (number, first + place - 1)),
+        "b" => match barcode(bytes, agreed) {
+            Ok(_) => Ok(()),
+            Err((number, place)) => Err((number, first + place - 1)),
+        },
         "c" => or(is_code(CAPTURES, bytes[0], version), 12),
         "f" => or(is_code(FORMS, bytes[0], version), 12),
         "v" => or(bytes[0] == 48 && (bytes[1] == 52 || bytes[1] == 54), 10),
@@ -187,7 +200,8 @@ fn field(first: usize, bytes: &[u8], content: &str, version: u64) -> Outcome<()>
 }
 
 /// A single record, whose letter must be one of those allowed, in a file of this version.
-pub fn record(bytes: &[u8], version: u64, allowed: &[u8]) -> Outcome<()> {
+pub fn record(bytes: &[u8], version: u64, allowed: &[u8], agreed: &[u64]) -> Outcome<()> {
+    list(agreed)?;
     if bytes.len() != 150 {
         return Err((1, 0));
     }
@@ -203,13 +217,14 @@ pub fn record(bytes: &[u8], version: u64, allowed: &[u8]) -> Outcome<()> {
         _ => Z,
     };
     for (first, last, content) in rows {
-        field(*first, &bytes[first - 1..*last], content, version)?;
+        field(*first, &bytes[first - 1..*last], content, version, agreed)?;
     }
     Ok(())
 }
 
 /// The field bytes of an A or a G in a file of this version, for a buffer of this length.
-pub fn join(bytes: &[u8], version: u64, length: usize) -> Outcome<Vec<u8>> {
+pub fn join(bytes: &[u8], version: u64, agreed: &[u64], length: usize) -> Outcome<Vec<u8>> {
+    list(agreed)?;
     if bytes.len() != 150 {
         return Err((1, 0));
     }
@@ -221,6 +236,6 @@ pub fn join(bytes: &[u8], version: u64, length: usize) -> Outcome<Vec<u8>> {
     if length != fields.len() {
         return Err((1, 0));
     }
-    record(bytes, version, b"AG")?;
+    record(bytes, version, b"AG", agreed)?;
     Ok(fields)
 }

@@ -131,7 +131,7 @@ pub fn cut(random: &mut Random, bytes: &mut Vec<u8>) {
         _ => random.below(bytes.len() as u64),
     };
     let [low, high, ..] = length.to_le_bytes();
-    let new = [random.below(4) as u8, low, high];
+    let new = [random.below(8) as u8, low, high];
     match random.below(4) {
         0 => bytes[0] = first ^ FED,
         1 if count < 7 => {

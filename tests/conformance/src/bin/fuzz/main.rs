@@ -2,6 +2,7 @@
 //! guides. An input that reaches code that none before it reached is kept and mutated again. `CONFORMANCE_SEED=7` gives
 //! other inputs.
 
+mod agreed;
 mod corpus;
 mod coverage;
 mod ends;

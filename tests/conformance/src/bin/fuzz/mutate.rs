@@ -1,4 +1,4 @@
-//! Mutations of an input: of bytes, of ranges of bytes, and of the records, fields and line ends in it.
+//! Mutations of an input: of bytes, of ranges of bytes, and of the list, the records, fields and line ends in it.
 
 use std::ops::Range;
 
@@ -9,7 +9,7 @@ use reference::random::Random;
 use reference::records::TABLE;
 
 use crate::repair::repair;
-use crate::{ends, places};
+use crate::{agreed, ends, places};
 
 /// The length of the longest input.
 const MOST_BYTES: usize = 1 << 14;
@@ -72,6 +72,8 @@ fn edge(random: &mut Random) -> u64 {
 
 /// A new input of a kind, from one input without its first byte and parts of another.
 pub fn mutate(random: &mut Random, kind: Kind, one: &[u8], other: &[u8]) -> Vec<u8> {
+    let (mut list, one) = agreed::split(kind, one);
+    let (other_list, other) = agreed::split(kind, other);
     let mut bytes = one.to_vec();
     for _ in 0..1 << random.below(4) {
         match random.below(15) {
@@ -89,8 +91,9 @@ pub fn mutate(random: &mut Random, kind: Kind, one: &[u8], other: &[u8]) -> Vec<
         repair(random, kind, &mut bytes);
     }
     bytes.truncate(MOST_BYTES);
-    bytes.insert(0, kind as u8);
-    bytes
+    let issuers = places::issuers(kind, &bytes);
+    agreed::mutate(random, &mut list, &other_list, &issuers);
+    agreed::input(kind, &list, &bytes)
 }
 
 /// Changes one byte, or swaps two.
@@ -159,6 +162,12 @@ fn date(random: &mut Random, kind: Kind, bytes: &mut [u8]) {
             to.copy_from_slice(&number.to_le_bytes());
         }
         return;
+    }
+    if kind == Kind::Line {
+        let mut date = [0; 8];
+        digits::write(year * 10_000 + day, &mut date);
+        let first = [19, 23][random.index(2)];
+        return places::write_into_boxes(bytes, first, &date);
     }
     let places = places::dates(kind, bytes);
     let place = places.get(random.index(places.len()));

@@ -1,12 +1,16 @@
-//! Where an input without its first byte has records, dates of eight digits, numbers of eight bytes, and lengths of
-//! buffers.
+//! Where an input without its first byte and its list has records, dates of eight digits, numbers of eight bytes, and
+//! lengths of buffers; and which issuers its barcodes have.
 
 use std::ops::Range;
 
 use conformance::inputs::{self, Kind};
-use conformance::lines;
-use reference::records::{Content, TABLE};
+use conformance::{lines, wire};
+use reference::records::{Content, G_BARCODE, PAYMENT_FIELDS, TABLE};
 use reference::session::LANES;
+use reference::{barcode, Issuer};
+
+/// Where the field bytes of a payment have its barcode.
+pub const GIVEN_BARCODE: usize = 36;
 
 /// Whether records have a byte before them that says how long they are.
 pub fn has_steps(kind: Kind) -> bool {
@@ -62,6 +66,12 @@ pub fn dates(kind: Kind, rest: &[u8]) -> Vec<usize> {
     match kind {
         Kind::Date => vec![0],
         Kind::Barcode => vec![19, 23],
+        Kind::Build => vec![33],
+        Kind::Write => {
+            let dates = [20, 28, GIVEN_BARCODE + 19, GIVEN_BARCODE + 23];
+            let of_payment = |fields: usize| dates.map(|date| fields + date);
+            payments(rest).into_iter().flat_map(of_payment).collect()
+        }
         _ => {
             let of_record = |record: Range<usize>| {
                 let place = record.start;
@@ -119,11 +129,27 @@ pub fn version(kind: Kind, rest: &[u8]) -> Option<usize> {
 
 /// Where a writer's calls have the lengths of their buffers.
 pub fn buffer_sizes(rest: &[u8]) -> Vec<usize> {
-    let mut sizes = Vec::new();
+    let sizes = writer_calls(rest).into_iter().map(|call| call + 1);
+    sizes.collect()
+}
+
+/// Where the field bytes of a writer's payments start. Those of another length are left out.
+pub fn payments(rest: &[u8]) -> Vec<usize> {
+    let fields = |call: usize| {
+        let is_payment = rest[call] % 3 == 1 && *rest.get(call + 18)? == PAYMENT_FIELDS as u8;
+        let fields = call + 19;
+        (is_payment && fields + PAYMENT_FIELDS <= rest.len()).then_some(fields)
+    };
+    writer_calls(rest).into_iter().filter_map(fields).collect()
+}
+
+/// Where a writer's calls start.
+fn writer_calls(rest: &[u8]) -> Vec<usize> {
+    let mut calls = Vec::new();
     let is_arbitrary = rest.first().is_some_and(|flags| flags % 2 == 1);
     let mut next = if is_arbitrary { 33 } else { 1 };
     while next + 1 < rest.len() {
-        sizes.push(next + 1);
+        calls.push(next);
         let counted = |place: usize| place + 1 + rest.get(place).map_or(0, |&n| usize::from(n));
         next = match rest[next] % 3 {
             0 => counted(next + 2),
@@ -131,7 +157,73 @@ pub fn buffer_sizes(rest: &[u8]) -> Vec<usize> {
             _ => next + 2,
         };
     }
-    sizes
+    calls
+}
+
+/// The issuers of the barcodes that are accepted under an empty list, each once.
+pub fn issuers(kind: Kind, rest: &[u8]) -> Vec<Issuer> {
+    let mut issuers: Vec<Issuer> = Vec::new();
+    for code in barcodes(kind, rest) {
+        if let Ok(fields) = barcode::decode(&code, &[]) {
+            if !issuers.contains(&fields.issuer()) {
+                issuers.push(fields.issuer());
+            }
+        }
+    }
+    issuers
+}
+
+/// What may be a barcode: of a line, in payments, and built.
+fn barcodes(kind: Kind, rest: &[u8]) -> Vec<Vec<u8>> {
+    match kind {
+        Kind::Line => vec![without_checks(rest)],
+        Kind::Barcode => vec![rest.to_vec()],
+        Kind::Convert if rest.len() == 2 + 48 => vec![without_checks(&rest[2..])],
+        Kind::Convert if rest.len() == 2 + 44 => vec![rest[2..].to_vec()],
+        Kind::Build => built(rest).into_iter().collect(),
+        Kind::Write => {
+            let code = |fields: usize| rest[fields + GIVEN_BARCODE..][..44].to_vec();
+            payments(rest).into_iter().map(code).collect()
+        }
+        _ => {
+            let field = TABLE[G_BARCODE].first - 1..TABLE[G_BARCODE].last;
+            let code = |record| rest.get::<Range<usize>>(record)?.get(field.clone());
+            let codes = records(kind, rest).into_iter().filter_map(code);
+            codes.map(<[u8]>::to_vec).collect()
+        }
+    }
+}
+
+/// The digits of a line's boxes.
+pub fn without_checks(line: &[u8]) -> Vec<u8> {
+    let boxes = line.chunks(12).flat_map(|of| &of[..of.len().min(11)]);
+    boxes.copied().collect()
+}
+
+/// Writes digits of a barcode, from this index on, into the boxes of its line, as far as there are boxes.
+pub fn write_into_boxes(line: &mut [u8], first: usize, digits: &[u8]) {
+    for (i, &digit) in (first..).zip(digits) {
+        if let Some(byte) = line.get_mut(i + i / 11) {
+            *byte = digit;
+        }
+    }
+}
+
+/// The barcode that is built, if one is.
+fn built(rest: &[u8]) -> Option<Vec<u8>> {
+    let number = |i: usize| Some(wire::number_at(rest.get(8 * i..8 * i + 8)?, 0));
+    let [segment, issuer, kind, value] = [number(0)?, number(1)?, number(2)?, number(3)?];
+    let mut code = [0; 44];
+    let built = barcode::build(
+        segment,
+        kind,
+        value,
+        issuer,
+        rest.get(33..)?,
+        &[],
+        &mut code,
+    );
+    built.ok().map(|()| code.to_vec())
 }
 
 /// Adds where the numbers of a board and of its lanes start, and returns where the board ends.

@@ -5,6 +5,7 @@ use reference::random::Random;
 use reference::records::{Row, G_BARCODE, G_RECEIVED, LENGTH, TABLE, Z_COUNT, Z_TOTAL};
 use reference::{digits, line, Modulus};
 
+use crate::places::GIVEN_BARCODE;
 use crate::{ends, places};
 
 /// Repairs line ends only in every second input, so that damaged ones are met behind right records too.
@@ -15,6 +16,11 @@ pub fn repair(random: &mut Random, kind: Kind, rest: &mut Vec<u8>) {
     match kind {
         Kind::Line => repair_line(rest),
         Kind::Barcode => repair_barcode(rest),
+        Kind::Write => {
+            for fields in places::payments(rest) {
+                repair_barcode(&mut rest[fields + GIVEN_BARCODE..][..44]);
+            }
+        }
         _ => repair_records(kind, rest),
     }
 }
@@ -36,10 +42,10 @@ fn repair_line(typed: &mut [u8]) {
     if typed.len() != line::LENGTH {
         return;
     }
-    let mut code: Vec<u8> = typed.chunks(12).flat_map(|of| &of[..11]).copied().collect();
+    let mut code = places::without_checks(typed);
     repair_barcode(&mut code);
     // A barcode with other faults is not converted.
-    let _ = line::line_from_barcode(&code, typed);
+    let _ = line::line_from_barcode(&code, &[], typed);
 }
 
 /// Repairs the barcodes of payments, and the counts and totals of trailers.

@@ -5,12 +5,13 @@ use std::{fs, io};
 
 use conformance::engine::root;
 use conformance::inputs::{self, Kind, FED};
-use conformance::lines;
+use conformance::{lines, lists};
 use reference::random::Random;
 use reference::records::{LENGTH, LINE_END};
 use reference::{days, Board, Issuer, Refusal};
 
 use crate::mutate::EDGES;
+use crate::{agreed, places};
 
 /// How many random inputs of each kind there are.
 const EACH: usize = 8;
@@ -22,8 +23,9 @@ pub fn seeds(random: &mut Random) -> io::Result<Vec<Vec<u8>>> {
         let path = entry?.path();
         if path.extension().is_some_and(|name| name == "ret") {
             let day = fs::read(path)?;
-            seeds.push(input(Kind::Run, [vec![0], day.clone()].concat()));
-            seeds.push(input(Kind::Take, steps(&day)));
+            let runs = [vec![0], day.clone()].concat();
+            seeds.push(agreed::input(Kind::Run, &[], &runs));
+            seeds.push(agreed::input(Kind::Take, &[], &steps(&day)));
         }
     }
     // A folder has no order of its own.
@@ -31,19 +33,27 @@ pub fn seeds(random: &mut Random) -> io::Result<Vec<Vec<u8>>> {
     for kind in Kind::ALL {
         for turn in 0..EACH {
             // Where the reference program refuses to build the input, there is none.
-            let rest = valid(random, kind, turn).ok();
-            seeds.extend(rest.map(|rest| input(kind, rest)));
+            if let Ok(rest) = valid(random, kind, turn) {
+                let list = list(random, kind, turn, &rest);
+                seeds.push(agreed::input(kind, &list, &rest));
+            }
         }
     }
     Ok(seeds)
 }
 
-fn input(kind: Kind, mut rest: Vec<u8>) -> Vec<u8> {
-    rest.insert(0, kind as u8);
-    rest
+/// A right list for an input, by the turn: the empty one, or one that has issuers of the input.
+fn list(random: &mut Random, kind: Kind, turn: usize, rest: &[u8]) -> Vec<u64> {
+    let issuers = places::issuers(kind, rest);
+    match turn {
+        0..4 => Vec::new(),
+        4 | 5 => days::agreed(random, &issuers),
+        _ => lists::only(&issuers),
+    }
 }
 
-/// A valid input of a kind, without its first byte. The turn chooses among records, conversions and writers.
+/// An input of a kind that is valid under an empty list, without its first byte and its list. The turn chooses among
+/// records, conversions and writers.
 fn valid(random: &mut Random, kind: Kind, turn: usize) -> Result<Vec<u8>, Refusal> {
     Ok(match kind {
         Kind::Line => days::line(random)?.to_vec(),

@@ -1,6 +1,6 @@
 //! Sessions, runs and pages by the naive rules.
 
-use super::{number, record, Answer, Outcome};
+use super::{list, number, record, Answer, Outcome};
 use reference::{Board, Lane, Session};
 
 /// A lane: segment, number, payments, centavos.
@@ -58,9 +58,10 @@ impl NaiveSession {
         }
     }
 
-    /// The next session, or the refusal. What stands behind the record's 150 bytes is looked at before them for the
-    /// length alone, and after them for the line end.
-    pub fn take(&self, bytes: &[u8]) -> Outcome<NaiveSession> {
+    /// The next session, or the refusal. A wrong list comes first. What stands behind the record's 150 bytes is looked
+    /// at before them for the length alone, and after them for the line end.
+    pub fn take(&self, bytes: &[u8], agreed: &[u64]) -> Outcome<NaiveSession> {
+        list(agreed)?;
         let ended = bytes.len() == 152 && bytes[150] == 13 && bytes[151] == 10;
         let lengths: &[usize] = match (self.open, self.lined, ended) {
             (true, true, _) => &[150, 151, 152],
@@ -70,7 +71,7 @@ impl NaiveSession {
         if !lengths.contains(&bytes.len()) {
             return Err((1, 0));
         }
-        let mut next = self.take_bare(&bytes[..150])?;
+        let mut next = self.take_bare(&bytes[..150], agreed)?;
         if self.open && self.lined && !ended {
             return Err((22, 151));
         }
@@ -81,9 +82,9 @@ impl NaiveSession {
     }
 
     /// The next session for the 150 bytes of a record, as though no file had line ends.
-    fn take_bare(&self, bytes: &[u8]) -> Outcome<NaiveSession> {
+    fn take_bare(&self, bytes: &[u8], agreed: &[u64]) -> Outcome<NaiveSession> {
         let allowed: &[u8] = if self.open { b"GZ" } else { b"A" };
-        record(bytes, self.version, allowed)?;
+        record(bytes, self.version, allowed, agreed)?;
         let mut next = self.clone();
         match bytes[0] {
             b'A' => {
@@ -162,11 +163,15 @@ pub struct NaiveRun {
 }
 
 /// A run over an input, one record after the other. The input that is left may go on later, where there is more.
-pub fn run(session: &NaiveSession, input: &[u8], more: bool) -> NaiveRun {
+pub fn run(session: &NaiveSession, input: &[u8], more: bool, agreed: &[u64]) -> NaiveRun {
     let mut run = NaiveRun {
         session: session.clone(),
         ..NaiveRun::default()
     };
+    if let Err(refusal) = list(agreed) {
+        run.answer = refusal;
+        return run;
+    }
     loop {
         let left = input.len() - run.bytes;
         if left == 0 || (more && left < 152) {
@@ -176,7 +181,7 @@ pub fn run(session: &NaiveSession, input: &[u8], more: bool) -> NaiveRun {
         let lined = (run.session.open && run.session.lined) || (!run.session.open && end);
         let length = if lined { left.min(152) } else { left.min(150) };
         let record = &input[run.bytes..run.bytes + length];
-        match run.session.take(record) {
+        match run.session.take(record, agreed) {
             Ok(next) => run.session = next,
             Err(refusal) => {
                 run.answer = refusal;
@@ -199,7 +204,7 @@ pub fn page(input: &[u8]) -> String {
         files,
         mut answer,
         ..
-    } = run(&NaiveSession::default(), input, false);
+    } = run(&NaiveSession::default(), input, false, &[]);
     if answer.0 == 0 && session.open {
         answer = (19, 0);
     }
