@@ -170,18 +170,9 @@ pub empty-is-right : RightList []
 unfolding listAnswer
 empty-is-right = refl
 
--- and any list of length 0
-pub empty-right : (agreed : List ℕ) → length agreed ≡ 0 → RightList agreed
-empty-right [] h = empty-is-right
-empty-right (k ∷ ks) h = absurd (omega arith)
-
 pub none-agreed : (i : Issuer) → isAgreed [] i ≡ false
 unfolding isAgreed
 none-agreed i = refl
-
-pub none-on-empty : (agreed : List ℕ) (i : Issuer) → length agreed ≡ 0 → isAgreed agreed i ≡ false
-none-on-empty [] i h = none-agreed i
-none-on-empty (k ∷ ks) i h = absurd (omega arith)
 
 -- The due date.
 
@@ -233,9 +224,6 @@ under-place agreed code =
 
 pub due-of-none : (code : List ℕ) → dueAnswer [] code ≡ Accepted
 due-of-none code = free-accepts [] (issuerOf code) (freeOf code) .1 (inl (none-agreed (issuerOf code)))
-
-pub due-of-empty : (agreed code : List ℕ) → length agreed ≡ 0 → dueAnswer agreed code ≡ Accepted
-due-of-empty agreed code h = free-accepts agreed (issuerOf code) (freeOf code) .1 (inl (none-on-empty agreed (issuerOf code) h))
 
 pub empty-list-is-right : EmptyListIsRight
 empty-list-is-right = (empty-is-right, none-agreed, λ code. rw (empty-is-right, due-of-none code) (then-accepted (barcodeAnswer code)))

@@ -119,12 +119,12 @@ pub fn check_list(agreed: &[u64]) -> Answer
     Answer::Accepted
 }
 
-// Whether an issuer is on the list: it agreed on due dates. On an empty one nobody is, and no key is made.
+// Whether an issuer is on the list: it agreed on due dates.
 fn is_agreed(issuer: Issuer, agreed: &[u64]) -> bool
     ensures { λ r. ⌜ r ≡ isAgreed (now (agreed .entry)) issuer ⌝ }
 {
     if agreed.len() == 0 {
-        return false;
+        return false; // nobody is on it, and no key is made
     }
     is_among(key_of(issuer), agreed)
 }
@@ -144,7 +144,7 @@ pub(crate) fn check_free(issuer: Issuer, free: &[u8], agreed: &[u64]) -> Answer
     ensures { λ r. ⌜ r ≡ freeAnswer (now (agreed .entry)) issuer (now (free .entry)) ⌝ }
 {
     if !is_agreed(issuer, agreed) {
-        return Answer::Accepted; // no date is asked
+        return Answer::Accepted;
     }
     if !calendar::is_date_text(due_digits(free)) {
         return Answer::Refused(Reason::NoDate, parts::issuer_end(issuer.segment) + 1);

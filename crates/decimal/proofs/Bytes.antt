@@ -22,6 +22,11 @@ use Rattle.decimal.specs.Bytes.{within, all, eachIs, AllJoins, AllOfPart
 pub within-bounds : (lo hi b : ℕ) → within lo hi b ≡ true → (lo ≤ b) × (b ≤ hi)
 within-bounds lo hi b t = let both = and-eq-true-iff (leb lo b) (leb b hi) .0 t in (leb-true lo b (both .0), leb-true b hi (both .1))
 
+-- a list of length 0 has nothing in it
+pub length-zero : (l : List ℕ) → length l ≡ 0 → l ≡ []
+length-zero [] h = refl
+length-zero (b ∷ l) h = absurd (omega arith)
+
 pub all-joins : AllJoins
 all-joins ok [] ys = refl
 all-joins ok (b ∷ xs) ys = ap (λ (t : Bool). ok b && t) (all-joins ok xs ys) ∙ sym (and-assoc (ok b) (all ok xs) (all ok ys))

@@ -15,7 +15,7 @@ use Rattle.answer.proofs.Orders.{require-accepts, then-accepts, moved-accepts}
 use Rattle.decimal.specs.declared.Class.the-variants.{Digit, Blank}
 use Rattle.decimal.specs.Bytes.{isOf, all}
 use Rattle.decimal.specs.Numbers.{numberOf, digitsOf, widthAnswer}
-use Rattle.decimal.proofs.Bytes.{each-accepts}
+use Rattle.decimal.proofs.Bytes.{length-zero, each-accepts}
 use Rattle.decimal.proofs.Numbers.{number-fits, digits-of-number}
 use Rattle.decimal.specs.Places.{widthOf, partAt, gather}
 use Rattle.decimal.proofs.Places.{part-of-part}
@@ -149,13 +149,9 @@ made-from t (f ∷ fs) place rec h n cv q a =
 pub fields-make-the-record : FieldsMakeTheRecord
 fields-make-the-record t r rec n a = made-from t (layoutOf r) 1 rec (omega arith) n (fields-cover r) (layout-fits r .0) a
 
-no-bytes : (l : List ℕ) → length l ≡ 0 → l ≡ []
-no-bytes [] e = refl
-no-bytes (x ∷ l) e = absurd (omega arith)
-
 one-byte : (l : List ℕ) → length l ≡ 1 → getD l 0 0 ∷ [] ≡ l
 one-byte [] e = absurd (omega arith)
-one-byte (x ∷ l) e = ap (λ (r : List ℕ). x ∷ r) (sym (no-bytes l (omega arith)))
+one-byte (x ∷ l) e = ap (λ (r : List ℕ). x ∷ r) (sym (length-zero l (omega arith)))
 
 joint : (p w a z : ℕ) → a ≡ p + 1 → p + 1 ≤ z → w ≡ z - (a - 1) → p + w + 1 ≡ z + 1
 joint p w a z e h k = omega arith
@@ -163,13 +159,13 @@ joint p w a z e h k = omega arith
 -- what is given of a field that was written is what was given for it
 written-given : (k : Kind) (w : ℕ) (piece : List ℕ) (n : ℕ) → length piece ≡ givenOf k w .to - givenOf k w .from
     → take (givenOf k w .to - givenOf k w .from) (drop (givenOf k w .from) (writtenOf k w piece n)) ≡ piece
-written-given (kind.Mark byte) w piece n e = sym (no-bytes piece e)
+written-given (kind.Mark byte) w piece n e = sym (length-zero piece e)
 written-given kind.Version w piece n e = take-all (w - 0) piece (omega arith)
 written-given kind.Service w piece n e = one-byte piece e
-written-given kind.Blank w piece n e = sym (no-bytes piece e)
+written-given kind.Blank w piece n e = sym (length-zero piece e)
 written-given kind.Text w piece n e = take-all (w - 0) piece (omega arith)
 written-given kind.Digits w piece n e = take-all (w - 0) piece (omega arith)
-written-given kind.Money w piece n e = sym (no-bytes piece e)
+written-given kind.Money w piece n e = sym (length-zero piece e)
 written-given kind.Date w piece n e = take-all (w - 0) piece (omega arith)
 written-given kind.Barcode w piece n e = take-all (w - 0) piece (omega arith)
 written-given kind.Capture w piece n e = take-all (w - 0) piece (omega arith)
@@ -191,7 +187,7 @@ made-accepts : (t : Terms) (fs : List Field) (pre given amounts : List ℕ) → 
     × (gather (map givenAt fs) (pre ++ madeOf fs given amounts) ≡ given)
 unfolding fieldAnswer
 made-accepts t [] pre given amounts cv q n a =
-    let z : given ≡ [] = no-bytes given (sym n) in
+    let z : given ≡ [] = length-zero given (sym n) in
     (rw append-nil (omega (arith, eqb-true (length pre + 1) (recordLength + 1) cv)), refl, sym z)
 made-accepts t (f ∷ fs) pre given amounts cv q n a =
     let x = next (length pre + 1) f fs cv in

@@ -31,7 +31,8 @@ abbrev pub formsOf : ℕ → ℕ
 formsOf version = cond (eqb version version04) 3 (cond (eqb version version06) 6 0)
 
 -- what is known of a record beside its bytes: the version that it is told, which is that of its file's header, and the
--- keys of the issuers that agreed on due dates. Any number and any list can be told; a wrong list is refused before (`recordCheck`).
+-- keys of the issuers that agreed on due dates. Any number and any list can be told; a wrong list is refused before
+-- (`recordCheck`).
 pub record Terms : Type 0 where
   pub version : ℕ
   pub agreed : List ℕ

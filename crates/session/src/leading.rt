@@ -2,13 +2,14 @@
 // board. It mirrors what `Session::take_judged` (taking.rt) does with an accepted payment: the length, that the kind is
 // expected, `record::judged::decode`, `File::take`, `Board::post`, `check_end`. Everything else, refused payments
 // included, is left to `Session::take_judged`: no refusal is made here, so the order of these checks does not matter.
-// It cuts as `run_judged` does: `record_needs` and `file::record_length` mirror `least_left` and `cut_length` (ends.rt). What
-// must change together: if `take_judged` checks one more thing of a payment, so does `next_payment`; if a payment changes one
-// more member of the session, so does the loop, and `run_judged` (running.rt) takes it over from `LeadingPayments`. The proof
-// that ties them is proofs/Payments.antt: by `payment-taken` and `payment-leaves`, a payment posted here is accepted by
-// `takeAnswer` and leaves the session that `take_judged` leaves, `nextSession`; by `one-more` it is the next piece. What is
-// slow and so avoided: a board by value is 2 KB, and each call that takes one copies it. So the loop itself reads and
-// stores lanes, and the board's functions get numbers and one lane (board: src/searching.rt, `Slot::post`).
+// It cuts as `run_judged` does: `record_needs` and `file::record_length` mirror `least_left` and `cut_length`
+// (ends.rt). What must change together: if `take_judged` checks one more thing of a payment, so does `next_payment`; if
+// a payment changes one more member of the session, so does the loop, and `run_judged` (running.rt) takes it over from
+// `LeadingPayments`. The proof that ties them is proofs/Payments.antt: by `payment-taken` and `payment-leaves`, a
+// payment posted here is accepted by `takeAnswer` and leaves the session that `take_judged` leaves, `nextSession`; by
+// `one-more` it is the next piece. What is slow and so avoided: a board by value is 2 KB, and each call that takes one
+// copies it. So the loop itself reads and stores lanes, and the board's functions get numbers and one lane (board:
+// src/searching.rt, `Slot::post`).
 ghost use mathlib.Core.Path.{_≡_};
 ghost use Prim.Native.Nat.{_≤_};
 ghost use lib.ListN.{length};

@@ -267,15 +267,8 @@ fn runs_with_a_list_for_each() {
             let more = end < bytes.len();
             let result = session.run(&bytes[start..end], more, &agreed);
             let wanted = naive::run(&naive, &bytes[start..end], more, &agreed);
-            let left = NaiveRun {
-                session: NaiveSession::of(&session),
-                records: result.records,
-                files: result.files,
-                answer: answer(&result.answer),
-                bytes: result.bytes,
-            };
-            assert_eq!(left, wanted);
-            *seen.entry(left.answer).or_insert(0) += 1;
+            assert_eq!(NaiveRun::of(&session, &result), wanted);
+            *seen.entry(wanted.answer).or_insert(0) += 1;
             naive = wanted.session;
             start += result.bytes;
         }

@@ -120,14 +120,7 @@ fn assert_runs(random: &mut Random, bytes: &[u8]) -> u64 {
         let more = end < bytes.len();
         let result = session.run(&bytes[start..end], more, &[]);
         let expected = naive::run(&naive, &bytes[start..end], more, &[]);
-        let left = NaiveRun {
-            session: NaiveSession::of(&session),
-            records: result.records,
-            files: result.files,
-            answer: answer(&result.answer),
-            bytes: result.bytes,
-        };
-        assert_eq!(left, expected);
+        assert_eq!(NaiveRun::of(&session, &result), expected);
         naive = expected.session;
         start += result.bytes;
         if !more || result.answer.is_err() {

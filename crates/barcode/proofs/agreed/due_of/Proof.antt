@@ -1,5 +1,5 @@
 -- `barcode::agreed::due_of` meets its contract. Assumes nothing.
-use mathlib.Core.Path.{sym, ap, _∙_}
+use mathlib.Core.Path.{refl, sym, ap, _∙_}
 use borrow.Author.Needs.{needs}
 use Rattle.calendar.specs.Dates.{dateOf}
 use Rattle.barcode.proofs.agreed.due_of.Statement.{statement}
@@ -21,7 +21,7 @@ returns c =
     rw (sym (listed .before .is-agreed .ensures) ∙ listed .if1 .taken) (c .read-date .ensures ∙ ap dateOf (digits .due-digits .ensures))
 
 returns-2 : tie.Need-returns-2
-returns-2 c = rw (sym (c .before .is-agreed .ensures) ∙ c .if1 .left)
+returns-2 c = rw (sym (c .before .is-agreed .ensures) ∙ c .if1 .left) refl
 
 pub due-of-spec : {M : Type 1} → statement M
 due-of-spec =

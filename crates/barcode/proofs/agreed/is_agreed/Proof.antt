@@ -1,14 +1,16 @@
 -- `barcode::agreed::is_agreed` meets its contract. Assumes nothing.
 use Prim.Native.Nat.{ℕ}
+use mathlib.Core.List.{List}
 use mathlib.Core.Path.{sym, ap, _∙_}
 use borrow.Author.Needs.{needs}
+use Rattle.decimal.proofs.Bytes.{length-zero}
 use Rattle.barcode.specs.Agreed.{isAmong, isAgreed}
-use Rattle.barcode.proofs.Lists.{none-on-empty}
+use Rattle.barcode.proofs.Lists.{none-agreed}
 use Rattle.barcode.proofs.agreed.is_agreed.Statement.{statement}
 use Rattle.barcode.proofs.agreed.is_agreed.Tie as tie
 
 returns : tie.Need-returns
-returns c = let a = c .before .before .args in sym (none-on-empty (a .agreed .now) (a .issuer) (c .if1 .taken))
+returns c = let a = c .before .before .args in sym (ap (λ (l : List ℕ). isAgreed l (a .issuer)) (length-zero (a .agreed .now) (c .if1 .taken)) ∙ none-agreed (a .issuer))
 
 key-of-requires : tie.Need-key-of-requires
 key-of-requires c κs = search needs

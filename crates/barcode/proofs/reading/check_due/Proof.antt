@@ -1,12 +1,18 @@
 -- `barcode::reading::check_due` meets its contract. Assumes nothing.
-use mathlib.Core.Path.{sym}
+use Prim.Native.Nat.{ℕ}
+use mathlib.Core.List.{List}
+use mathlib.Core.Path.{sym, ap, _∙_}
 use borrow.Author.Needs.{needs}
-use Rattle.barcode.proofs.Lists.{due-of-empty}
+use Rattle.decimal.proofs.Bytes.{length-zero}
+use Rattle.barcode.specs.Agreed.{dueAnswer}
+use Rattle.barcode.proofs.Lists.{due-of-none}
 use Rattle.barcode.proofs.reading.check_due.Statement.{statement}
 use Rattle.barcode.proofs.reading.check_due.Tie as tie
 
 returns : tie.Need-returns
-returns c = let a = c .before .before .before .args in sym (due-of-empty (a .agreed .now) (a .code .now) (c .if1 .taken))
+returns c =
+    let a = c .before .before .before .args in
+    sym (ap (λ (l : List ℕ). dueAnswer l (a .code .now)) (length-zero (a .agreed .now) (c .if1 .taken)) ∙ due-of-none (a .code .now))
 
 issuer-of-requires : tie.Need-issuer-of-requires
 issuer-of-requires c κs = search needs

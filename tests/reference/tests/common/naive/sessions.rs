@@ -1,7 +1,7 @@
 //! Sessions, runs and pages by the naive rules.
 
 use super::{list, number, record, Answer, Outcome};
-use reference::{Board, Lane, Session};
+use reference::{answer, Board, Lane, RunResult, Session};
 
 /// A lane: segment, number, payments, centavos.
 pub type NaiveLane = (u128, u128, u128, u128);
@@ -160,6 +160,19 @@ pub struct NaiveRun {
     pub files: u64,
     pub answer: Answer,
     pub bytes: usize,
+}
+
+impl NaiveRun {
+    /// What the program's run left.
+    pub fn of(session: &Session, result: &RunResult) -> NaiveRun {
+        NaiveRun {
+            session: NaiveSession::of(session),
+            records: result.records,
+            files: result.files,
+            answer: answer(&result.answer),
+            bytes: result.bytes,
+        }
+    }
 }
 
 /// A run over an input, one record after the other. The input that is left may go on later, where there is more.
