@@ -31,6 +31,8 @@ reasonNumber reason.FileOpen = 19  -- end with a file open
 reasonNumber reason.TooWide = 21  -- builder's or writer's number too wide
 reasonNumber reason.NoLineEnd = 22  -- a later record of a lined file, not followed by CR and LF
 reasonNumber reason.WrongList = 25  -- list of agreed issuers too long, an entry that names none, or one twice
+reasonNumber reason.NotFollowing = 26  -- a file's number is not the next of its bank and agreement
+reasonNumber reason.PairsFull = 27  -- new bank and agreement, as many remembered as can be
 
 -- accepted is 0, with place 0
 abbrev pub answerNumber : Answer → ℕ
@@ -48,6 +50,14 @@ receivedPlace = 82
 
 abbrev pub issuerPlace : ℕ
 issuerPlace = 53
+
+-- The places of a header that refusals 26 and 27 point at: its sequence number, and its agreement.
+
+abbrev pub sequencePlace : ℕ
+sequencePlace = 74
+
+abbrev pub agreementPlace : ℕ
+agreementPlace = 3
 
 -- Promises.
 

@@ -31,6 +31,8 @@ pub enum Reason {
     TooWide,
     NoLineEnd,
     WrongList,
+    NotFollowing,
+    PairsFull,
 }
 
 // The places of a payment record, G, that refusals 16 to 18 point at: its received centavos, and the issuer in its
@@ -38,6 +40,11 @@ pub enum Reason {
 pub const RECEIVED_PLACE: usize = 82;
 
 pub const ISSUER_PLACE: usize = 53;
+
+// The places of a header, A, that refusals 26 and 27 point at: its sequence number, and its agreement.
+pub const SEQUENCE_PLACE: usize = 74;
+
+pub const AGREEMENT_PLACE: usize = 3;
 
 // A place counts from 1 in what was read; it is 0 where a refusal has none.
 pub enum Answer {
@@ -73,6 +80,8 @@ impl Reason {
             Reason::TooWide => 21,
             Reason::NoLineEnd => 22,
             Reason::WrongList => 25,
+            Reason::NotFollowing => 26,
+            Reason::PairsFull => 27,
         }
     }
 }
