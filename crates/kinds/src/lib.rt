@@ -18,7 +18,7 @@ pub use versions::is_capture;
 pub use versions::is_form;
 
 // Whether two slices have the same bytes.
-fn same_bytes(a: &[u8], b: &[u8]) -> bool
+pub fn same_bytes(a: &[u8], b: &[u8]) -> bool
     ensures { λ r. ⌜ r ≡ same (now (a .entry)) (now (b .entry)) ⌝ }
 {
     if a.len() != b.len() {

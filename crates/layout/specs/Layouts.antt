@@ -99,6 +99,9 @@ unfoldable pub rowsOf : Record → Rows
 rowsOf r = record { from = length (rowsBefore r); to = length (rowsBefore r) + length (layoutOf r) }
 
 -- the rows of the fields that are read by name
+abbrev pub agreementRow : ℕ
+agreementRow = 2
+
 abbrev pub bankRow : ℕ
 bankRow = 4
 
