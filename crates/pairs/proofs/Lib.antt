@@ -1,0 +1,3 @@
+pub mod Searches
+pub mod Remembering
+pub mod Memories
