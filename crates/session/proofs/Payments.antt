@@ -37,7 +37,7 @@ use Rattle.session.specs.declared.leading.Progress.{Progress}
 use Rattle.session.specs.declared.leading.MaybePayment.{MaybePayment}
 use Rattle.session.specs.declared.leading.MaybePayment.the-variants as maybe
 use Rattle.session.specs.declared.leading.LeadingPayments.{LeadingPayments}
-use Rattle.session.specs.Sessions.{sessionTerms, laneOfPayment, takeAnswer, nextSession, takeUnder}
+use Rattle.session.specs.Sessions.{sessionWorking, sessionTerms, laneOfPayment, takeAnswer, nextSession, takeUnder}
 use Rattle.session.specs.Runs.{pieceLength, leastLeft, filesClosed}
 use Rattle.session.specs.LeadingPayments.{Taken, NextPaymentOf, withLeading, LeadingPaymentsOf}
 use Rattle.session.proofs.Steps.{posted-board, taken-file}
@@ -73,13 +73,9 @@ module _ (agreed : List ℕ) (s : Session) (rec : List ℕ) {p : Payment} (is : 
         rw (is, opened, long, payment-named, fits, b, ended)
 
     pub payment-leaves : _≡_ {A = Session}
-        (record {
-          shown = s .shown;
-          work =
-              record { lanes = set (s .work .lanes) at (e .slot .lane); used = e .slot .used; total = e .slot .total };
-          opened = s .opened;
-          file = fileWith (s .file) (p .received);
-        })
+        (sessionWorking s
+        (record { lanes = set (s .work .lanes) at (e .slot .lane); used = e .slot .used; total = e .slot .total })
+        (fileWith (s .file) (p .received)))
         (nextSession agreed s rec)
     payment-leaves =
         rw (is, posted-board (s .work) (laneOfPayment p) (put-back (s .work) (laneOfPayment p) at e found posted) accepted)

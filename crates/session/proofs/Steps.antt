@@ -1,9 +1,11 @@
 -- How the session's methods meet their definitions. Assumes nothing.
-use Prim.Native.Nat.{ℕ}
+use Prim.Native.Nat.{ℕ, _≤_}
 use mathlib.Core.Bool.{Bool, true, false}
-use mathlib.Core.List.{List}
-use mathlib.Core.Path.{_≡_, sym, ap, _∙_}
-use lib.ListN.{getD}
+use mathlib.Core.List.{List, _++_, append-nil}
+use mathlib.Core.Path.{_≡_, sym, ap, ap₂, _∙_}
+use native.Mathlib.Omega.{arith}
+use lib.ListN.{length, getD, take, drop, drop-of-length-le}
+use lib.Seq.{take-all}
 use Rattle.answer.specs.declared.Reason.{Reason}
 use Rattle.answer.specs.declared.Reason.the-variants.{WrongLength, NotExpected}
 use Rattle.answer.specs.declared.Answer.{Answer}
@@ -63,20 +65,28 @@ taken-file {r} f x e h =
 
 -- a record by what it was decoded as
 pub decoded-as : (agreed : List ℕ) (s : Session) (ended : Bool) (ending : Answer) (rec : List ℕ) {e d : Decoded} {r : TakeResult}
-    → e ≡ decodedRecordUnder (sessionTerms agreed s) rec → e ≡ d → r ≡ recordResult s ended ending d
-    → r ≡ recordResult s ended ending (decodedRecordUnder (sessionTerms agreed s) rec)
+    → e ≡ decodedRecordUnder (sessionTerms agreed s) rec → e ≡ d → r ≡ recordResult s ended ending rec d
+    → r ≡ recordResult s ended ending rec (decodedRecordUnder (sessionTerms agreed s) rec)
 decoded-as agreed s ended ending rec {e} {d} q f h = let g : decodedRecordUnder (sessionTerms agreed s) rec ≡ d = sym q ∙ f in rw g h
 
 -- a record whose length fits and which is expected: what it is decoded as decides, and its end
 pub take-is : (agreed : List ℕ) (s : Session) (rec : List ℕ) {ended : Bool} {ending : Answer} {r : TakeResult}
     → fitsLength (s .opened) (s .file .lined) rec ≡ true → sessionExpects (s .opened) (namedBy (getD rec 0 0)) ≡ true
     → ending ≡ endAnswer (s .opened) (s .file .lined) rec → ended ≡ hasLineEnd rec
-    → r ≡ recordResult s ended ending (decodedRecordUnder (sessionTerms agreed s) (bodyOf rec))
+    → r ≡ recordResult s ended ending (bodyOf rec) (decodedRecordUnder (sessionTerms agreed s) (bodyOf rec))
     → r ≡ takeUnder agreed s rec
 take-is agreed s rec {r = r} fits expected e f took =
     let d = decodedRecordUnder (sessionTerms agreed s) (bodyOf rec) in
     let ending = endAnswer (s .opened) (s .file .lined) rec in
-    let new = sessionWith s (hasLineEnd rec) d in
-    let own : r ≡ takeResult (sessionAnswer s d then ending) new s = rw (← f, ← e) took in
+    let new = sessionWith s (hasLineEnd rec) (bodyOf rec) d in
+    let own-answer = sessionAnswer s (bodyOf rec) d in
+    let own : r ≡ takeResult (own-answer then ending) new s = rw (← f, ← e) took in
     let expects = require (sessionExpects (s .opened) (namedBy (getD rec 0 0))) NotExpected 1 in
-    took-go WrongLength 0 (expects then sessionAnswer s d then ending) new s fits (took-go NotExpected 1 (sessionAnswer s d then ending) new s expected own)
+    took-go WrongLength 0 (expects then own-answer then ending) new s fits (took-go NotExpected 1 (own-answer then ending) new s expected own)
+
+-- a part copied to bytes that are as many
+pub copied : (part before : List ℕ) {out : List ℕ} → length part ≡ length before
+    → out ≡ take (length part) part ++ drop (length part) before → out ≡ part
+copied part before n e =
+    let past : length before ≤ length part = omega (arith, n) in
+    e ∙ ap₂ (λ (xs ys : List ℕ). xs ++ ys) (take-all (length part) part (omega arith)) (drop-of-length-le before past) ∙ append-nil part

@@ -18,7 +18,7 @@ use Rattle.session.specs.declared.leading.Progress.{Progress}
 use Rattle.session.specs.declared.leading.MaybePayment.{MaybePayment}
 use Rattle.session.specs.declared.leading.MaybePayment.the-variants.{Is, Other}
 use Rattle.session.specs.declared.leading.LeadingPayments.{LeadingPayments}
-use Rattle.session.specs.Sessions.{laneOfPayment}
+use Rattle.session.specs.Sessions.{sessionWorking, laneOfPayment}
 use Rattle.session.specs.Runs.{leastLeft, addCounts, runUnder}
 
 -- the bytes that must be left for one more record of an open file of this form: a record's, or 152 if more are to follow
@@ -50,7 +50,7 @@ NextPaymentOf agreed opened more before bytes Other = Unit {0}
 
 -- the session with what the payments left of its working board and its file
 abbrev pub withLeading : Session → LeadingPayments → Session
-withLeading s p = record { shown = s .shown; work = p .work; opened = s .opened; file = p .progress .file }
+withLeading s p = sessionWorking s (p .work) (p .progress .file)
 
 -- payments at the front were taken: what is left to run, with their number and bytes added, is the whole run
 pub record LeadingPaymentsOf (agreed : List ℕ) (s : Session) (more : Bool) (bytes : List ℕ) (p : LeadingPayments) :

@@ -10,14 +10,15 @@ use Rattle.answer.specs.Orders.{require, _then_, ifAccepted}
 use Rattle.layout.specs.declared.MaybeRecord.{MaybeRecord}
 use Rattle.layout.specs.declared.MaybeRecord.the-variants.{Is, Other}
 use Rattle.layout.specs.declared.Record.the-variants as layout
-use Rattle.layout.specs.Layouts.{recordLength, namedBy}
+use Rattle.layout.specs.Layouts.{recordLength, namedBy, rowAt, agreementRow, bankRow, sequenceRow}
 use Rattle.barcode.specs.Agreed.{listAnswer}
 use Rattle.record.specs.declared.Payment.{Payment}
 use Rattle.record.specs.declared.Trailer.{Trailer}
 use Rattle.record.specs.declared.Decoded.{Decoded}
 use Rattle.record.specs.declared.Decoded.the-variants as decoded
 use Rattle.kinds.specs.Terms.{Terms, told}
-use Rattle.record.specs.Values.{decodedRecordUnder}
+use Rattle.record.specs.Records.{fieldBytes}
+use Rattle.record.specs.Values.{numberIn, decodedRecordUnder}
 use Rattle.file.specs.declared.File.{File}
 use Rattle.file.specs.declared.Figures.{Figures}
 use Rattle.file.specs.Forms.{bodyOf, hasLineEnd, fitsLength, endAnswer}
@@ -26,11 +27,15 @@ use Rattle.board.specs.declared.Lane.{Lane}
 use Rattle.board.specs.declared.Board.{Board}
 use Rattle.board.specs.Lanes.{mostLanes, limit, laneOfOne}
 use Rattle.board.specs.Boards.{freshBoard, postAnswer, boardWith}
+use Rattle.pairs.specs.declared.Pair.{Pair}
+use Rattle.pairs.specs.declared.Memory.{Memory}
+use Rattle.pairs.specs.Pairs.{mostPairs, noPair, freshMemory, memoryAnswer, memoryWith}
 use Rattle.session.specs.declared.Session.{Session}
 use Rattle.session.specs.declared.TakeResult.{TakeResult}
 use Rattle.session.specs.declared.Limits.{Limits}
 
--- the lanes of a board, the bytes of a record, the most payments and centavos of a file, the most a board's sums reach
+-- the lanes of a board, the bytes of a record, the most payments and centavos of a file, the most a board's sums reach,
+-- the pairs of a memory
 abbrev pub sessionLimits : Limits
 sessionLimits =
     record {
@@ -39,19 +44,46 @@ sessionLimits =
       payments = mostPayments;
       «file_total» = mostCentavos;
       «board_total» = limit;
+      pairs = mostPairs;
     }
 
--- no file open, and this board shown; the working board is the board shown
-abbrev pub closedAt : Board → Session
-closedAt b = record { shown = b; work = b; opened = false; file = noFile }
+-- no file open, this board shown and these numbers remembered; the working board is the board shown
+abbrev pub closedAt : Board → Memory → Session
+closedAt b m = record { shown = b; work = b; opened = false; file = noFile; opening = noPair; memory = m }
 
--- a fresh session: no file open and an empty board
+-- a fresh session: no file open, an empty board and no numbers
 abbrev pub freshSession : Session
-freshSession = closedAt freshBoard
+freshSession = closedAt freshBoard freshMemory
 
--- a file just opened by a header of this version and form, and this board shown: the working board starts from it
-abbrev pub openedAt : Board → ℕ → Bool → Session
-openedAt b version lined = record { shown = b; work = b; opened = true; file = freshFile version lined }
+-- a file just opened by a header of this version, form, pair and number, with this board shown and these numbers
+-- remembered: the working board starts from the board shown
+abbrev pub openedAt : Board → Memory → ℕ → Bool → Pair → Session
+openedAt b m version lined p =
+    record { shown = b; work = b; opened = true; file = freshFile version lined; opening = p; memory = m }
+
+-- the session with this working board and this file; all else is as it was
+abbrev pub sessionWorking : Session → Board → File → Session
+sessionWorking s work file =
+    record {
+      shown = s .shown;
+      work = work;
+      opened = s .opened;
+      file = file;
+      opening = s .opening;
+      memory = s .memory;
+    }
+
+-- the bank and the agreement of a header, byte for byte, with its sequence number
+abbrev pub pairNumbered : List ℕ → ℕ → Pair
+pairNumbered rec sequence =
+    record {
+      bank = fieldBytes (rowAt bankRow) rec;
+      agreement = fieldBytes (rowAt agreementRow) rec;
+      sequence = sequence;
+    }
+
+abbrev pub pairIn : List ℕ → Pair
+pairIn rec = pairNumbered rec (numberIn sequenceRow rec)
 
 -- what is known of the records to come: the version of the open file, and the list lent with each of them
 abbrev pub sessionTerms : List ℕ → Session → Terms
@@ -77,26 +109,31 @@ payAnswer s p = fileAnswer (s .file) (p .tally .centavos) then postAnswer (s .wo
 
 -- the session with a payment on its working board, and with this file
 abbrev pub sessionWithPosted : Session → Lane → File → Session
-sessionWithPosted s p file = record { shown = s .shown; work = boardWith (s .work) p; opened = s .opened; file = file }
+sessionWithPosted s p file = sessionWorking s (boardWith (s .work) p) file
 
 -- the session with a payment on its working board and in its file
 abbrev pub sessionWithPayment : Session → Lane → Session
 sessionWithPayment s p = sessionWithPosted s p (fileWith (s .file) (p .tally .centavos))
 
--- the answer to a decoded record: its own refusal first; G: 15 to 18; Z: 13, 14
-abbrev pub sessionAnswer : Session → Decoded → Answer
-sessionAnswer s (decoded.Header h) = answer.Accepted
-sessionAnswer s (decoded.Payment p) = payAnswer s (laneOfPayment p)
-sessionAnswer s (decoded.Trailer t) = figuresAnswer (s .file) (figuresIn t)
-sessionAnswer s (decoded.Refused why place) = answer.Refused why place
+-- the session whose file is closed: its payments are shown together, and its number is remembered, if there is room
+abbrev pub sessionClosed : Session → Session
+sessionClosed s = closedAt (s .work) (memoryWith (s .memory) (s .opening))
+
+-- the answer to a record by what it was decoded as: its own refusal first; A: 26, 27; G: 15 to 18; Z: 13, 14
+abbrev pub sessionAnswer : Session → List ℕ → Decoded → Answer
+sessionAnswer s rec (decoded.Header h) = memoryAnswer (s .memory) (pairNumbered rec (h .sequence))
+sessionAnswer s rec (decoded.Payment p) = payAnswer s (laneOfPayment p)
+sessionAnswer s rec (decoded.Trailer t) = figuresAnswer (s .file) (figuresIn t)
+sessionAnswer s rec (decoded.Refused why place) = answer.Refused why place
 
 -- the session with an accepted record; `ended` is whether CR and LF follow it, which decides the form of a header's
--- file. Payments of an open file are shown together when its Z is accepted.
-abbrev pub sessionWith : Session → Bool → Decoded → Session
-sessionWith s ended (decoded.Header h) = openedAt (s .shown) (h .version) ended
-sessionWith s ended (decoded.Payment p) = sessionWithPayment s (laneOfPayment p)
-sessionWith s ended (decoded.Trailer t) = closedAt (s .work)
-sessionWith s ended (decoded.Refused why place) = s
+-- file
+abbrev pub sessionWith : Session → Bool → List ℕ → Decoded → Session
+sessionWith s ended rec (decoded.Header h) =
+    openedAt (s .shown) (s .memory) (h .version) ended (pairNumbered rec (h .sequence))
+sessionWith s ended rec (decoded.Payment p) = sessionWithPayment s (laneOfPayment p)
+sessionWith s ended rec (decoded.Trailer t) = sessionClosed s
+sessionWith s ended rec (decoded.Refused why place) = s
 
 -- an answer, and the new session if it is accepted, else the old one
 abbrev pub takeResult : Answer → Session → Session → TakeResult
@@ -110,10 +147,14 @@ abbrev pub paymentResult : Session → Lane → Answer → TakeResult
 paymentResult s p ending = takeResult (payAnswer s p then ending) (sessionWithPayment s p) s
 
 abbrev pub trailerResult : Session → Figures → Answer → TakeResult
-trailerResult s shown ending = takeResult (figuresAnswer (s .file) shown then ending) (closedAt (s .work)) s
+trailerResult s shown ending = takeResult (figuresAnswer (s .file) shown then ending) (sessionClosed s) s
 
-abbrev pub recordResult : Session → Bool → Answer → Decoded → TakeResult
-recordResult s ended ending d = takeResult (sessionAnswer s d then ending) (sessionWith s ended d) s
+abbrev pub headerResult : Session → ℕ → Bool → Pair → Answer → TakeResult
+headerResult s version lined p ending =
+    takeResult (memoryAnswer (s .memory) p then ending) (openedAt (s .shown) (s .memory) version lined p) s
+
+abbrev pub recordResult : Session → Bool → Answer → List ℕ → Decoded → TakeResult
+recordResult s ended ending rec d = takeResult (sessionAnswer s rec d then ending) (sessionWith s ended rec d) s
 
 -- taking a record, under a list of agreed issuers that was judged: 1; then, of its first 150 bytes, 9, its own
 -- refusals, under the version of the open file, and the session's; last 22
@@ -121,12 +162,13 @@ abbrev pub takeAnswer : List ℕ → Session → List ℕ → Answer
 takeAnswer agreed s rec =
     require (fitsLength (s .opened) (s .file .lined) rec) WrongLength 0
     then require (sessionExpects (s .opened) (namedBy (getD rec 0 0))) NotExpected 1
-    then sessionAnswer s (decodedRecordUnder (sessionTerms agreed s) (bodyOf rec))
+    then sessionAnswer s (bodyOf rec) (decodedRecordUnder (sessionTerms agreed s) (bodyOf rec))
     then endAnswer (s .opened) (s .file .lined) rec
 
 -- the session with a record, if it is accepted
 abbrev pub nextSession : List ℕ → Session → List ℕ → Session
-nextSession agreed s rec = sessionWith s (hasLineEnd rec) (decodedRecordUnder (sessionTerms agreed s) (bodyOf rec))
+nextSession agreed s rec =
+    sessionWith s (hasLineEnd rec) (bodyOf rec) (decodedRecordUnder (sessionTerms agreed s) (bodyOf rec))
 
 abbrev pub takeUnder : List ℕ → Session → List ℕ → TakeResult
 takeUnder agreed s rec = takeResult (takeAnswer agreed s rec) (nextSession agreed s rec) s
@@ -135,9 +177,9 @@ takeUnder agreed s rec = takeResult (takeAnswer agreed s rec) (nextSession agree
 abbrev pub takeOf : List ℕ → Session → List ℕ → TakeResult
 takeOf agreed s rec = takeResult (listAnswer agreed then takeAnswer agreed s rec) (nextSession agreed s rec) s
 
--- abandoning drops an open file and does nothing otherwise
+-- abandoning drops an open file, whose number is not remembered, and does nothing otherwise
 abbrev pub abandonOf : Session → Session
-abandonOf s = cond (s .opened) (closedAt (s .shown)) s
+abandonOf s = cond (s .opened) (closedAt (s .shown) (s .memory)) s
 
 -- finishing answers 19 while a file is open, else 0, and changes nothing
 abbrev pub finishOf : Session → TakeResult

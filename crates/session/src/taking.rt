@@ -1,13 +1,16 @@
 // One record at a time, in the order of SPEC.md, "Refusals".
 ghost use mathlib.Core.Path.{_≡_};
+ghost use lib.ListN.{length};
+ghost use Rattle.layout.specs.Layouts.{recordLength};
 ghost use Rattle.record.specs.Values.{decodedRecordUnder};
 ghost use Rattle.board.specs.Lanes.{laneOfOne};
-ghost use Rattle.session.specs.Sessions.{freshSession, openedAt, sessionTerms, sessionExpects, paymentResult};
-ghost use Rattle.session.specs.Sessions.{takeResult, postingResult, trailerResult, recordResult, takeUnder};
-ghost use Rattle.session.specs.Sessions.{takeOf, abandonOf, finishOf};
+ghost use Rattle.session.specs.Sessions.{closedAt, freshSession, sessionTerms, sessionExpects, paymentResult};
+ghost use Rattle.session.specs.Sessions.{postingResult, trailerResult, recordResult, takeUnder, takeOf};
+ghost use Rattle.session.specs.Sessions.{abandonOf, finishOf};
 use crate::Session;
 use crate::TakeResult;
 use crate::ends;
+use crate::opening;
 use answer::Answer;
 use answer::Reason;
 use barcode::Issuer;
@@ -16,6 +19,8 @@ use file::Figures;
 use file::File;
 use layout::MaybeRecord;
 use layout::Record;
+use pairs::Memory;
+use pairs::Pair;
 use record::Decoded;
 
 // Whether a record of this kind is expected: a header with no file open, a payment or a trailer in an open file.
@@ -33,16 +38,25 @@ fn is_expected(opened: bool, named: MaybeRecord) -> bool
 }
 
 impl Session {
-    // A fresh session: no file open and an empty board.
+    // No file open, this board shown and these numbers remembered.
+    fn closed_at(shown: Board, memory: Memory) -> Session
+        ensures { λ r. ⌜ r ≡ closedAt shown memory ⌝ }
+    {
+        Session {
+            shown,
+            work: shown,
+            opened: false,
+            file: File::new(0, false),
+            opening: Pair::none(),
+            memory,
+        }
+    }
+
+    // A fresh session: no file open, an empty board and no numbers.
     pub fn new() -> Self
         ensures { λ r. ⌜ r ≡ freshSession ⌝ }
     {
-        Session {
-            shown: Board::new(),
-            work: Board::new(),
-            opened: false,
-            file: File::new(0, false),
-        }
+        Self::closed_at(Board::new(), Memory::new())
     }
 
     // Takes a payment into the open file and onto the working board: 15, 16, 17, 18, the answer to what follows the
@@ -64,7 +78,13 @@ impl Session {
 
     // Posts a payment to the working board: 17, 18, the answer to what follows the record, or the session with it and
     // with `file`, the file that took it.
-    fn post_payment(self, issuer: Issuer, received: u64, file: File, ending: Answer) -> TakeResult
+    fn post_payment(
+        mut self,
+        issuer: Issuer,
+        received: u64,
+        file: File,
+        ending: Answer,
+    ) -> TakeResult
         ensures { λ r. ⌜ r ≡ postingResult self (laneOfOne issuer received) file ending ⌝ }
     {
         let work = self.work;
@@ -77,23 +97,19 @@ impl Session {
                 session: self,
             },
             Answer::Accepted => {
-                let shown = self.shown;
                 let after = posted.board;
+                self.work = after;
+                self.file = file;
                 TakeResult {
                     answer: a,
-                    session: Session {
-                        shown,
-                        work: after,
-                        opened: self.opened,
-                        file,
-                    },
+                    session: self,
                 }
             }
         }
     }
 
     // Closes the open file if its trailer shows these figures: 13, 14, the answer to what follows the record, or the
-    // session that shows the file's payments.
+    // session that shows the file's payments and remembers its number.
     fn take_trailer(self, shown: Figures, ending: Answer) -> TakeResult
         ensures { λ r. ⌜ r ≡ trailerResult self shown ending ⌝ }
     {
@@ -105,40 +121,10 @@ impl Session {
                 session: self,
             },
             Answer::Accepted => {
-                let work = self.work;
+                let memory = self.memory;
                 TakeResult {
                     answer: a,
-                    session: Session {
-                        shown: work,
-                        work,
-                        opened: false,
-                        file: File::new(0, false),
-                    },
-                }
-            }
-        }
-    }
-
-    // Opens a file with an accepted header, unless what follows it is refused. From `take` it never is: 22 is given in
-    // an open file alone, where no header is expected.
-    fn take_header(self, version: u64, lined: bool, ending: Answer) -> TakeResult
-        ensures { λ r. ⌜ r ≡ takeResult ending (openedAt (self .shown) version lined) self ⌝ }
-    {
-        match ending {
-            Answer::Refused(_, _) => TakeResult {
-                answer: ending,
-                session: self,
-            },
-            Answer::Accepted => {
-                let shown = self.shown;
-                TakeResult {
-                    answer: ending,
-                    session: Session {
-                        shown,
-                        work: shown,
-                        opened: true,
-                        file: File::new(version, lined),
-                    },
+                    session: Self::closed_at(self.work, memory.remember(self.opening)),
                 }
             }
         }
@@ -147,7 +133,8 @@ impl Session {
     // Takes the 150 bytes of a record whose kind is expected; `ended` is whether CR and LF follow it, and `ending` the
     // answer to what follows it. The record's own refusal, or what the session makes of it.
     fn take_expected(self, rec: &[u8], ended: bool, ending: Answer, agreed: &[u64]) -> TakeResult
-        ensures { λ r. ⌜ r ≡ recordResult self ended ending
+        requires { ⌜ length (now rec) ≡ recordLength ⌝ }
+        ensures { λ r. ⌜ r ≡ recordResult self ended ending (now (rec .entry))
             (decodedRecordUnder (sessionTerms (now (agreed .entry)) self) (now (rec .entry))) ⌝ }
     {
         match record::judged::decode(rec, self.file.version, agreed) {
@@ -155,7 +142,10 @@ impl Session {
                 answer: Answer::Refused(why, place),
                 session: self,
             },
-            Decoded::Header(h) => self.take_header(h.version, ended, ending),
+            Decoded::Header(h) => {
+                let opening = opening::pair_numbered(rec, h.sequence);
+                self.take_header(h.version, ended, opening, ending)
+            }
             Decoded::Payment(p) => self.take_payment(p.barcode.issuer, p.received, ending),
             Decoded::Trailer(t) => self.take_trailer(
                 Figures {
@@ -168,7 +158,7 @@ impl Session {
     }
 
     // Takes one record under a list of agreed issuers that was judged: the session with it, or the first refusal (1, 9,
-    // the record's own, then 13 to 18, then 22) and the session as it was.
+    // the record's own, then 13 to 18, 26 or 27, then 22) and the session as it was.
     pub(crate) fn take_judged(self, rec: &[u8], agreed: &[u64]) -> TakeResult
         ensures { λ r. ⌜ r ≡ takeUnder (now (agreed .entry)) self (now (rec .entry)) ⌝ }
     {
@@ -210,19 +200,13 @@ impl Session {
         }
     }
 
-    // The session without its open file: the board shown stays, and a header is expected. With no file open, the very
-    // same session, one in an arbitrary state included.
+    // The session without its open file: the board shown stays, the file's number is not remembered, and a header is
+    // expected. With no file open, the very same session, one in an arbitrary state included.
     pub fn abandon(self) -> Session
         ensures { λ r. ⌜ r ≡ abandonOf self ⌝ }
     {
         if self.opened {
-            let shown = self.shown;
-            return Session {
-                shown,
-                work: shown,
-                opened: false,
-                file: File::new(0, false),
-            };
+            return Self::closed_at(self.shown, self.memory);
         }
         self
     }

@@ -32,11 +32,11 @@ returns c =
 
 returns-2 : tie.Need-returns-2
 returns-2 c =
-    let chosen = c .before .before .before .before in
+    let chosen = c .before .before .before in
     let posted = chosen .before in
     let a = posted .before .before .args in
     let e = posted .post .ensures in
-    let told = c .before .before .enum-told2 .given .1 in
+    let told = c .before .enum-told2 .given .1 in
     let own : posted .post .result .answer ≡ Accepted =
     then-accepts (posted .post .result .answer) (a .ending) .0 (sym (chosen .first-refusal .ensures) ∙ told) .0 in
     took-next (a .self) (chosen .first-refusal .ensures ∙ ap (λ (r : PostResult). r .answer then a .ending) e) told

@@ -47,7 +47,10 @@ has-line-end-requires : tie.Need-has-line-end-requires
 has-line-end-requires c κs = search needs
 
 take-expected-requires : tie.Need-take-expected-requires
-take-expected-requires c κs = search needs
+take-expected-requires c κs =
+    let sized = c .before .before .before .before .before .before .before in
+    let fits = sized .before .fits-length .ensures .1 (not-false _ (sized .if1 .left)) in
+    length-take-le 150 (sized .before .before .before .before .args .rec .now) fits
 
 returns-3 : tie.Need-returns-3
 returns-3 c =

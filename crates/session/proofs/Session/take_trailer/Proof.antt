@@ -3,6 +3,7 @@ use mathlib.Core.Path.{ap, _∙_}
 use borrow.Author.Needs.{needs}
 use Rattle.answer.specs.declared.Answer.{Answer}
 use Rattle.answer.specs.Orders.{_then_}
+use Rattle.session.specs.Sessions.{closedAt}
 use Rattle.session.proofs.Steps.{took-refused, took-next}
 use Rattle.session.proofs.Session.take_trailer.Statement.{statement}
 use Rattle.session.proofs.Session.take_trailer.Tie as tie
@@ -19,8 +20,11 @@ enum-told c = search needs
 enum-told-2 : tie.Need-enum-told-2
 enum-told-2 c = search needs
 
-new-requires : tie.Need-new-requires
-new-requires c κs = search needs
+remember-requires : tie.Need-remember-requires
+remember-requires c κs = search needs
+
+closed-at-requires : tie.Need-closed-at-requires
+closed-at-requires c κs = search needs
 
 returns : tie.Need-returns
 returns c =
@@ -31,12 +35,13 @@ returns c =
 
 returns-2 : tie.Need-returns-2
 returns-2 c =
-    let chosen = c .before .before .before .before in
+    let told = c .before .before .before in
+    let chosen = told .before .before in
     let checked = chosen .before in
     let a = checked .before .before .args in
-    took-next (a .self) (chosen .first-refusal .ensures ∙ ap (λ (x : Answer). x then a .ending) (checked .check-trailer .ensures)) (c .before .before .enum-told2 .given .1) (rw (c .new .ensures))
+    took-next (a .self) (chosen .first-refusal .ensures ∙ ap (λ (x : Answer). x then a .ending) (checked .check-trailer .ensures)) (told .enum-told2 .given .1) (c .closed-at .ensures ∙ ap (closedAt (a .self .work)) (c .before .remember .ensures))
 
 pub take-trailer-spec : {M : Type 1} → statement M
 take-trailer-spec =
     tie.close
-    (tie.spec check-trailer-requires first-refusal-requires enum-told enum-told-2 new-requires returns returns-2)
+    (tie.spec check-trailer-requires first-refusal-requires enum-told enum-told-2 remember-requires closed-at-requires returns returns-2)
