@@ -23,7 +23,8 @@ use Rattle.file.specs.Forms.{inForm, bodyOf, hasLineEnd, fitsLength, endAnswer,
 use Rattle.file.proofs.Forms.{first-in, fitting-is-in-form}
 use Rattle.session.specs.declared.Session.{Session}
 use Rattle.session.specs.declared.TakeResult.{TakeResult}
-use Rattle.session.specs.Sessions.{openedAt, sessionTerms, sessionExpects, sessionWithPayment, sessionAnswer, sessionWith, takeAnswer, takeOf}
+use Rattle.pairs.specs.Pairs.{memoryAnswer}
+use Rattle.session.specs.Sessions.{openedAt, pairIn, sessionTerms, sessionExpects, sessionWithPayment, sessionAnswer, sessionWith, takeResult, takeAnswer, takeOf}
 use Rattle.ledger.specs.Ledgers.{laneOfRecord, headerTerms, taking}
 use Rattle.ledger.specs.Promises.{answersOf}
 use Rattle.ledger.specs.WholeFiles.{IsRight, allInForm, AllAccepted, AcceptedFileIsWhole}
@@ -34,7 +35,7 @@ use Rattle.ledger.proofs.WholeFiles.{taken, right-under-any-terms}
 pub record TakenRight (agreed : List ℕ) (s : Session) (rec : List ℕ) : Type 0 where
   pub list : RightList agreed
   pub own : recordAnswer (sessionTerms agreed s) (bodyOf rec) ≡ Accepted
-  pub state : sessionAnswer s (shownUnlessRefused (recordAnswer (sessionTerms agreed s) (bodyOf rec)) (recordShown agreed (namedBy (getD (bodyOf rec) 0 0)) (bodyOf rec))) ≡ Accepted
+  pub state : sessionAnswer s (bodyOf rec) (shownUnlessRefused (recordAnswer (sessionTerms agreed s) (bodyOf rec)) (recordShown agreed (namedBy (getD (bodyOf rec) 0 0)) (bodyOf rec))) ≡ Accepted
   pub expected : sessionExpects (s .opened) (namedBy (getD rec 0 0)) ≡ true
   pub long : length (bodyOf rec) ≡ recordLength
   pub form : rec ≡ inForm (isTakenLined (s .opened) (s .file .lined) rec) (bodyOf rec)
@@ -47,11 +48,11 @@ taken-right agreed s rec e =
     let judged = then-accepts (listAnswer agreed) (takeAnswer agreed s rec) .0 e in
     let fits = passed (fitsLength (s .opened) (s .file .lined) rec) WrongLength 0 (judged .1) in
     let met = passed (sessionExpects (s .opened) (namedBy (getD rec 0 0))) NotExpected 1 (fits .1) in
-    let both = then-accepts (sessionAnswer s (shownUnlessRefused own shown)) (endAnswer (s .opened) (s .file .lined) rec) .0 (met .1) in
+    let both = then-accepts (sessionAnswer s body (shownUnlessRefused own shown)) (endAnswer (s .opened) (s .file .lined) rec) .0 (met .1) in
     let form = fitting-is-in-form (s .opened) (s .file .lined) rec .0 (fits .0, both .1) in
     record {
       list = judged .0;
-      own = own-accepts s own shown (both .0);
+      own = own-accepts s body own shown (both .0);
       state = both .0;
       expected = met .0;
       long = form .0;
@@ -86,9 +87,9 @@ rest-right agreed version lined z last (rec ∷ recs) s h opened form under e =
     let shown = recordShown agreed (Is Payment) body in
     let in-form : rec ≡ inForm lined body = rw (opened, form) at (own .form) in
     let takes = ap (takeOf agreed s) in-form ∙ taken agreed (own .list) s lined Payment body right opened (λ x. sym form) in
-    let accepts : sessionAnswer s shown ≡ Accepted = sym (ap (λ (x : TakeResult). x .answer) takes) ∙ e .0 in
+    let accepts : sessionAnswer s body shown ≡ Accepted = sym (ap (λ (x : TakeResult). x .answer) takes) ∙ e .0 in
     let next : takeOf agreed s rec .session ≡ sessionWithPayment s (laneOfRecord body) =
-    ap (λ (x : TakeResult). x .session) takes ∙ accepted-takes (sessionAnswer s shown) (sessionWith s lined shown) s accepts in
+    ap (λ (x : TakeResult). x .session) takes ∙ accepted-takes (sessionAnswer s body shown) (sessionWith s lined body shown) s accepts in
     let later = rest-right agreed version lined z last recs (sessionWithPayment s (laneOfRecord body)) (h .1) opened form under (rw next at (e .1)) in
     ((rw under at right, later .0), later .1, ap₂ (λ (x : List ℕ) (l : List (List ℕ)). x ∷ l) in-form (later .2))
 
@@ -100,10 +101,12 @@ accepted-file-is-whole agreed s a recs z closed payments last e =
     let named : namedBy (getD a 0 0) ≡ Is Header = header-expected (namedBy (getD a 0 0)) (rw closed at (own .expected)) in
     let right = right-body agreed s Header a own named in
     let in-form : a ≡ inForm lined body = rw closed at (own .form) in
-    let start = openedAt (s .shown) (versionIn body) lined in
-    let takes : takeOf agreed s a ≡ record { answer = Accepted; session = start } =
+    let start = openedAt (s .shown) (s .memory) (versionIn body) lined (pairIn body) in
+    let checked = memoryAnswer (s .memory) (pairIn body) in
+    let takes : takeOf agreed s a ≡ takeResult checked start s =
     ap (takeOf agreed s) in-form ∙ taken agreed (own .list) s lined Header body right (ap not closed) (λ x. unequal x closed) in
-    let next : takeOf agreed s a .session ≡ start = ap (λ (x : TakeResult). x .session) takes in
+    let passes : checked ≡ Accepted = sym (ap (λ (x : TakeResult). x .answer) takes) ∙ e .0 in
+    let next : takeOf agreed s a .session ≡ start = ap (λ (x : TakeResult). x .session) takes ∙ accepted-takes checked start s passes in
     let later = rest-right agreed (versionIn body) lined z last recs start payments refl refl refl (rw next at (e .1)) in (
       record {
         list = own .list;

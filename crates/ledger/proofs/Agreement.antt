@@ -1,5 +1,5 @@
 -- A session and the ledger agree at first and after every step, so their answers are equal. Assumes nothing.
-use Prim.Native.Nat.{ℕ, _+_}
+use Prim.Native.Nat.{ℕ, _+_, _≤_}
 use mathlib.Core.Bool.{Bool, true, false, not, false≢true}
 use mathlib.Core.List.{List, [], _∷_, _++_, append-assoc, append-nil}
 use mathlib.Core.Option.{Option, none, some}
@@ -14,7 +14,7 @@ use Rattle.answer.specs.declared.Answer.the-variants.{Accepted, Refused}
 use Rattle.answer.specs.Orders.{require, _then_, ifAccepted}
 use Rattle.answer.proofs.Orders.{not-both, then-accepts, then-groups}
 use Rattle.answer.proofs.Steps.{passed}
-use Rattle.answer.proofs.Tests.{split}
+use Rattle.answer.proofs.Tests.{never, split}
 use Rattle.layout.specs.declared.MaybeRecord.{MaybeRecord}
 use Rattle.layout.specs.declared.MaybeRecord.the-variants.{Is, Other}
 use Rattle.layout.specs.declared.Record.the-variants.{Header, Payment, Trailer}
@@ -32,11 +32,16 @@ use Rattle.board.specs.Boards.{lanesOf, postAnswer, SoundBoard}
 use Rattle.board.proofs.Lanes.{one-payment-more}
 use Rattle.board.proofs.Posting.{fit, with-sound, post-places, stays-sound}
 use Rattle.board.proofs.Boards.{answers-as-payments}
+use Rattle.pairs.specs.declared.Memory.{Memory}
+use Rattle.pairs.specs.Pairs.{mostPairs, pairAnswer, remembering, pairsOf, memoryAnswer, memoryWith, hasRoomFor}
+use Rattle.pairs.proofs.Searches.{in-use}
+use Rattle.pairs.proofs.Memories.{pair-accepted, pair-is-remembered, with-length}
 use Rattle.session.specs.declared.Session.{Session}
-use Rattle.session.specs.Sessions.{freshSession, openedAt, closedAt, sessionTerms, sessionExpects, figuresIn, payAnswer, sessionWithPayment, sessionAnswer, sessionWith, takeAnswer, nextSession, takeOf, abandonOf}
-use Rattle.ledger.specs.Ledgers.{Opened, Filed, Ledger, freshLedger, paymentRecords, openRecords, laneOfRecord, lanesOfRecords, receivedBy, receivedIn, limitsAnswer, isOpen, isOpenLined, ledgerExpects, openVersion, ledgerTerms, filedWith, paymentStateAnswer, trailerStateAnswer, stateAnswer, ledgerAnswer, ledgerCheck, withRecord, nextLedger, Step, taking, abandoning, ledgerStep, ledgerAfter, ledgerAnswers}
-use Rattle.ledger.specs.Promises.{sessionStep, sessionAfter, answersOf, allRecords, Agrees, SessionAgrees, AnswersAreTheLedgers, NextAnswerIsTheLedgers}
-use Rattle.ledger.proofs.Records.{lanes-joined, limits-are-the-boards}
+use Rattle.session.specs.Sessions.{freshSession, openedAt, closedAt, pairIn, sessionTerms, sessionExpects, figuresIn, payAnswer, sessionWithPayment, sessionClosed, sessionAnswer, sessionWith, takeAnswer, nextSession, takeOf, abandonOf}
+use Rattle.ledger.specs.Ledgers.{Opened, Filed, Ledger, freshLedger, paymentRecords, openRecords, laneOfRecord, lanesOfRecords, receivedBy, receivedIn, limitsAnswer, isOpen, isOpenLined, ledgerExpects, openVersion, ledgerTerms, filedWith, paymentStateAnswer, trailerStateAnswer, headerStateAnswer, stateAnswer, ledgerAnswer, ledgerCheck, withRecord, nextLedger, Step, taking, abandoning, ledgerStep, ledgerAfter, ledgerAnswers}
+use Rattle.ledger.specs.Promises.{sessionStep, sessionAfter, answersOf, openPair, remembered, allRecords, Agrees, SessionAgrees, AnswersAreTheLedgers, NextAnswerIsTheLedgers}
+use Rattle.ledger.proofs.Records.{records-joined, received-joined, lanes-joined, limits-are-the-boards}
+use Rattle.ledger.proofs.Headers.{remembered-joined, header-answer}
 
 -- The answers.
 
@@ -60,10 +65,17 @@ module _ (agreed : List ℕ) (s : Session) (files : List Filed) (rec : List ℕ)
   unfolding figuresAnswer
   trailer-answer f h = rw (h .taken, h .total)
 
+  opening-answer : (o : Option Opened) → Agrees s (record { accepted = files; opened = o })
+      → memoryAnswer (s .memory) (pairIn rec) ≡ headerStateAnswer files rec
+  opening-answer o h =
+      let few : length (remembered files) ≤ mostPairs =
+      omega (arith, ap length (h .memory), in-use (s .memory) (h .whole)) in
+      ap (λ qs. pairAnswer qs (pairIn rec)) (h .memory) ∙ header-answer files rec few
+
   record-answer : (o : Option Opened) (n : MaybeRecord) (a : Answer) → Agrees s (record { accepted = files; opened = o })
-      → require (sessionExpects (s .opened) n) NotExpected 1 then sessionAnswer s (shownUnlessRefused a (recordShown agreed n rec))
+      → require (sessionExpects (s .opened) n) NotExpected 1 then sessionAnswer s rec (shownUnlessRefused a (recordShown agreed n rec))
       ≡ require (ledgerExpects o n) NotExpected 1 then a then stateAnswer files o n rec
-  record-answer none (Is Header) Accepted h = rw (h .opened)
+  record-answer none (Is Header) Accepted h = rw (h .opened) (opening-answer none h)
   record-answer none (Is Header) (Refused why p) h = rw (h .opened)
   record-answer none (Is Payment) a h = rw (h .opened)
   record-answer none (Is Trailer) a h = rw (h .opened)
@@ -84,7 +96,7 @@ answer-agrees agreed s k rec h =
     let own = recordAnswer (ledgerTerms agreed (k .opened)) body in
     let state = stateAnswer (k .accepted) (k .opened) n body in
     let ending = endAnswer (s .opened) (s .file .lined) rec in
-    let shown = sessionAnswer s (shownUnlessRefused own (recordShown agreed n body)) in
+    let shown = sessionAnswer s body (shownUnlessRefused own (recordShown agreed n body)) in
     let expects = require (sessionExpects (s .opened) n) NotExpected 1 in
     let met = require (ledgerExpects (k .opened) n) NotExpected 1 in
     let same : expects then (shown then ending) ≡ met then (own then (state then ending)) =
@@ -97,27 +109,18 @@ answer-agrees agreed s k rec h =
 pub check-agrees : (agreed : List ℕ) (s : Session) (k : Ledger) (rec : List ℕ) → Agrees s k → takeOf agreed s rec .answer ≡ ledgerCheck agreed k rec
 check-agrees agreed s k rec h = ap (λ (a : Answer). listAnswer agreed then a) (answer-agrees agreed s k rec h)
 
--- The records of a ledger, one more at the end.
-
-records-joined : (files : List Filed) (f : Filed)
-    → paymentRecords (files ++ (f ∷ [])) ≡ paymentRecords files ++ f .payments
-records-joined [] f = append-nil (f .payments)
-records-joined (g ∷ files) f =
-    ap (λ (recs : List (List ℕ)). g .payments ++ recs) (records-joined files f) ∙
-    sym (append-assoc (g .payments) (paymentRecords files) (f .payments))
-
-pub received-joined : (recs : List (List ℕ)) (rec : List ℕ)
-    → receivedIn (recs ++ (rec ∷ [])) ≡ receivedIn recs + receivedBy rec
-received-joined [] rec = omega arith
-received-joined (r ∷ recs) rec = omega (arith, received-joined recs rec)
-
 -- The session that follows.
 
--- both boards are those of the accepted files
-at-rest : (b : Board) (files : List Filed) (o : Option Opened)
-    → lanesOf b ≡ lanesFrom (lanesOfRecords (paymentRecords files)) → SoundBoard b → openRecords o ≡ []
-    → Agrees (record { shown = b; work = b; opened = isOpen o; file = freshFile (openVersion o) (isOpenLined o) }) (record { accepted = files; opened = o })
-at-rest b files o e sound none-yet =
+-- both boards and the memory are those of the accepted files
+record Remembers (m : Memory) (files : List Filed) : Type 0 where
+  memory : pairsOf m ≡ remembered files
+  whole : length (m .pairs) ≡ mostPairs
+
+at-rest : (b : Board) (m : Memory) (files : List Filed) (o : Option Opened)
+    → lanesOf b ≡ lanesFrom (lanesOfRecords (paymentRecords files)) → SoundBoard b → Remembers m files
+    → (isOpen o ≡ true → hasRoomFor m (openPair o) ≡ true) → openRecords o ≡ []
+    → Agrees (record { shown = b; work = b; opened = isOpen o; file = freshFile (openVersion o) (isOpenLined o); opening = openPair o; memory = m }) (record { accepted = files; opened = o })
+at-rest b m files o e sound remembers room none-yet =
     record {
       opened = refl;
       shown = e;
@@ -126,23 +129,46 @@ at-rest b files o e sound none-yet =
       total = rw none-yet;
       version = refl;
       lined = refl;
+      opening = refl;
+      memory = remembers .memory;
+      whole = remembers .whole;
+      room = room;
       soundShown = sound;
       soundWork = sound;
     }
 
 module _ (agreed : List ℕ) (s : Session) (files : List Filed) (ended : Bool) (rec : List ℕ) where
+  remembers : (o : Option Opened) → Agrees s (record { accepted = files; opened = o }) → Remembers (s .memory) files
+  remembers o h = record { memory = h .memory; whole = h .whole }
+
   opens : (o : Option Opened) → Agrees s (record { accepted = files; opened = o })
-      → Agrees (openedAt (s .shown) (versionIn rec) ended) (withRecord files none (Is Header) ended rec)
-  opens o h =
-      at-rest (s .shown) files (some (record { header = rec; payments = []; lined = ended })) (h .shown) (h .soundShown) refl
+      → memoryAnswer (s .memory) (pairIn rec) ≡ Accepted
+      → Agrees (openedAt (s .shown) (s .memory) (versionIn rec) ended (pairIn rec)) (withRecord files none (Is Header) ended rec)
+  opens o h e =
+      let room = pair-accepted (s .memory) (pairIn rec) .0 e .1 in
+      at-rest (s .shown) (s .memory) files (some (record { header = rec; payments = []; lined = ended })) (h .shown) (h .soundShown) (remembers o h) (λ t. room) refl
 
   drops : (o : Option Opened) → Agrees s (record { accepted = files; opened = o })
-      → Agrees (closedAt (s .shown)) (record { accepted = files; opened = none })
-  drops o h = at-rest (s .shown) files none (h .shown) (h .soundShown) refl
+      → Agrees (closedAt (s .shown) (s .memory)) (record { accepted = files; opened = none })
+  drops o h = at-rest (s .shown) (s .memory) files none (h .shown) (h .soundShown) (remembers o h) never refl
 
   module _ (f : Opened) (h : Agrees s (record { accepted = files; opened = some f })) where
-    closes : Agrees (closedAt (s .work)) (withRecord files (some f) (Is Trailer) ended rec)
-    closes = at-rest (s .work) (files ++ (filedWith f rec ∷ [])) none (rw (records-joined files (filedWith f rec)) (h .work)) (h .soundWork) refl
+    -- the open file's number is remembered
+    remembers-file : Remembers (memoryWith (s .memory) (s .opening)) (files ++ (filedWith f rec ∷ []))
+    remembers-file =
+        record {
+          memory =
+              pair-is-remembered (s .memory) (s .opening) (h .whole) (h .room (h .opened)) .0
+              ∙ ap₂ remembering (h .opening) (h .memory)
+              ∙ sym (remembered-joined files (filedWith f rec));
+          whole = with-length (s .memory) (s .opening) ∙ h .whole;
+        }
+
+    closes : Agrees (sessionClosed s) (withRecord files (some f) (Is Trailer) ended rec)
+    closes =
+        at-rest (s .work) (memoryWith (s .memory) (s .opening)) (files ++ (filedWith f rec ∷ [])) none
+        (rw (records-joined files (filedWith f rec ∷ []), append-nil (f .payments)) (h .work)) (h .soundWork)
+        remembers-file never refl
 
     more : allRecords (withRecord files (some f) (Is Payment) ended rec) ≡ (paymentRecords files ++ f .payments) ++ (rec ∷ [])
     more = sym (append-assoc (paymentRecords files) (f .payments) (rec ∷ []))
@@ -167,6 +193,10 @@ module _ (agreed : List ℕ) (s : Session) (files : List Filed) (ended : Bool) (
           total = omega (arith, h .total, received-joined (f .payments) rec);
           version = h .version;
           lined = h .lined;
+          opening = h .opening;
+          memory = h .memory;
+          whole = h .whole;
+          room = h .room;
           soundShown = h .soundShown;
           soundWork =
               with-sound (s .work) (laneOfRecord rec) (h .soundWork) (fit (s .work) (laneOfRecord rec) .0 posted);
@@ -174,11 +204,11 @@ module _ (agreed : List ℕ) (s : Session) (files : List Filed) (ended : Bool) (
 
   followed : (o : Option Opened) (n : MaybeRecord) (a : Answer) → Agrees s (record { accepted = files; opened = o })
       → sessionExpects (s .opened) n ≡ true
-      → sessionAnswer s (shownUnlessRefused a (recordShown agreed n rec)) ≡ Accepted
-      → Agrees (sessionWith s ended (shownUnlessRefused a (recordShown agreed n rec))) (withRecord files o n ended rec)
+      → sessionAnswer s rec (shownUnlessRefused a (recordShown agreed n rec)) ≡ Accepted
+      → Agrees (sessionWith s ended rec (shownUnlessRefused a (recordShown agreed n rec))) (withRecord files o n ended rec)
   followed o n (Refused why p) h x e = not-both _ refl e
   followed o Other Accepted h x e = absurd (false≢true x)
-  followed none (Is Header) Accepted h x e = opens none h
+  followed none (Is Header) Accepted h x e = opens none h e
   followed none (Is Payment) Accepted h x e = absurd (false≢true (sym (h .opened) ∙ x))
   followed none (Is Trailer) Accepted h x e = absurd (false≢true (sym (h .opened) ∙ x))
   followed (some f) (Is Header) Accepted h x e = absurd (false≢true (sym (ap not (h .opened)) ∙ x))
@@ -207,7 +237,7 @@ take-agrees agreed s k rec h = rw (← check-agrees agreed s k rec h) (go (listA
         let fits = passed (fitsLength (s .opened) (s .file .lined) rec) WrongLength 0 took .1 in
         let met = passed (sessionExpects (s .opened) n) NotExpected 1 fits in
         let accepts =
-        then-accepts (sessionAnswer s (decodedRecordUnder (sessionTerms agreed s) (bodyOf rec))) (endAnswer (s .opened) (s .file .lined) rec) .0 (met .1) .0 in
+        then-accepts (sessionAnswer s (bodyOf rec) (decodedRecordUnder (sessionTerms agreed s) (bodyOf rec))) (endAnswer (s .opened) (s .file .lined) rec) .0 (met .1) .0 in
         rw (first-in rec)
         (followed agreed s (k .accepted) (hasLineEnd rec) (bodyOf rec) (k .opened) n own h (met .0) (rw (first-in rec) at accepts))
 
@@ -232,7 +262,21 @@ answers-agree (abandoning ∷ steps) s k h =
 
 pub fresh-agrees : Agrees freshSession freshLedger
 fresh-agrees =
-    record { opened = refl; shown = refl; work = refl; taken = refl; total = refl; version = refl; lined = refl; soundShown = stays-sound .0; soundWork = stays-sound .0 }
+    record {
+      opened = refl;
+      shown = refl;
+      work = refl;
+      taken = refl;
+      total = refl;
+      version = refl;
+      lined = refl;
+      opening = refl;
+      memory = refl;
+      whole = refl;
+      room = never;
+      soundShown = stays-sound .0;
+      soundWork = stays-sound .0;
+    }
 
 pub session-agrees : SessionAgrees
 session-agrees steps = steps-agree steps freshSession freshLedger fresh-agrees

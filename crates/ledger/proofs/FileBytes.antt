@@ -26,7 +26,8 @@ use Rattle.file.proofs.Forms.{length-in, ended-in, not-ended}
 use Rattle.board.specs.Boards.{boardWithAll}
 use Rattle.session.specs.declared.Session.{Session}
 use Rattle.session.specs.declared.RunResult.{RunResult}
-use Rattle.session.specs.Sessions.{closedAt, sessionTerms, takeAnswer, nextSession, takeUnder, takeOf}
+use Rattle.pairs.specs.Pairs.{memoryWith}
+use Rattle.session.specs.Sessions.{closedAt, pairIn, sessionTerms, takeAnswer, nextSession, takeUnder, takeOf}
 use Rattle.session.specs.Runs.{pieceLength, pieceOf, piecesOf, filesClosed, addCounts, stoppedIfRefused, runAll, bytesOf}
 use Rattle.session.proofs.Runs.{pieces-cons}
 use Rattle.session.proofs.Feeding.{run-right}
@@ -97,7 +98,7 @@ pieces-are-the-records agreed s lined (rec ∷ recs) form h =
     keeps Accepted e =
         let d = decodedRecordUnder (sessionTerms agreed s) rec in
         let next = next-in agreed s lined rec (h .0 .0) (λ x. sym (form x)) in
-        rw next (sym (keeps-form s lined d (λ x. sym (form x)) (rw next at e)))
+        rw next (sym (keeps-form s lined rec d (λ x. sym (form x)) (rw next at e)))
 
 -- Records that are all accepted.
 
@@ -153,20 +154,26 @@ one-closed : (lined : Bool) (t : Terms) (recs : List (List ℕ)) (z : List ℕ) 
 one-closed lined t [] z h right = omega (arith, closes lined t Trailer z right)
 one-closed lined t (rec ∷ recs) z h right = omega (arith, closes lined t Payment rec (h .0), one-closed lined t recs z (h .1) right)
 
+-- with no file open, the pieces of a file's bytes are its records
+pub file-pieces : (agreed : List ℕ) (s : Session) (lined : Bool) (t : Terms) (a : List ℕ) (recs : List (List ℕ)) (z : List ℕ) → s .opened ≡ false
+    → IsRight t Header a → Each (IsRight t Payment) recs → IsRight t Trailer z
+    → let all = allInForm lined (recordsOf a recs z) in piecesOf agreed s false (bytesOf all) ≡ all
+file-pieces agreed s lined t a recs z none-open first payments last =
+    pieces-are-the-records agreed s lined (recordsOf a recs z) (λ x. unequal x none-open)
+    (joins lined t Header a first, all-join lined t recs z payments last)
+
 pub file-bytes-run : FileBytesRun
 file-bytes-run agreed s lined a recs z none-open whole e =
     let t = headerTerms agreed a in
     let records = recordsOf a recs z in
     let all = allInForm lined records in
-    let pieces =
-    pieces-are-the-records agreed s lined records (λ x. unequal x none-open)
-    (joins lined t Header a (whole .header), all-join lined t recs z (whole .payments) (whole .trailer)) in
-    let left : sessionAfter s (map (taking agreed) all) ≡ closedAt (boardWithAll (s .shown) (lanesOfRecords recs)) =
-    file-posted agreed s lined a recs z none-open whole e in
+    let pieces = file-pieces agreed s lined t a recs z none-open (whole .header) (whole .payments) (whole .trailer) in
+    let after = closedAt (boardWithAll (s .shown) (lanesOfRecords recs)) (memoryWith (s .memory) (pairIn a)) in
+    let left : sessionAfter s (map (taking agreed) all) ≡ after = file-posted agreed s lined a recs z none-open whole e in
     let count : length all ≡ length recs + 2 = as-many lined records ∙ omega (arith, length-append recs (z ∷ [])) in
     let closed : closedIn all ≡ 1 =
     omega (arith, closes lined t Header a (whole .header), one-closed lined t recs z (whole .payments) (whole .trailer)) in
     run-right agreed s false (bytesOf all) (whole .list)
     ∙ ap (runAll agreed s) pieces ∙ run-accepted agreed all s e
     ∙ ap (λ (x : Session). taken x (length all) (closedIn all) (length (bytesOf all))) left
-    ∙ ap₂ (λ (n c : ℕ). taken (closedAt (boardWithAll (s .shown) (lanesOfRecords recs))) n c (length (bytesOf all))) count closed
+    ∙ ap₂ (λ (n c : ℕ). taken after n c (length (bytesOf all))) count closed

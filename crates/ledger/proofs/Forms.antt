@@ -33,15 +33,15 @@ use Rattle.ledger.proofs.AcceptedFiles.{taken-right}
 abbrev bodyAnswer : List ℕ → Session → List ℕ → Answer
 bodyAnswer agreed s rec =
     require (sessionExpects (s .opened) (namedBy (getD rec 0 0))) NotExpected 1
-    then sessionAnswer s (decodedRecordUnder (sessionTerms agreed s) rec)
+    then sessionAnswer s rec (decodedRecordUnder (sessionTerms agreed s) rec)
 
 -- of a record in the form of the open file, nothing else decides
 module _ (agreed : List ℕ) (s : Session) (lined : Bool) (rec : List ℕ) (n : length rec ≡ recordLength) (form : s .opened ≡ true → lined ≡ s .file .lined) where
   pub answer-in : takeAnswer agreed s (inForm lined rec) ≡ bodyAnswer agreed s rec
   answer-in =
-      rw (fits-in (s .opened) (s .file .lined) rec n lined form, ends-in (s .opened) (s .file .lined) rec n lined form, first-of lined rec n, body-in rec n lined, then-accepted (sessionAnswer s (decodedRecordUnder (sessionTerms agreed s) rec)))
+      rw (fits-in (s .opened) (s .file .lined) rec n lined form, ends-in (s .opened) (s .file .lined) rec n lined form, first-of lined rec n, body-in rec n lined, then-accepted (sessionAnswer s rec (decodedRecordUnder (sessionTerms agreed s) rec)))
 
-  pub next-in : nextSession agreed s (inForm lined rec) ≡ sessionWith s lined (decodedRecordUnder (sessionTerms agreed s) rec)
+  pub next-in : nextSession agreed s (inForm lined rec) ≡ sessionWith s lined rec (decodedRecordUnder (sessionTerms agreed s) rec)
   next-in = rw (body-in rec n lined, ended-in rec n lined)
 
 -- bare, with nothing behind it
@@ -50,28 +50,29 @@ bare-answer : (agreed : List ℕ) (s : Session) (rec : List ℕ) → length rec 
 bare-answer agreed s rec n form = ap (takeAnswer agreed s) (sym (append-nil rec)) ∙ answer-in agreed s false rec n form
 
 bare-next : (agreed : List ℕ) (s : Session) (rec : List ℕ) → length rec ≡ recordLength → (s .opened ≡ true → false ≡ s .file .lined)
-    → nextSession agreed s rec ≡ sessionWith s false (decodedRecordUnder (sessionTerms agreed s) rec)
+    → nextSession agreed s rec ≡ sessionWith s false rec (decodedRecordUnder (sessionTerms agreed s) rec)
 bare-next agreed s rec n form = ap (nextSession agreed s) (sym (append-nil rec)) ∙ next-in agreed s false rec n form
 
 -- The form of the open file decides nothing else.
 
-state-bare : (s : Session) (d : Decoded) → sessionAnswer s d ≡ sessionAnswer (asBare s) d
+state-bare : (s : Session) (rec : List ℕ) (d : Decoded) → sessionAnswer s rec d ≡ sessionAnswer (asBare s) rec d
 unfolding fileAnswer figuresAnswer
-state-bare s (decoded.Header h) = refl
-state-bare s (decoded.Payment p) = refl
-state-bare s (decoded.Trailer t) = refl
-state-bare s (decoded.Refused why place) = refl
+state-bare s rec (decoded.Header h) = refl
+state-bare s rec (decoded.Payment p) = refl
+state-bare s rec (decoded.Trailer t) = refl
+state-bare s rec (decoded.Refused why place) = refl
 
 answer-bare : (agreed : List ℕ) (s : Session) (rec : List ℕ) → bodyAnswer agreed s rec ≡ bodyAnswer agreed (asBare s) rec
 answer-bare agreed s rec =
     ap (λ (a : Answer). require (sessionExpects (s .opened) (namedBy (getD rec 0 0))) NotExpected 1 then a)
-    (state-bare s (decodedRecordUnder (sessionTerms agreed s) rec))
+    (state-bare s rec (decodedRecordUnder (sessionTerms agreed s) rec))
 
-next-bare : (s : Session) (ended : Bool) (d : Decoded) → asBare (sessionWith s ended d) ≡ asBare (sessionWith (asBare s) false d)
-next-bare s ended (decoded.Header h) = refl
-next-bare s ended (decoded.Payment p) = refl
-next-bare s ended (decoded.Trailer t) = refl
-next-bare s ended (decoded.Refused why place) = refl
+next-bare : (s : Session) (ended : Bool) (rec : List ℕ) (d : Decoded)
+    → asBare (sessionWith s ended rec d) ≡ asBare (sessionWith (asBare s) false rec d)
+next-bare s ended rec (decoded.Header h) = refl
+next-bare s ended rec (decoded.Payment p) = refl
+next-bare s ended rec (decoded.Trailer t) = refl
+next-bare s ended rec (decoded.Refused why place) = refl
 
 -- Two sessions that are equal but for the form: the file that is open in the first is lined, in the second bare.
 record Twins (s u : Session) : Type 0 where
@@ -79,19 +80,21 @@ record Twins (s u : Session) : Type 0 where
   lined : s .opened ≡ true → true ≡ s .file .lined
   bare : u .opened ≡ true → false ≡ u .file .lined
 
-pub keeps-form : (s : Session) (ended : Bool) (d : Decoded) → (s .opened ≡ true → ended ≡ s .file .lined)
-    → sessionWith s ended d .opened ≡ true → ended ≡ sessionWith s ended d .file .lined
-keeps-form s ended (decoded.Header h) form e = refl
-keeps-form s ended (decoded.Payment p) form e = form e
-keeps-form s ended (decoded.Trailer t) form e = never e
-keeps-form s ended (decoded.Refused why place) form e = form e
+pub keeps-form : (s : Session) (ended : Bool) (rec : List ℕ) (d : Decoded) → (s .opened ≡ true → ended ≡ s .file .lined)
+    → sessionWith s ended rec d .opened ≡ true → ended ≡ sessionWith s ended rec d .file .lined
+keeps-form s ended rec (decoded.Header h) form e = refl
+keeps-form s ended rec (decoded.Payment p) form e = form e
+keeps-form s ended rec (decoded.Trailer t) form e = never e
+keeps-form s ended rec (decoded.Refused why place) form e = form e
 
-twins-next : (s u : Session) (d : Decoded) → Twins s u → Twins (sessionWith s true d) (sessionWith u false d)
-twins-next s u d h =
+twins-next : (s u : Session) (rec : List ℕ) (d : Decoded) → Twins s u → Twins (sessionWith s true rec d) (sessionWith u false rec d)
+twins-next s u rec d h =
     record {
-      same = next-bare s true d ∙ ap (λ (x : Session). asBare (sessionWith x false d)) (h .same) ∙ sym (next-bare u false d);
-      lined = keeps-form s true d (h .lined);
-      bare = keeps-form u false d (h .bare);
+      same =
+          next-bare s true rec d ∙ ap (λ (x : Session). asBare (sessionWith x false rec d)) (h .same)
+          ∙ sym (next-bare u false rec d);
+      lined = keeps-form s true rec d (h .lined);
+      bare = keeps-form u false rec d (h .bare);
     }
 
 -- one record
@@ -108,8 +111,8 @@ module _ (agreed : List ℕ) (s u : Session) (h : Twins s u) (rec : List ℕ) (n
   twins-left (Refused why p) = h
   twins-left Accepted =
       let d = decodedRecordUnder (sessionTerms agreed u) rec in
-      let lined : nextSession agreed s (inForm true rec) ≡ sessionWith s true d = next-in agreed s true rec n (h .lined) ∙ rw one-terms in
-      rw (lined, bare-next agreed u rec n (h .bare)) (twins-next s u d h)
+      let lined : nextSession agreed s (inForm true rec) ≡ sessionWith s true rec d = next-in agreed s true rec n (h .lined) ∙ rw one-terms in
+      rw (lined, bare-next agreed u rec n (h .bare)) (twins-next s u rec d h)
 
   twins-taken : Twins (takeOf agreed s (inForm true rec) .session) (takeOf agreed u rec .session)
   twins-taken = rw one-answer (twins-left (takeOf agreed u rec .answer))

@@ -10,29 +10,28 @@ use borrow.Author.Tests.{ltb-true, leb-true}
 use lib.Dec.{ltb, leb}
 use lib.ListN.{length, getD, length-append}
 use Rattle.answer.specs.Refusals.{receivedPlace}
-use Rattle.answer.specs.declared.Reason.the-variants.{WrongLength, NotExpected, FileFull, FileTotalPassed}
-use Rattle.answer.specs.declared.Answer.{Answer}
-use Rattle.answer.specs.declared.Answer.the-variants.{Accepted, Refused}
-use Rattle.answer.specs.Orders.{_then_, ifAccepted, Each}
-use Rattle.answer.proofs.Orders.{then-accepts}
+use Rattle.answer.specs.declared.Reason.the-variants.{FileFull, FileTotalPassed}
+use Rattle.answer.specs.declared.Answer.the-variants.{Accepted}
+use Rattle.answer.specs.Orders.{Each}
 use Rattle.answer.proofs.Steps.{passed}
 use Rattle.layout.specs.declared.MaybeRecord.{MaybeRecord}
 use Rattle.layout.specs.declared.MaybeRecord.the-variants.{Is, Other}
 use Rattle.layout.specs.declared.Record.the-variants.{Header, Payment, Trailer}
 use Rattle.layout.specs.Layouts.{namedBy}
-use Rattle.barcode.specs.Agreed.{listAnswer}
 use Rattle.barcode.proofs.Lists.{empty-is-right}
 use Rattle.kinds.specs.Terms.{told, isVersion}
 use Rattle.record.specs.Records.{recordAnswer}
-use Rattle.record.proofs.Shown.{without-list, header-version}
+use Rattle.record.proofs.Shown.{header-version}
 use Rattle.file.specs.declared.File.{File}
 use Rattle.file.specs.Files.{mostPayments, mostCentavos, noFile}
-use Rattle.file.specs.Forms.{bodyOf, hasLineEnd, fitsLength, endAnswer}
+use Rattle.file.specs.Forms.{bodyOf, hasLineEnd}
 use Rattle.file.proofs.Forms.{first-in}
-use Rattle.ledger.specs.Ledgers.{Opened, Filed, Ledger, freshLedger, openRecords, receivedBy, receivedIn, isOpen, isOpenLined, ledgerExpects, headerTerms, openVersion, ledgerTerms, stateAnswer, ledgerAnswer, ledgerCheck, filedWith, withRecord, nextLedger, Step, taking, abandoning, ledgerStep, ledgerAfter}
+use Rattle.ledger.specs.Ledgers.{Opened, Filed, Ledger, freshLedger, openRecords, receivedBy, receivedIn, isOpen, isOpenLined, ledgerExpects, headerTerms, openVersion, ledgerTerms, stateAnswer, filedWith, withRecord, Step}
 use Rattle.ledger.specs.Promises.{reached, ledgerOf, Agrees, OpenFilesHaveAVersion}
 use Rattle.ledger.specs.WholeFiles.{IsRight, SoundFile, LedgerFilesAreWhole}
-use Rattle.ledger.proofs.Agreement.{received-joined, session-agrees}
+use Rattle.ledger.proofs.Histories.{all-keep}
+use Rattle.ledger.proofs.Records.{received-joined}
+use Rattle.ledger.proofs.Agreement.{session-agrees}
 use Rattle.ledger.proofs.Sessions.{figures-accept}
 use Rattle.ledger.proofs.WholeFiles.{right-under-any-terms}
 
@@ -108,36 +107,22 @@ module _ (files : List Filed) (ended : Bool) (rec : List ℕ) (all : Each SoundF
   with-record (some f) (Is Trailer) own h is x e = with-trailer f h own is e
   with-record (some f) Other own h is x e = absurd (false≢true x)
 
-keeps : (k : Ledger) (step : Step) → Kept k → Kept (ledgerStep k step)
-keeps k abandoning h = record { files = h .files; opened = tt }
-keeps k (taking agreed rec) h = go (ledgerCheck agreed k rec) refl
-  where
-    go : (a : Answer) → ledgerCheck agreed k rec ≡ a
-        → Kept (ifAccepted a (nextLedger k rec) k)
-    go (Refused why p) e = h
-    go Accepted e =
-        let n = namedBy (getD rec 0 0) in
-        let body = bodyOf rec in
-        let own = recordAnswer (ledgerTerms agreed (k .opened)) body in
-        let state = stateAnswer (k .accepted) (k .opened) n body in
-        let ending = endAnswer (isOpen (k .opened)) (isOpenLined (k .opened)) rec in
-        let fits = passed (fitsLength (isOpen (k .opened)) (isOpenLined (k .opened)) rec) WrongLength 0 (then-accepts (listAnswer agreed) (ledgerAnswer agreed k rec) .0 e .1) in
-        let met = passed (ledgerExpects (k .opened) n) NotExpected 1 (fits .1) in
-        let two = then-accepts own (state then ending) .0 (met .1) in
-        with-record (k .accepted) (hasLineEnd rec) body (h .files) (k .opened) n (without-list (openVersion (k .opened)) agreed body (two .0)) (h .opened) (ap namedBy (first-in rec)) (met .0)
-        (then-accepts state ending .0 (two .1) .0)
-
-all-keep : (k : Ledger) (steps : List Step) → Kept k → Kept (ledgerAfter k steps)
-all-keep k [] h = h
-all-keep k (step ∷ steps) h = all-keep (ledgerStep k step) steps (keeps k step h)
+-- after any steps from a fresh ledger
+kept : (steps : List Step) → Kept (ledgerOf steps)
+kept steps =
+    all-keep Kept (λ k h. record { files = h .files; opened = tt })
+    (λ k rec h e.
+    with-record (k .accepted) (hasLineEnd rec) (bodyOf rec) (h .files) (k .opened) (namedBy (getD rec 0 0)) (e .own)
+    (h .opened) (ap namedBy (first-in rec)) (e .expected) (e .state))
+    freshLedger steps (record { files = tt; opened = tt })
 
 pub ledger-files-are-whole : LedgerFilesAreWhole
-ledger-files-are-whole steps = all-keep freshLedger steps (record { files = tt; opened = tt }) .files
+ledger-files-are-whole steps = kept steps .files
 
 -- So the version of an open file is one, and the session's.
 
 pub open-files-have-a-version : OpenFilesHaveAVersion
-open-files-have-a-version steps = go (ledgerOf steps) (all-keep freshLedger steps (record { files = tt; opened = tt }) .opened) (session-agrees steps)
+open-files-have-a-version steps = go (ledgerOf steps) (kept steps .opened) (session-agrees steps)
   where
     file-is : {f : File} → f .taken ≡ 0 → f .total ≡ 0 → f .version ≡ 0 → f .lined ≡ false → f ≡ noFile
     file-is e g h l i = record { taken = e i; total = g i; version = h i; lined = l i }

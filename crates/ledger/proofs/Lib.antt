@@ -1,4 +1,6 @@
 pub mod Records
+pub mod Headers
+pub mod Histories
 pub mod Agreement
 pub mod Shown
 pub mod Sessions
@@ -8,6 +10,8 @@ pub mod Forms
 pub mod LedgerFiles
 pub mod Runs
 pub mod FileBytes
+pub mod Numbers
+pub mod FilesTwice
 pub mod WrittenFiles
 pub mod Calls
 pub mod Samples

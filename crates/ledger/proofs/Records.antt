@@ -1,7 +1,7 @@
 -- What the ledger reads off payment records is what the session and the board make of them. Assumes nothing.
-use Prim.Native.Nat.{ℕ}
+use Prim.Native.Nat.{ℕ, _+_}
 use mathlib.Core.Bool.{Bool, _&&_}
-use mathlib.Core.List.{List, [], _∷_, _++_}
+use mathlib.Core.List.{List, [], _∷_, _++_, append-assoc}
 use mathlib.Core.Path.{_≡_, refl, sym, ap, ap₂, _∙_}
 use native.Mathlib.Omega.{arith}
 use lib.Dec.{leb}
@@ -15,7 +15,7 @@ use Rattle.board.specs.declared.Lane.{Lane}
 use Rattle.board.specs.Lanes.{mostLanes, limit, fits, lanesFrom, tallySum, sumBy, each, issuersOf, isAmong, appearing}
 use Rattle.board.proofs.Tallies.{alike}
 use Rattle.board.proofs.Lanes.{payments-add, centavos-add, sum-read, in-order-of-appearance}
-use Rattle.ledger.specs.Ledgers.{laneOfRecord, lanesOfRecords, receivedIn, isSeen, issuersNamed}
+use Rattle.ledger.specs.Ledgers.{Filed, paymentRecords, laneOfRecord, lanesOfRecords, receivedBy, receivedIn, isSeen, issuersNamed}
 use Rattle.ledger.specs.Records.{LaneIsTheSessions, EqualIsTheBoards, IssuersAreTheLanes, LimitsAreTheBoards}
 
 -- Its lanes are the session's, its issuers the board's.
@@ -79,3 +79,16 @@ limits-are-the-boards recs rec =
     rw (← lanes-joined recs rec)
     (ap₂ (λ (t u : Bool). require t BoardFull issuerPlace then require u BoardTotalPassed receivedPlace)
     (ap (λ (n : ℕ). leb n mostLanes) (few-issuers all)) (sums-fit all))
+
+-- More of them.
+
+pub records-joined : (files more : List Filed) → paymentRecords (files ++ more) ≡ paymentRecords files ++ paymentRecords more
+records-joined [] more = refl
+records-joined (g ∷ files) more =
+    ap (λ (recs : List (List ℕ)). g .payments ++ recs) (records-joined files more) ∙
+    sym (append-assoc (g .payments) (paymentRecords files) (paymentRecords more))
+
+pub received-joined : (recs : List (List ℕ)) (rec : List ℕ)
+    → receivedIn (recs ++ (rec ∷ [])) ≡ receivedIn recs + receivedBy rec
+received-joined [] rec = omega arith
+received-joined (r ∷ recs) rec = omega (arith, received-joined recs rec)

@@ -14,8 +14,16 @@ use Rattle.file.specs.Files.{fileAnswer, figuresAnswer}
 use Rattle.file.specs.Forms.{hasLineEnd, fitsLength, endAnswer}
 use Rattle.board.specs.Lanes.{fits}
 use Rattle.board.specs.Boards.{ownOf, usedAfter, slotAnswer}
+use Rattle.pairs.specs.Pairs.{nextNumber, isSamePair, memoryWith}
 use Rattle.ledger.specs.Samples.{samples, Hold}
+use Rattle.ledger.specs.NumberSamples.{NumbersHold}
+
+both : Hold samples × NumbersHold
+unfolding recordAnswer versionAnswer listAnswer freeAnswer isAgreed keyOf isIssuer fieldAnswer kindAnswer isVersionText isService dateAnswer isCapture isForm namedBy layoutOf table rowAt hasLineEnd fitsLength endAnswer figuresAnswer fileAnswer fits ownOf usedAfter slotAnswer nextNumber isSamePair memoryWith firstThreeAnswer generalRight termOf addedBy digitOfRemainder dateOf isDate daysIn isLeap digitsOf valueOf isOf
+both = (refl, refl)
 
 pub samples-hold : Hold samples
-unfolding recordAnswer versionAnswer listAnswer freeAnswer isAgreed keyOf isIssuer fieldAnswer kindAnswer isVersionText isService dateAnswer isCapture isForm namedBy layoutOf table rowAt hasLineEnd fitsLength endAnswer figuresAnswer fileAnswer fits ownOf usedAfter slotAnswer firstThreeAnswer generalRight termOf addedBy digitOfRemainder dateOf isDate daysIn isLeap digitsOf valueOf isOf
-samples-hold = refl
+samples-hold = both .0
+
+pub numbers-hold : NumbersHold
+numbers-hold = both .1

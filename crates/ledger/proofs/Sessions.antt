@@ -29,9 +29,12 @@ use Rattle.file.specs.Files.{countPlace, totalPlace}
 use Rattle.file.specs.Forms.{bodyOf, hasLineEnd, fitsLength, endAnswer}
 use Rattle.file.proofs.Forms.{first-in, fits-body, fitting-is-in-form}
 use Rattle.session.specs.declared.Session.{Session}
-use Rattle.session.specs.Sessions.{closedAt, sessionTerms, sessionExpects, sessionAnswer, sessionWith, takeAnswer, nextSession, takeOf, abandonOf}
+use Rattle.pairs.specs.declared.Memory.{Memory}
+use Rattle.pairs.specs.Pairs.{rememberedFor, pairsOf, memoryWith}
+use Rattle.pairs.proofs.Memories.{pair-is-remembered}
+use Rattle.session.specs.Sessions.{closedAt, sessionTerms, sessionExpects, sessionClosed, sessionAnswer, sessionWith, takeAnswer, nextSession, takeOf, abandonOf}
 use Rattle.ledger.specs.Ledgers.{headerTerms, Opened, Ledger, receivedIn, trailerStateAnswer, ledgerCheck, taking, abandoning}
-use Rattle.ledger.specs.Promises.{ledgerOf, TrueTrailersOnly, RefusalKeepsSession, OnlyTrailersShow, TrailersShowAll, NothingShowsBefore, AbandonKeepsBoard, AbandonDropsFile, AbandonNothing, FinishKeepsSession, FinishAnswers, PaymentsTakenUnderAVersion}
+use Rattle.ledger.specs.Promises.{ledgerOf, TrueTrailersOnly, RefusalKeepsSession, OnlyTrailersShow, TrailersShowAll, NothingShowsBefore, OnlyTrailersRemember, TrailersRemember, AbandonKeepsBoard, AbandonKeepsMemory, AbandonDropsFile, AbandonNothing, FinishKeepsSession, FinishAnswers, PaymentsTakenUnderAVersion}
 use Rattle.ledger.proofs.Agreement.{next-answer-is-the-ledgers}
 
 -- The trailer.
@@ -94,55 +97,86 @@ payments-taken-under-a-version agreed s rec right opened none fits named =
     let own = needs-version (sessionTerms agreed s) body (fits-body true (s .file .lined) rec fits) first none in
     rw (right, opened, fits, named, own)
 
--- what a record leaves of the board shown
+-- what a record leaves of the board shown and of the memory
 module _ (agreed : List ℕ) (s : Session) (ended : Bool) (rec : List ℕ) where
-  stays : (n : MaybeRecord) (own a : Answer) → (n ≡ Is Trailer → ⊥)
-      → ifAccepted a (sessionWith s ended (shownUnlessRefused own (recordShown agreed n rec))) s .shown ≡ s .shown
-  stays n own (Refused why p) h = refl
-  stays n (Refused why p) Accepted h = refl
-  stays (Is Header) Accepted Accepted h = refl
-  stays (Is Payment) Accepted Accepted h = refl
-  stays (Is Trailer) Accepted Accepted h = absurd (h refl)
-  stays Other Accepted Accepted h = refl
+  stays : (n : MaybeRecord) (own a : Answer) → (n ≡ Is Trailer → a ≡ Accepted → ⊥)
+      → let next = ifAccepted a (sessionWith s ended rec (shownUnlessRefused own (recordShown agreed n rec))) s in
+      (next .shown ≡ s .shown) × (next .memory ≡ s .memory)
+  stays n own (Refused why p) h = (refl, refl)
+  stays n (Refused why p) Accepted h = (refl, refl)
+  stays (Is Header) Accepted Accepted h = (refl, refl)
+  stays (Is Payment) Accepted Accepted h = (refl, refl)
+  stays (Is Trailer) Accepted Accepted h = absurd (h refl refl)
+  stays Other Accepted Accepted h = (refl, refl)
 
-pub only-trailers-show : OnlyTrailersShow
-only-trailers-show agreed s rec h =
+no-trailer-stays : (agreed : List ℕ) (s : Session) (rec : List ℕ)
+    → (namedBy (getD rec 0 0) ≡ Is Trailer → takeOf agreed s rec .answer ≡ Accepted → ⊥)
+    → (takeOf agreed s rec .session .shown ≡ s .shown) × (takeOf agreed s rec .session .memory ≡ s .memory)
+no-trailer-stays agreed s rec h =
     let body = bodyOf rec in
     stays agreed s (hasLineEnd rec) body (namedBy (getD body 0 0)) (recordAnswer (sessionTerms agreed s) body) (takeOf agreed s rec .answer) (λ e. h (ap namedBy (sym (first-in rec)) ∙ e))
 
--- a record that the session accepts is accepted by itself
-pub own-accepts : (s : Session) (a : Answer) (d : Decoded) → sessionAnswer s (shownUnlessRefused a d) ≡ Accepted
-    → a ≡ Accepted
-own-accepts s Accepted d e = refl
-own-accepts s (Refused why p) d e = e
+pub only-trailers-show : OnlyTrailersShow
+only-trailers-show agreed s rec h = no-trailer-stays agreed s rec (λ e x. h e) .0
 
-pub trailers-show-all : TrailersShowAll
-trailers-show-all agreed s rec n e =
+pub only-trailers-remember : OnlyTrailersRemember
+only-trailers-remember agreed s rec h = no-trailer-stays agreed s rec h .1
+
+-- a record that the session accepts is accepted by itself
+pub own-accepts : (s : Session) (rec : List ℕ) (a : Answer) (d : Decoded)
+    → sessionAnswer s rec (shownUnlessRefused a d) ≡ Accepted → a ≡ Accepted
+own-accepts s rec Accepted d e = refl
+own-accepts s rec (Refused why p) d e = e
+
+-- an accepted Z closes the file
+trailer-closes : (agreed : List ℕ) (s : Session) (rec : List ℕ) → namedBy (getD rec 0 0) ≡ Is Trailer
+    → takeOf agreed s rec .answer ≡ Accepted → takeOf agreed s rec .session ≡ sessionClosed s
+trailer-closes agreed s rec n e =
     let body = bodyOf rec in
     let own = recordAnswer (sessionTerms agreed s) body in
     let took = then-accepts (listAnswer agreed) (takeAnswer agreed s rec) .0 e .1 in
     let fits = passed (fitsLength (s .opened) (s .file .lined) rec) WrongLength 0 took .1 in
     let met = passed (sessionExpects (s .opened) (namedBy (getD rec 0 0))) NotExpected 1 fits .1 in
     let shown = recordShown agreed (namedBy (getD body 0 0)) body in
-    let accepts = then-accepts (sessionAnswer s (shownUnlessRefused own shown)) (endAnswer (s .opened) (s .file .lined) rec) .0 met .0 in
-    rw (e, own-accepts s own shown accepts, first-in rec, n)
+    let accepts = then-accepts (sessionAnswer s body (shownUnlessRefused own shown)) (endAnswer (s .opened) (s .file .lined) rec) .0 met .0 in
+    rw (e, own-accepts s body own shown accepts, first-in rec, n)
+
+pub trailers-show-all : TrailersShowAll
+trailers-show-all agreed s rec n e = ap (λ (x : Session). x .shown) (trailer-closes agreed s rec n e)
+
+pub trailers-remember : TrailersRemember
+trailers-remember agreed s rec n e =
+    let closed : takeOf agreed s rec .session .memory ≡ memoryWith (s .memory) (s .opening) =
+    ap (λ (x : Session). x .memory) (trailer-closes agreed s rec n e) in (
+      closed,
+      λ full room.
+          ap (λ (m : Memory). rememberedFor (s .opening) (pairsOf m)) closed
+          ∙ pair-is-remembered (s .memory) (s .opening) full room .1,
+    )
 
 pub abandon-keeps-board : AbandonKeepsBoard
 abandon-keeps-board s = go (s .opened)
   where
-    go : (t : Bool) → cond t (closedAt (s .shown)) s .shown ≡ s .shown
+    go : (t : Bool) → cond t (closedAt (s .shown) (s .memory)) s .shown ≡ s .shown
+    go true = refl
+    go false = refl
+
+pub abandon-keeps-memory : AbandonKeepsMemory
+abandon-keeps-memory s = go (s .opened)
+  where
+    go : (t : Bool) → cond t (closedAt (s .shown) (s .memory)) s .memory ≡ s .memory
     go true = refl
     go false = refl
 
 pub abandon-drops-file : AbandonDropsFile
 abandon-drops-file s = go (s .opened) refl
   where
-    go : (t : Bool) → s .opened ≡ t → cond t (closedAt (s .shown)) s .opened ≡ false
+    go : (t : Bool) → s .opened ≡ t → cond t (closedAt (s .shown) (s .memory)) s .opened ≡ false
     go true e = refl
     go false e = e
 
 pub abandon-nothing : AbandonNothing
-abandon-nothing s e = ap (λ (t : Bool). cond t (closedAt (s .shown)) s) e
+abandon-nothing s e = ap (λ (t : Bool). cond t (closedAt (s .shown) (s .memory)) s) e
 
 pub nothing-shows-before : NothingShowsBefore
 nothing-shows-before s [] h = refl

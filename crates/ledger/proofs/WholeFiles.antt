@@ -30,12 +30,13 @@ use Rattle.board.specs.Lanes.{tallySum}
 use Rattle.board.specs.Boards.{lanesOf, postAnswer, postAnswers, boardWith, boardWithAll}
 use Rattle.board.proofs.Tallies.{low-fits}
 use Rattle.board.proofs.Boards.{fresh-board-takes, fresh-board-holds}
+use Rattle.pairs.specs.Pairs.{memoryAnswer, memoryWith}
 use Rattle.session.specs.declared.Session.{Session}
 use Rattle.session.specs.declared.TakeResult.{TakeResult}
-use Rattle.session.specs.Sessions.{freshSession, closedAt, openedAt, sessionTerms, sessionExpects, figuresIn, payAnswer, sessionWithPayment, sessionAnswer, sessionWith, takeResult, takeOf}
+use Rattle.session.specs.Sessions.{freshSession, closedAt, openedAt, sessionWorking, pairIn, sessionTerms, sessionExpects, figuresIn, payAnswer, sessionWithPayment, sessionClosed, sessionAnswer, sessionWith, takeResult, takeOf}
 use Rattle.ledger.specs.Ledgers.{laneOfRecord, lanesOfRecords, receivedBy, receivedIn, headerTerms, Step, taking}
 use Rattle.ledger.specs.Promises.{sessionAfter, answersOf}
-use Rattle.ledger.specs.WholeFiles.{IsRight, Whole, allInForm, receivedEach, TrueFigures, AllAccepted, FileAccepted, FilePosted, FreshSessionAccepts, FreshSessionShows}
+use Rattle.ledger.specs.WholeFiles.{IsRight, Whole, allInForm, fileOf, receivedEach, TrueFigures, AllAccepted, FileAccepted, FilePosted, FreshSessionAccepts, FreshSessionShows}
 use Rattle.ledger.proofs.Records.{lanes-tally}
 
 -- a header and a trailer are right under any terms
@@ -53,14 +54,10 @@ as-many lined recs = simp length-map
 -- taking a record that is accepted by itself and expected, in the form of the open file if there is one, under a right list
 pub taken : (agreed : List ℕ) → RightList agreed → (s : Session) (lined : Bool) (r : Record) (rec : List ℕ) → IsRight (sessionTerms agreed s) r rec
     → sessionExpects (s .opened) (Is r) ≡ true → (s .opened ≡ true → lined ≡ s .file .lined)
-    → takeOf agreed s (inForm lined rec) ≡ takeResult (sessionAnswer s (recordShown agreed (Is r) rec)) (sessionWith s lined (recordShown agreed (Is r) rec)) s
+    → takeOf agreed s (inForm lined rec) ≡ takeResult (sessionAnswer s rec (recordShown agreed (Is r) rec)) (sessionWith s lined rec (recordShown agreed (Is r) rec)) s
 taken agreed right s lined r rec h e form =
     let n = accepted-is (sessionTerms agreed s) rec (h .0) .0 in
-    rw (right, fits-in (s .opened) (s .file .lined) rec n lined form, ends-in (s .opened) (s .file .lined) rec n lined form, first-of lined rec n, body-in rec n lined, ended-in rec n lined, h .1, h .0, e, then-accepted (sessionAnswer s (recordShown agreed (Is r) rec)))
-
--- in an open file: these boards, this file
-abbrev inside : Board → Board → File → Session
-inside shown work file = record { shown = shown; work = work; opened = true; file = file }
+    rw (right, fits-in (s .opened) (s .file .lined) rec n lined form, ends-in (s .opened) (s .file .lined) rec n lined form, first-of lined rec n, body-in rec n lined, ended-in rec n lined, h .1, h .0, e, then-accepted (sessionAnswer s rec (recordShown agreed (Is r) rec)))
 
 -- the payments and the trailer, and when they are accepted
 abbrev rest : List ℕ → Bool → List ℕ → List (List ℕ) → List Step
@@ -71,29 +68,32 @@ Passes z b f recs =
     (fileAnswers f (receivedEach recs) ≡ Accepted) × (postAnswers b (lanesOfRecords recs) ≡ Accepted)
     × (figuresAnswer (fileWithAll f (receivedEach recs)) (figuresIn (trailerShown z)) ≡ Accepted)
 
-module _ (agreed : List ℕ) (list : RightList agreed) (shown : Board) (lined : Bool) (t : Terms) (z : List ℕ) (right : IsRight t Trailer z) where
+-- in a file that is open in `s`, whatever its working board and its figures have become
+module _ (agreed : List ℕ) (list : RightList agreed) (s : Session) (is-open : s .opened ≡ true) (lined : Bool) (t : Terms) (z : List ℕ) (right : IsRight t Trailer z) where
+  abbrev inside : Board → File → Session
+  inside b f = sessionWorking s b f
+
   closing : (b : Board) (f : File) → f .lined ≡ lined
-      → takeOf agreed (inside shown b f) (inForm lined z)
-      ≡ takeResult (figuresAnswer f (figuresIn (trailerShown z))) (closedAt b) (inside shown b f)
+      → takeOf agreed (inside b f) (inForm lined z)
+      ≡ takeResult (figuresAnswer f (figuresIn (trailerShown z))) (sessionClosed (inside b f)) (inside b f)
   closing b f form =
-      taken agreed list (inside shown b f) lined Trailer z (right-under-any-terms t (told (f .version) agreed) Trailer z refl right) refl (λ e. sym form)
+      taken agreed list (inside b f) lined Trailer z (right-under-any-terms t (told (f .version) agreed) Trailer z refl right) is-open (λ e. sym form)
 
   module _ (b : Board) (f : File) (form : f .lined ≡ lined) (rec : List ℕ) (h : IsRight (told (f .version) agreed) Payment rec) where
-    payment-takes : takeOf agreed (inside shown b f) (inForm lined rec)
-        ≡ takeResult (payAnswer (inside shown b f) (laneOfRecord rec))
-        (sessionWithPayment (inside shown b f) (laneOfRecord rec)) (inside shown b f)
-    payment-takes = taken agreed list (inside shown b f) lined Payment rec h refl (λ e. sym form)
+    payment-takes : takeOf agreed (inside b f) (inForm lined rec)
+        ≡ takeResult (payAnswer (inside b f) (laneOfRecord rec)) (sessionWithPayment (inside b f) (laneOfRecord rec)) (inside b f)
+    payment-takes = taken agreed list (inside b f) lined Payment rec h is-open (λ e. sym form)
 
-    payment-next : payAnswer (inside shown b f) (laneOfRecord rec) ≡ Accepted
-        → takeOf agreed (inside shown b f) (inForm lined rec) .session
-        ≡ inside shown (boardWith b (laneOfRecord rec)) (fileWith f (receivedBy rec))
+    payment-next : payAnswer (inside b f) (laneOfRecord rec) ≡ Accepted
+        → takeOf agreed (inside b f) (inForm lined rec) .session
+        ≡ inside (boardWith b (laneOfRecord rec)) (fileWith f (receivedBy rec))
     payment-next e =
         ap (λ (t : TakeResult). t .session) payment-takes ∙
-        accepted-takes (payAnswer (inside shown b f) (laneOfRecord rec))
-        (sessionWithPayment (inside shown b f) (laneOfRecord rec)) (inside shown b f) e
+        accepted-takes (payAnswer (inside b f) (laneOfRecord rec))
+        (sessionWithPayment (inside b f) (laneOfRecord rec)) (inside b f) e
 
   rest-accepts : (recs : List (List ℕ)) (b : Board) (f : File) → f .lined ≡ lined → Each (IsRight (told (f .version) agreed) Payment) recs
-      → AllAccepted (answersOf (inside shown b f) (rest agreed lined z recs)) ↔ Passes z b f recs
+      → AllAccepted (answersOf (inside b f) (rest agreed lined z recs)) ↔ Passes z b f recs
   rest-accepts [] b f form h = (
     λ e. (refl, refl, sym (ap (λ (x : TakeResult). x .answer) (closing b f form)) ∙ e .0),
     λ p. (ap (λ (x : TakeResult). x .answer) (closing b f form) ∙ p .2, tt),
@@ -109,25 +109,26 @@ module _ (agreed : List ℕ) (list : RightList agreed) (shown : Board) (lined : 
       let later = rest-accepts recs (boardWith b (laneOfRecord rec)) (fileWith f (receivedBy rec)) form (h .1) in
       let step = ap (λ (t : TakeResult). t .answer) (payment-takes b f form rec (h .0)) in (
         λ e.
-            let one : payAnswer (inside shown b f) (laneOfRecord rec) ≡ Accepted = sym step ∙ e .0 in
+            let one : payAnswer (inside b f) (laneOfRecord rec) ≡ Accepted = sym step ∙ e .0 in
             let t = later .0 (rw (payment-next b f form rec (h .0) one) at (e .1)) in
             (files .1 (two .0 one .0, t .0), boards .1 (two .0 one .1, t .1), t .2),
         λ t.
-            let one : payAnswer (inside shown b f) (laneOfRecord rec) ≡ Accepted =
+            let one : payAnswer (inside b f) (laneOfRecord rec) ≡ Accepted =
             two .1 (files .0 (t .0) .0, boards .0 (t .1) .0) in
             (step ∙ one, rw (payment-next b f form rec (h .0) one) (later .1 (files .0 (t .0) .1, boards .0 (t .1) .1, t .2))),
       )
 
   left-rest : (recs : List (List ℕ)) (b : Board) (f : File) → f .lined ≡ lined → Each (IsRight (told (f .version) agreed) Payment) recs
-      → AllAccepted (answersOf (inside shown b f) (rest agreed lined z recs))
-      → sessionAfter (inside shown b f) (rest agreed lined z recs) ≡ closedAt (boardWithAll b (lanesOfRecords recs))
+      → AllAccepted (answersOf (inside b f) (rest agreed lined z recs))
+      → sessionAfter (inside b f) (rest agreed lined z recs)
+      ≡ closedAt (boardWithAll b (lanesOfRecords recs)) (memoryWith (s .memory) (s .opening))
   left-rest [] b f form h e =
       let one : figuresAnswer f (figuresIn (trailerShown z)) ≡ Accepted =
       sym (ap (λ (t : TakeResult). t .answer) (closing b f form)) ∙ e .0 in
       ap (λ (t : TakeResult). t .session) (closing b f form)
-      ∙ accepted-takes (figuresAnswer f (figuresIn (trailerShown z))) (closedAt b) (inside shown b f) one
+      ∙ accepted-takes (figuresAnswer f (figuresIn (trailerShown z))) (sessionClosed (inside b f)) (inside b f) one
   left-rest (rec ∷ recs) b f form h e =
-      let one : payAnswer (inside shown b f) (laneOfRecord rec) ≡ Accepted =
+      let one : payAnswer (inside b f) (laneOfRecord rec) ≡ Accepted =
       sym (ap (λ (t : TakeResult). t .answer) (payment-takes b f form rec (h .0))) ∙ e .0 in
       let next = payment-next b f form rec (h .0) one in
       ap (λ (s : Session). sessionAfter s (rest agreed lined z recs)) next ∙
@@ -157,30 +158,46 @@ true-figures version lined recs z =
 
 module _ (agreed : List ℕ) (s : Session) (lined : Bool) (a : List ℕ) (recs : List (List ℕ)) (z : List ℕ) (closed : s .opened ≡ false) (whole : Whole agreed a recs z) where
   abbrev start : Session
-  start = openedAt (s .shown) (versionIn a) lined
+  start = openedAt (s .shown) (s .memory) (versionIn a) lined (pairIn a)
 
-  opening : takeOf agreed s (inForm lined a) ≡ record { answer = Accepted; session = start }
+  opening : takeOf agreed s (inForm lined a) ≡ takeResult (memoryAnswer (s .memory) (pairIn a)) start s
   opening =
       taken agreed (whole .list) s lined Header a (right-under-any-terms (headerTerms agreed a) (sessionTerms agreed s) Header a refl (whole .header)) (ap not closed)
       (λ e. unequal e closed)
 
-  begun : takeOf agreed s (inForm lined a) .session ≡ start
-  begun = ap (λ (t : TakeResult). t .session) opening
+  answered : takeOf agreed s (inForm lined a) .answer ≡ memoryAnswer (s .memory) (pairIn a)
+  answered = ap (λ (t : TakeResult). t .answer) opening
+
+  begun : memoryAnswer (s .memory) (pairIn a) ≡ Accepted → takeOf agreed s (inForm lined a) .session ≡ start
+  begun e = ap (λ (t : TakeResult). t .session) opening ∙ accepted-takes (memoryAnswer (s .memory) (pairIn a)) start s e
+
+  pub accepted-file : AllAccepted (answersOf s (fileOf agreed lined a recs z))
+      ↔ ((memoryAnswer (s .memory) (pairIn a) ≡ Accepted)
+      × (fileAnswers (freshFile (versionIn a) lined) (receivedEach recs) ≡ Accepted)
+      × (postAnswers (s .shown) (lanesOfRecords recs) ≡ Accepted) × TrueFigures recs z)
+  accepted-file =
+      let all = rest-accepts agreed (whole .list) start refl lined (headerTerms agreed a) z (whole .trailer) recs (s .shown) (freshFile (versionIn a) lined) refl (whole .payments) in
+      let figures = true-figures (versionIn a) lined recs z in (
+        λ e.
+            let passes = sym answered ∙ e .0 in
+            let t = all .0 (rw (begun passes) at (e .1)) in
+            (passes, t .0, t .1, figures .0 (t .2)),
+        λ t. (answered ∙ t .0, rw (begun (t .0)) (all .1 (t .1, t .2, figures .1 (t .3)))),
+      )
+
+  pub posted-file : AllAccepted (answersOf s (fileOf agreed lined a recs z))
+      → sessionAfter s (fileOf agreed lined a recs z)
+      ≡ closedAt (boardWithAll (s .shown) (lanesOfRecords recs)) (memoryWith (s .memory) (pairIn a))
+  posted-file e =
+      let next = begun (sym answered ∙ e .0) in
+      ap (λ (x : Session). sessionAfter x (rest agreed lined z recs)) next ∙
+      left-rest agreed (whole .list) start refl lined (headerTerms agreed a) z (whole .trailer) recs (s .shown) (freshFile (versionIn a) lined) refl (whole .payments) (rw next at (e .1))
 
 pub file-accepted : FileAccepted
-file-accepted agreed s lined a recs z closed whole =
-    let all = rest-accepts agreed (whole .list) (s .shown) lined (headerTerms agreed a) z (whole .trailer) recs (s .shown) (freshFile (versionIn a) lined) refl (whole .payments) in
-    let figures = true-figures (versionIn a) lined recs z in
-    let next = begun agreed s lined a recs z closed whole in (
-      λ e. let t = all .0 (rw next at (e .1)) in (t .0, t .1, figures .0 (t .2)),
-      λ t. (ap (λ (x : TakeResult). x .answer) (opening agreed s lined a recs z closed whole), rw next (all .1 (t .0, t .1, figures .1 (t .2)))),
-    )
+file-accepted = accepted-file
 
 pub file-posted : FilePosted
-file-posted agreed s lined a recs z closed whole e =
-    let next = begun agreed s lined a recs z closed whole in
-    ap (λ (x : Session). sessionAfter x (rest agreed lined z recs)) next ∙
-    left-rest agreed (whole .list) (s .shown) lined (headerTerms agreed a) z (whole .trailer) recs (s .shown) (freshFile (versionIn a) lined) refl (whole .payments) (rw next at (e .1))
+file-posted = posted-file
 
 -- A fresh session.
 
@@ -193,18 +210,18 @@ fresh-session-accepts agreed lined a recs z whole =
     let total = received-each recs in (
       λ e.
           let t = all .0 e in
-          let within = file .0 (t .0) in
-          (omega (arith, count, within .0), omega (arith, total, within .1), board .0 (t .1) .0, t .2),
+          let within = file .0 (t .1) in
+          (omega (arith, count, within .0), omega (arith, total, within .1), board .0 (t .2) .0, t .3),
       λ t.
           let fit =
           low-fits (tallySum (lanesOfRecords recs)) (rw (lanes-tally recs) (record { payments = omega (arith, t .0); centavos = omega (arith, t .1) })) in
-          all .1 (file .1 (omega (arith, count, t .0), omega (arith, total, t .1)), board .1 (t .2, fit), t .3),
+          all .1 (refl, file .1 (omega (arith, count, t .0), omega (arith, total, t .1)), board .1 (t .2, fit), t .3),
     )
 
 pub fresh-session-shows : FreshSessionShows
 fresh-session-shows agreed lined a recs z whole e =
     let posted = file-posted agreed freshSession lined a recs z refl whole e in
-    let holds = fresh-board-holds (lanesOfRecords recs) (file-accepted agreed freshSession lined a recs z refl whole .0 e .1) in (
+    let holds = fresh-board-holds (lanesOfRecords recs) (file-accepted agreed freshSession lined a recs z refl whole .0 e .2) in (
       ap (λ (s : Session). lanesOf (s .shown)) posted ∙ holds .0,
       ap (λ (s : Session). s .shown .total) posted ∙ holds .1 ∙ lanes-tally recs,
       ap (λ (s : Session). s .opened) posted,

@@ -32,7 +32,8 @@ use Rattle.board.specs.Lanes.{lanesFrom}
 use Rattle.board.proofs.Boards.{fresh-board-holds}
 use Rattle.session.specs.declared.RunResult.{RunResult}
 use Rattle.session.specs.declared.Session.{Session}
-use Rattle.session.specs.Sessions.{freshSession}
+use Rattle.pairs.specs.Pairs.{memoryAnswer}
+use Rattle.session.specs.Sessions.{freshSession, pairIn}
 use Rattle.session.specs.Runs.{runOf, bytesOf}
 use Rattle.ledger.specs.Promises.{answersOf, shownLanes}
 use Rattle.ledger.specs.Ledgers.{Step, receivedBy, receivedIn, lanesOfRecords, headerTerms}
@@ -198,7 +199,7 @@ closed-file-bytes-run agreed lined header gs c few =
     let run =
     ap (runOf agreed freshSession false) (sym (bytes-in-form agreed lined header gs)) ∙ file-bytes-run agreed freshSession lined a recs z refl own all in
     let given : length recs ≡ length gs = simp length-map in
-    let shows = fresh-board-holds (lanesOfRecords recs) (file-accepted agreed freshSession lined a recs z refl own .0 all .1) in (
+    let shows = fresh-board-holds (lanesOfRecords recs) (file-accepted agreed freshSession lined a recs z refl own .0 all .2) in (
       ap (λ (r : RunResult). r .answer) run,
       ap (λ (r : RunResult). r .records) run ∙ ap (λ (n : ℕ). n + 2) given,
       ap (λ (r : RunResult). r .files) run,
@@ -241,12 +242,12 @@ module _ (agreed : List ℕ) (s : Session) (lined : Bool) (a : List ℕ) (recs :
   abbrev start : File
   start = freshFile (values.versionIn a) lined
 
-  accepted : (fileAnswers start (receivedEach recs) ≡ Accepted) × (postAnswers (s .shown) (lanesOfRecords recs) ≡ Accepted)
-      × TrueFigures recs z
+  accepted : (memoryAnswer (s .memory) (pairIn a) ≡ Accepted) × (fileAnswers start (receivedEach recs) ≡ Accepted)
+      × (postAnswers (s .shown) (lanesOfRecords recs) ≡ Accepted) × TrueFigures recs z
   accepted = file-accepted agreed s lined a recs z closed w .0 e
 
   again : Rewritten agreed start recs
-  again = rewrite-all agreed (w .list) start recs (w .payments) (accepted .0)
+  again = rewrite-all agreed (w .list) start recs (w .payments) (accepted .1)
 
   head : (headerAnswer freshWriter header (lengthOf lined) ≡ Accepted) × (headerBytes header ≡ a) × (openedBy lined header ≡ opened start)
   head = fields-write-the-header (headerTerms agreed a) freshWriter lined a (record-asked (headerTerms agreed a) a (w .list) (w .header .0)) (w .header .1) refl
@@ -266,7 +267,7 @@ module _ (agreed : List ℕ) (s : Session) (lined : Bool) (a : List ℕ) (recs :
 
   tail : (trailerAnswer (writerAfterPayments agreed (openedBy lined header) gs) (lengthOf lined) ≡ Accepted) × (trailerAfter agreed lined header gs ≡ z)
   tail =
-      rw end (fields-write-the-trailer (headerTerms agreed a) (opened full) z (record-asked (headerTerms agreed a) z (w .list) (w .trailer .0)) (w .trailer .1) refl (accepted .2 .0) (accepted .2 .1))
+      rw end (fields-write-the-trailer (headerTerms agreed a) (opened full) z (record-asked (headerTerms agreed a) z (w .list) (w .trailer .0)) (w .trailer .1) refl (accepted .3 .0) (accepted .3 .1))
 
 pub fields-write-the-file : FieldsWriteTheFile
 fields-write-the-file agreed s lined a recs z closed w e =

@@ -10,7 +10,7 @@ use Rattle.answer.specs.Orders.{Each}
 use Rattle.layout.specs.Layouts.{recordLength}
 use Rattle.file.specs.Forms.{inForm, bodyOf}
 use Rattle.session.specs.declared.Session.{Session}
-use Rattle.session.specs.Sessions.{takeOf}
+use Rattle.session.specs.Sessions.{sessionWorking, takeOf}
 use Rattle.ledger.specs.Ledgers.{taking}
 use Rattle.ledger.specs.Promises.{sessionAfter, answersOf}
 use Rattle.ledger.specs.WholeFiles.{allInForm}
@@ -18,12 +18,8 @@ use Rattle.ledger.specs.WholeFiles.{allInForm}
 -- the session, its open file bare
 abbrev pub asBare : Session → Session
 asBare s =
-    record {
-      shown = s .shown;
-      work = s .work;
-      opened = s .opened;
-      file = record { taken = s .file .taken; total = s .file .total; version = s .file .version; lined = false };
-    }
+    sessionWorking s (s .work)
+    (record { taken = s .file .taken; total = s .file .total; version = s .file .version; lined = false })
 
 -- Promise: one statement over both forms. Of any session with no file open, and any records of 150 bytes, whatever they
 -- hold, under one list: each taken with CR and LF behind it gets the answer that it gets bare, one after the other, and

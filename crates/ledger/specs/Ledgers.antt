@@ -1,14 +1,16 @@
--- The ledger: a second meaning of the records, from their bytes, with no session and no board (SPEC.md, "Sessions"). Of
--- the board it has the type of a lane, as plain data, and the two limits as numbers. Assumes nothing.
+-- The ledger: a second meaning of the records, from their bytes, with no session, no board and no memory (SPEC.md,
+-- "Sessions" and "Sequence numbers"). Of the board it has the type of a lane, as plain data, and the two limits as
+-- numbers; of the memory which number follows another, and how many pairs there can be. Assumes nothing.
 use Prim.Native.Nat.{ℕ, _+_}
 use mathlib.Core.Bool.{Bool, true, false, cond, _&&_}
 use mathlib.Core.List.{List, [], _∷_, _++_, map}
 use mathlib.Core.Option.{Option, none, some}
 use lib.Dec.{eqb, ltb, leb}
 use lib.ListN.{length, getD}
-use Rattle.answer.specs.Refusals.{receivedPlace, issuerPlace}
+use Rattle.answer.specs.Refusals.{receivedPlace, issuerPlace, sequencePlace, agreementPlace}
 use Rattle.answer.specs.declared.Reason.the-variants.{WrongLength, NotExpected, CountDiffers, TotalDiffers, FileFull}
-use Rattle.answer.specs.declared.Reason.the-variants.{FileTotalPassed, BoardFull, BoardTotalPassed}
+use Rattle.answer.specs.declared.Reason.the-variants.{FileTotalPassed, BoardFull, BoardTotalPassed, NotFollowing}
+use Rattle.answer.specs.declared.Reason.the-variants.{PairsFull}
 use Rattle.answer.specs.declared.Answer.{Answer}
 use Rattle.answer.specs.declared.Answer.the-variants.{Accepted}
 use Rattle.answer.specs.Orders.{require, _then_, ifAccepted}
@@ -18,14 +20,16 @@ use Rattle.barcode.specs.Agreed.{listAnswer}
 use Rattle.layout.specs.declared.MaybeRecord.{MaybeRecord}
 use Rattle.layout.specs.declared.MaybeRecord.the-variants.{Is, Other}
 use Rattle.layout.specs.declared.Record.the-variants.{Header, Payment, Trailer}
-use Rattle.layout.specs.Layouts.{namedBy, rowAt, barcodeRow, receivedRow}
+use Rattle.layout.specs.Layouts.{namedBy, rowAt, agreementRow, bankRow, sequenceRow, barcodeRow, receivedRow}
 use Rattle.record.specs.Records.{fieldBytes, recordAnswer}
+use Rattle.kinds.specs.Kinds.{same}
 use Rattle.kinds.specs.Terms.{Terms, told}
 use Rattle.record.specs.Values.{numberIn, versionIn, trailerShown}
 use Rattle.file.specs.Files.{mostPayments, mostCentavos, countPlace, totalPlace}
 use Rattle.file.specs.Forms.{bodyOf, hasLineEnd, fitsLength, endAnswer}
 use Rattle.board.specs.declared.Lane.{Lane}
 use Rattle.board.specs.Lanes.{mostLanes, limit}
+use Rattle.pairs.specs.Pairs.{mostPairs, follows}
 
 -- an open file as received: the 150 bytes of its header and of its payment records, the latest last, and whether CR and
 -- LF followed each
@@ -100,6 +104,40 @@ issuersNamed seen (rec ∷ recs) =
     cond (isSeen (issuerNamed rec) seen) (issuersNamed seen recs)
     (issuerNamed rec ∷ issuersNamed (seen ++ (issuerNamed rec ∷ [])) recs)
 
+-- Read off headers.
+
+abbrev pub headersOf : List Filed → List (List ℕ)
+headersOf files = map (λ (f : Filed). f .header) files
+
+-- the sequence number that a header shows
+abbrev pub numberShown : List ℕ → ℕ
+numberShown a = numberIn sequenceRow a
+
+-- two headers are of one pair if the bytes of their banks and of their agreements are the same
+abbrev pub areOfOnePair : List ℕ → List ℕ → Bool
+areOfOnePair a b =
+    same (fieldBytes (rowAt bankRow) a) (fieldBytes (rowAt bankRow) b)
+    && same (fieldBytes (rowAt agreementRow) a) (fieldBytes (rowAt agreementRow) b)
+
+-- the number of the last of these headers that is of this one's pair, if one is: those behind a header are asked first
+abbrev pub firstOf : Option ℕ → Option ℕ → Option ℕ
+firstOf none o = o
+firstOf (some n) o = some n
+
+abbrev pub latestNumber : List ℕ → List (List ℕ) → Option ℕ
+latestNumber a [] = none
+latestNumber a (h ∷ hs) = firstOf (latestNumber a hs) (cond (areOfOnePair h a) (some (numberShown h)) none)
+
+-- the headers that are the first of their pair, without the pairs seen before
+abbrev pub isPairSeen : List ℕ → List (List ℕ) → Bool
+isPairSeen a [] = false
+isPairSeen a (h ∷ hs) = cond (areOfOnePair h a) true (isPairSeen a hs)
+
+abbrev pub firstOfPairs : List (List ℕ) → List (List ℕ) → List (List ℕ)
+firstOfPairs seen [] = []
+firstOfPairs seen (h ∷ hs) =
+    cond (isPairSeen h seen) (firstOfPairs seen hs) (h ∷ firstOfPairs (seen ++ (h ∷ [])) hs)
+
 -- whether a file is open, and whether it is lined; without one, not
 abbrev pub isOpen : Option Opened → Bool
 isOpen none = false
@@ -141,9 +179,19 @@ trailerStateAnswer f rec =
     require (eqb (trailerShown rec .count) (length (f .payments) + 2)) CountDiffers countPlace
     then require (eqb (trailerShown rec .total) (receivedIn (f .payments))) TotalDiffers totalPlace
 
--- with no file open only an A gets this far, and nothing more is checked
+-- an A: 26, its number does not follow that of the latest accepted file of its pair; 27, with it the headers of the
+-- accepted files are of more pairs than a memory has
+abbrev pub headerStateAnswer : List Filed → List ℕ → Answer
+headerStateAnswer files a =
+    require (follows (latestNumber a (headersOf files)) (numberShown a)) NotFollowing sequencePlace
+    then require (leb (length (firstOfPairs [] (headersOf files ++ (a ∷ [])))) mostPairs) PairsFull agreementPlace
+
+-- with no file open only an A gets this far
 abbrev pub stateAnswer : List Filed → Option Opened → MaybeRecord → List ℕ → Answer
-stateAnswer files none named rec = Accepted
+stateAnswer files none (Is Header) rec = headerStateAnswer files rec
+stateAnswer files none (Is Payment) rec = Accepted
+stateAnswer files none (Is Trailer) rec = Accepted
+stateAnswer files none Other rec = Accepted
 stateAnswer files (some f) (Is Header) rec = Accepted
 stateAnswer files (some f) (Is Payment) rec = paymentStateAnswer files f rec
 stateAnswer files (some f) (Is Trailer) rec = trailerStateAnswer f rec

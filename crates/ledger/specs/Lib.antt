@@ -4,6 +4,8 @@ pub mod Promises
 pub mod WholeFiles
 pub mod Forms
 pub mod Runs
+pub mod Numbers
 pub mod WrittenFiles
 pub mod Calls
 pub mod Samples
+pub mod NumberSamples

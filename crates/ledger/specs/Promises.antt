@@ -3,7 +3,7 @@ use Prim.Native.Nat.{ℕ, _+_, _≤_}
 use mathlib.Core.Bool.{true, false}
 use mathlib.Core.List.{List, [], _∷_, _++_}
 use mathlib.Core.Logic.{_↔_}
-use mathlib.Core.Option.{some}
+use mathlib.Core.Option.{Option, none, some}
 use mathlib.Core.Path.{_≡_}
 use lib.ListN.{length, getD}
 use Rattle.answer.specs.declared.Reason.the-variants.{FixedDiffers}
@@ -23,10 +23,12 @@ use Rattle.file.specs.Forms.{inForm, bodyOf, fitsLength}
 use Rattle.board.specs.declared.Lane.{Lane}
 use Rattle.board.specs.Lanes.{mostLanes, limit, lanesFrom, sumBy, each, issuersOf, Distinct}
 use Rattle.board.specs.Boards.{lanesOf, SoundBoard}
+use Rattle.pairs.specs.declared.Pair.{Pair}
+use Rattle.pairs.specs.Pairs.{mostPairs, rememberedFor, remembering, noPair, pairsOf, memoryWith, hasRoomFor}
 use Rattle.session.specs.declared.Session.{Session}
-use Rattle.session.specs.Sessions.{freshSession, takeOf, abandonOf, finishOf}
-use Rattle.ledger.specs.Ledgers.{Opened, Ledger, freshLedger, paymentRecords, openRecords, lanesOfRecords}
-use Rattle.ledger.specs.Ledgers.{isOpen, isOpenLined}
+use Rattle.session.specs.Sessions.{freshSession, pairIn, takeOf, abandonOf, finishOf}
+use Rattle.ledger.specs.Ledgers.{Opened, Filed, Ledger, freshLedger, headersOf, paymentRecords, openRecords}
+use Rattle.ledger.specs.Ledgers.{lanesOfRecords, isOpen, isOpenLined}
 use Rattle.ledger.specs.Ledgers.{receivedIn, ofIssuer, issuersNamed, ledgerCheck, Step, taking, abandoning}
 use Rattle.ledger.specs.Ledgers.{headerTerms, openVersion, ledgerAfter, ledgerAnswers}
 
@@ -60,8 +62,22 @@ shownLanes steps = lanesOf (reached steps .shown)
 abbrev pub acceptedRecords : List Step → List (List ℕ)
 acceptedRecords steps = paymentRecords (ledgerOf steps .accepted)
 
+-- what a memory remembers of files that were accepted one after the other, by their headers
+abbrev pub rememberedAfter : List Pair → List (List ℕ) → List Pair
+rememberedAfter qs [] = qs
+rememberedAfter qs (h ∷ hs) = rememberedAfter (remembering (pairIn h) qs) hs
+
+abbrev pub remembered : List Filed → List Pair
+remembered files = rememberedAfter [] (headersOf files)
+
+-- the pair and the number of the open file; zeros with none open
+abbrev pub openPair : Option Opened → Pair
+openPair none = noPair
+openPair (some f) = pairIn (f .header)
+
 -- The invariant: the board shown has the payments of the accepted files, the working board those of the open file too;
--- the session's version is the one that the open file's header names, and its form is the open file's.
+-- the session's version is the one that the open file's header names, and its form is the open file's. The memory has
+-- what it remembers of the accepted files, and room for the open one.
 
 abbrev pub allRecords : Ledger → List (List ℕ)
 allRecords k = paymentRecords (k .accepted) ++ openRecords (k .opened)
@@ -74,6 +90,10 @@ pub record Agrees (s : Session) (k : Ledger) : Type 0 where
   pub total : s .file .total ≡ receivedIn (openRecords (k .opened))
   pub version : s .file .version ≡ openVersion (k .opened)
   pub lined : s .file .lined ≡ isOpenLined (k .opened)
+  pub opening : s .opening ≡ openPair (k .opened)
+  pub memory : pairsOf (s .memory) ≡ remembered (k .accepted)
+  pub whole : length (s .memory .pairs) ≡ mostPairs
+  pub room : s .opened ≡ true → hasRoomFor (s .memory) (s .opening) ≡ true
   pub soundShown : SoundBoard (s .shown)
   pub soundWork : SoundBoard (s .work)
 
@@ -185,9 +205,28 @@ NoTrailer abandoning = Unit {0}
 abbrev pub NothingShowsBefore : Type 0
 NothingShowsBefore = (s : Session) (steps : List Step) → Each NoTrailer steps → sessionAfter s steps .shown ≡ s .shown
 
--- an abandoned file leaves the board as it was; with no file open nothing changes
+-- every record but an accepted Z leaves the memory as it was; a Z has the number of the open file remembered for its
+-- pair, if the pair is there or has room, as in every session that steps reach
+abbrev pub OnlyTrailersRemember : Type 0
+OnlyTrailersRemember =
+    (agreed : List ℕ) (s : Session) (rec : List ℕ)
+    → (namedBy (getD rec 0 0) ≡ Is Trailer → takeOf agreed s rec .answer ≡ Accepted → ⊥)
+    → takeOf agreed s rec .session .memory ≡ s .memory
+
+abbrev pub TrailersRemember : Type 0
+TrailersRemember =
+    (agreed : List ℕ) (s : Session) (rec : List ℕ) → namedBy (getD rec 0 0) ≡ Is Trailer
+    → takeOf agreed s rec .answer ≡ Accepted
+    → (takeOf agreed s rec .session .memory ≡ memoryWith (s .memory) (s .opening))
+    × (length (s .memory .pairs) ≡ mostPairs → hasRoomFor (s .memory) (s .opening) ≡ true
+    → rememberedFor (s .opening) (pairsOf (takeOf agreed s rec .session .memory)) ≡ some (s .opening .sequence))
+
+-- an abandoned file leaves the board and the memory as they were; with no file open nothing changes
 abbrev pub AbandonKeepsBoard : Type 0
 AbandonKeepsBoard = (s : Session) → abandonOf s .shown ≡ s .shown
+
+abbrev pub AbandonKeepsMemory : Type 0
+AbandonKeepsMemory = (s : Session) → abandonOf s .memory ≡ s .memory
 
 abbrev pub AbandonDropsFile : Type 0
 AbandonDropsFile = (s : Session) → abandonOf s .opened ≡ false

@@ -12,9 +12,10 @@ use Rattle.barcode.specs.Agreed.{RightList}
 use Rattle.layout.specs.Layouts.{recordLength}
 use Rattle.file.specs.Forms.{nextLength}
 use Rattle.board.specs.Boards.{boardWithAll}
+use Rattle.pairs.specs.Pairs.{memoryWith}
 use Rattle.session.specs.declared.RunResult.{RunResult}
 use Rattle.session.specs.declared.Session.{Session}
-use Rattle.session.specs.Sessions.{freshSession, closedAt}
+use Rattle.session.specs.Sessions.{freshSession, closedAt, pairIn}
 use Rattle.session.specs.Runs.{leastLeft, piecesOf, runOf, bytesOf}
 use Rattle.ledger.specs.Ledgers.{Ledger, freshLedger, lanesOfRecords, isOpen, isOpenLined, ledgerCheck, Step}
 use Rattle.ledger.specs.Ledgers.{taking, ledgerStep, ledgerAnswers}
@@ -70,7 +71,7 @@ FileBytesRun =
     runOf agreed s false bytes
     ≡ record {
       answer = Accepted;
-      session = closedAt (boardWithAll (s .shown) (lanesOfRecords recs));
+      session = closedAt (boardWithAll (s .shown) (lanesOfRecords recs)) (memoryWith (s .memory) (pairIn a));
       records = length recs + 2;
       files = 1;
       bytes = length bytes;

@@ -26,14 +26,18 @@ use Rattle.ledger.specs.Promises.{answersOf, reached, shownLanes}
 abbrev pub blanks : ℕ → List ℕ
 blanks n = replicate n 32
 
-abbrev pub headerOf : ℕ → List ℕ
-headerOf version =
-    65 ∷ 50 ∷ blanks 40
-    ++ (digitsOf 3 1 ++ (blanks 20 ++ (digitsOf 8 20230102 ++ (digitsOf 6 1
-    ++ (digitsOf 2 version ++ (serviceOf 79 ++ blanks 52))))))
+-- by its agreement, 20 bytes, its bank, its number and its version
+abbrev pub headerWith : List ℕ → ℕ → ℕ → ℕ → List ℕ
+headerWith agreement bank number version =
+    65 ∷ 50 ∷ agreement
+    ++ (blanks 20 ++ (digitsOf 3 bank ++ (blanks 20 ++ (digitsOf 8 20230102 ++ (digitsOf 6 number
+    ++ (digitsOf 2 version ++ (serviceOf 79 ++ blanks 52)))))))
+
+abbrev pub headerOf : ℕ → ℕ → List ℕ
+headerOf version number = headerWith (blanks 20) 1 number version
 
 abbrev pub header : List ℕ
-header = headerOf version04
+header = headerOf version04 1
 
 -- the barcode of P4 (SPEC.md, "Samples"), its line without the four box checks, and its issuer
 abbrev pub code : List ℕ
@@ -126,7 +130,7 @@ past =
     record {
       steps =
           plain header ∷ plain (payment 4_294_967_295) ∷ plain (trailer 3 4_294_967_295)
-          ∷ plain header ∷ plain (payment 2) ∷ plain (payment 999_999_999_999)
+          ∷ plain (headerOf version04 2) ∷ plain (payment 2) ∷ plain (payment 999_999_999_999)
           ∷ plain (trailer 4 1_000_000_000_001) ∷ [];
       outcome = oneLane (replicate 7 accepted) (tally 3 1_004_294_967_296);
     }
@@ -206,9 +210,9 @@ abbrev pub versions : Sample
 versions =
     record {
       steps =
-          plain (headerOf version06) ∷ coded 55 49 ∷ plain (headerOf version04) ∷ coded 57 52 ∷ coded 105 54
+          plain (headerOf version06 1) ∷ coded 55 49 ∷ plain (headerOf version04 2) ∷ coded 57 52 ∷ coded 105 54
           ∷ coded 106 49 ∷ coded 49 55 ∷ plain (trailer 5 3)
-          ∷ plain (headerOf version06) ∷ abandoning ∷ plain (headerOf 5) ∷ plain (headerOf version04)
+          ∷ plain (headerOf version06 2) ∷ abandoning ∷ plain (headerOf 5 2) ∷ plain (headerOf version04 2)
           ∷ coded 55 49 ∷ coded 57 49 ∷ coded 49 52 ∷ coded 102 51 ∷ plain (trailer 3 1) ∷ [];
       outcome =
           oneLane
@@ -250,8 +254,8 @@ bare =
           plain (header ++ (13 ∷ [])) ∷ plain (header ++ (13 ∷ 13 ∷ [])) ∷ withLineEnd (payment 109) ∷ plain header
           ∷ withLineEnd (payment 109) ∷ plain (payment 109 ++ (13 ∷ [])) ∷ plain (payment 109)
           ∷ withLineEnd (trailer 3 109) ∷ plain (trailer 3 109)
-          ∷ withLineEnd header ∷ withLineEnd (payment 1) ∷ withLineEnd (trailer 3 1)
-          ∷ withLineEnd header ∷ abandoning ∷ plain header ∷ plain (trailer 2 0) ∷ [];
+          ∷ withLineEnd (headerOf version04 2) ∷ withLineEnd (payment 1) ∷ withLineEnd (trailer 3 1)
+          ∷ withLineEnd (headerOf version04 3) ∷ abandoning ∷ plain (headerOf version04 3) ∷ plain (trailer 2 0) ∷ [];
       outcome =
           oneLane
           (refused 1 0 ∷ refused 1 0 ∷ refused 9 1 ∷ accepted ∷ refused 1 0 ∷ refused 1 0 ∷ accepted ∷ refused 1 0

@@ -21,7 +21,8 @@ use Rattle.file.specs.Files.{mostPayments, mostCentavos, freshFile, fileAnswers
 use Rattle.board.specs.Lanes.{mostLanes, lanesFrom}
 use Rattle.board.specs.Boards.{postAnswers, boardWithAll}
 use Rattle.session.specs.declared.Session.{Session}
-use Rattle.session.specs.Sessions.{freshSession, closedAt}
+use Rattle.pairs.specs.Pairs.{memoryAnswer, memoryWith}
+use Rattle.session.specs.Sessions.{freshSession, closedAt, pairIn}
 use Rattle.ledger.specs.Ledgers.{Filed, lanesOfRecords, receivedBy, receivedIn, headerTerms, Step, taking}
 use Rattle.ledger.specs.Promises.{sessionAfter, answersOf, reached, ledgerOf, shownLanes}
 
@@ -58,14 +59,16 @@ AllAccepted answers = Each (λ (a : Answer). a ≡ Accepted) answers
 
 -- Promises.
 
--- of any session with no file open: a file, lined or bare, is accepted under its list exactly if none of its payments
--- is refused 15 to 18 and its trailer is true; the board then has them all
+-- of any session with no file open: a file, lined or bare, is accepted under its list exactly if the memory lets its
+-- header pass, none of its payments is refused 15 to 18 and its trailer is true; the board then has them all, and the
+-- memory its number
 abbrev pub FileAccepted : Type 0
 FileAccepted =
     (agreed : List ℕ) (s : Session) (lined : Bool) (a : List ℕ) (recs : List (List ℕ)) (z : List ℕ)
     → s .opened ≡ false → Whole agreed a recs z
     → AllAccepted (answersOf s (fileOf agreed lined a recs z))
-    ↔ ((fileAnswers (freshFile (versionIn a) lined) (receivedEach recs) ≡ Accepted)
+    ↔ ((memoryAnswer (s .memory) (pairIn a) ≡ Accepted)
+    × (fileAnswers (freshFile (versionIn a) lined) (receivedEach recs) ≡ Accepted)
     × (postAnswers (s .shown) (lanesOfRecords recs) ≡ Accepted) × TrueFigures recs z)
 
 abbrev pub FilePosted : Type 0
@@ -73,7 +76,8 @@ FilePosted =
     (agreed : List ℕ) (s : Session) (lined : Bool) (a : List ℕ) (recs : List (List ℕ)) (z : List ℕ)
     → s .opened ≡ false → Whole agreed a recs z
     → AllAccepted (answersOf s (fileOf agreed lined a recs z))
-    → sessionAfter s (fileOf agreed lined a recs z) ≡ closedAt (boardWithAll (s .shown) (lanesOfRecords recs))
+    → sessionAfter s (fileOf agreed lined a recs z)
+    ≡ closedAt (boardWithAll (s .shown) (lanesOfRecords recs)) (memoryWith (s .memory) (pairIn a))
 
 -- of any session with no file open: an A, Gs and a Z that are all accepted under one list, with whatever follows each,
 -- are right under the version that the A names and that list, and all of the A's form
