@@ -16,14 +16,15 @@ use Rattle.board.specs.Lanes.{fits}
 use Rattle.board.specs.Boards.{ownOf, usedAfter, slotAnswer}
 use Rattle.page.specs.Plain.{neededIn}
 use Rattle.page.specs.Pages.{numberLine, issuerLine, tallyLines, laneLines, headLines}
-use Rattle.day.specs.Samples.{WorkedInput, OpenInput, LinedInput, RefusedInput}
+use Rattle.pairs.specs.Pairs.{nextNumber, isSamePair, memoryWith}
+use Rattle.day.specs.Samples.{WorkedInput, OpenInput, LinedInput, TwiceInput, RefusedInput}
 
-all : WorkedInput × OpenInput × LinedInput × RefusedInput
+all : WorkedInput × OpenInput × LinedInput × TwiceInput × RefusedInput
 unfolding recordAnswer versionAnswer listAnswer freeAnswer isAgreed keyOf isIssuer fieldAnswer kindAnswer isVersionText isService dateAnswer isCapture isForm namedBy layoutOf table rowAt
-    hasLineEnd fitsLength endAnswer figuresAnswer fileAnswer fits ownOf usedAfter slotAnswer firstThreeAnswer generalRight
+    hasLineEnd fitsLength endAnswer figuresAnswer fileAnswer fits ownOf usedAfter slotAnswer nextNumber isSamePair memoryWith firstThreeAnswer generalRight
     termOf addedBy digitOfRemainder dateOf isDate daysIn isLeap digitsOf valueOf isOf
     neededIn numberLine issuerLine tallyLines laneLines headLines
-all = (refl, refl, (refl, refl, refl, refl, refl), refl)
+all = (refl, refl, (refl, refl, refl, refl, refl), refl, refl)
 
 pub worked-input : WorkedInput
 worked-input = all .0
@@ -34,5 +35,8 @@ open-input = all .1
 pub lined-input : LinedInput
 lined-input = all .2
 
+pub twice-input : TwiceInput
+twice-input = all .3
+
 pub refused-input : RefusedInput
-refused-input = all .3
+refused-input = all .4

@@ -1,15 +1,15 @@
--- The worked input (SPEC.md, "Samples"), from its bytes to the bytes printed; without its Z, with line ends, and behind
--- a refusal.
--- Assumes nothing.
+-- The worked input (SPEC.md, "Samples"), from its bytes to the bytes printed; without its Z, with line ends, twice, and
+-- behind a refusal. Assumes nothing.
 use Prim.Native.Nat.{ℕ}
 use mathlib.Core.Bool.{true}
 use mathlib.Core.List.{List, [], _∷_, _++_}
 use mathlib.Core.Path.{_≡_}
-use lib.ListN.{take}
+use lib.ListN.{take, drop}
+use Rattle.kinds.specs.Terms.{version04}
 use Rattle.board.specs.Boards.{freshBoard}
 use Rattle.page.specs.Pages.{pageOf}
 use Rattle.page.specs.Samples.{workedPage}
-use Rattle.ledger.specs.Samples.{header, payment, trailer}
+use Rattle.ledger.specs.Samples.{headerOf, header, payment, trailer}
 use Rattle.ledger.specs.WholeFiles.{allInForm}
 use Rattle.session.specs.Runs.{bytesOf}
 use Rattle.day.specs.Inputs.{dayOfInput, pageOfInput}
@@ -30,19 +30,30 @@ WorkedInput = pageOfInput workedInput ≡ workedPage
 abbrev pub OpenInput : Type 0
 OpenInput = pageOfInput openInput ≡ pageOf 19 0 2 0 freshBoard
 
--- the worked input with CR and LF behind each record: 456 bytes
-abbrev pub linedInput : List ℕ
-linedInput = bytesOf (allInForm true (header ∷ payment 109 ∷ trailer 3 109 ∷ []))
+-- the worked input as a file of this number, with CR and LF behind each record: 456 bytes
+abbrev pub linedInput : ℕ → List ℕ
+linedInput number = bytesOf (allInForm true (headerOf version04 number ∷ payment 109 ∷ trailer 3 109 ∷ []))
 
 -- Promise: its page is the worked page too; without its last byte it is refused 22 at place 151, after two records; and
--- behind the bare one it is a second file, and its payment a second one of the same lane.
+-- behind the bare one, with the next number, it is a second file, and its payment a second one of the same lane.
 abbrev pub LinedInput : Type 0
 LinedInput =
-    (pageOfInput linedInput ≡ workedPage)
-    × (pageOfInput (take 455 linedInput) ≡ pageOf 22 151 2 0 freshBoard)
-    × (dayOfInput (workedInput ++ linedInput) .files ≡ 2)
-    × (dayOfInput (workedInput ++ linedInput) .session .shown .used ≡ 1)
-    × (dayOfInput (workedInput ++ linedInput) .session .shown .total ≡ record { payments = 2; centavos = 218 })
+    (pageOfInput (linedInput 1) ≡ workedPage)
+    × (pageOfInput (take 455 (linedInput 1)) ≡ pageOf 22 151 2 0 freshBoard)
+    × (dayOfInput (workedInput ++ linedInput 2) .files ≡ 2)
+    × (dayOfInput (workedInput ++ linedInput 2) .session .shown .used ≡ 1)
+    × (dayOfInput (workedInput ++ linedInput 2) .session .shown .total ≡ record { payments = 2; centavos = 218 })
+
+-- Promise: loaded twice it is refused 26 at place 74, and every other line of the page is the worked page's: its three
+-- records, its file and its lane are shown once.
+abbrev pub refusedLines : List ℕ
+refusedLines =
+    97 ∷ 110 ∷ 115 ∷ 119 ∷ 101 ∷ 114 ∷ 61 ∷ 50 ∷ 54 ∷ 10
+    ∷ 112 ∷ 108 ∷ 97 ∷ 99 ∷ 101 ∷ 61 ∷ 55 ∷ 52 ∷ 10
+    ∷ []
+
+abbrev pub TwiceInput : Type 0
+TwiceInput = pageOfInput (workedInput ++ workedInput) ≡ refusedLines ++ drop 17 workedPage
 
 -- Promise: a lone Z is refused 9 at place 1, and the worked input behind it is not taken.
 abbrev pub RefusedInput : Type 0

@@ -24,6 +24,8 @@ use Rattle.fields.proofs.Ignored.{other-joins-ignore-terms, other-makes-ignore-
 use Rattle.file.proofs.Files.{one-right-trailer}
 use Rattle.file.proofs.Forms.{line-end-is-cr-and-lf, fitting-is-in-form}
 use Rattle.board.proofs.Lanes.{past-thirty-two-bits}
+use Rattle.pairs.proofs.Memories.{next-is-shown, no-number-follows-itself, one-follows-the-last, pair-accepted}
+use Rattle.pairs.proofs.Memories.{pair-is-remembered, others-stay, no-room-changes-nothing}
 use Rattle.writer.proofs.Written.{fields-write-the-header, fields-write-the-payment, written-is-accepted}
 use Rattle.writer.proofs.Written.{payments-written-under-a-version}
 use Rattle.writer.proofs.Trailers.{fields-write-the-trailer}
@@ -44,7 +46,8 @@ use Rattle.ledger.proofs.Records.{lane-is-the-sessions, equal-is-the-boards, is
 use Rattle.ledger.proofs.Records.{limits-are-the-boards}
 use Rattle.ledger.proofs.Agreement.{session-agrees, answers-are-the-ledgers, next-answer-is-the-ledgers}
 use Rattle.ledger.proofs.Sessions.{true-trailers-only, only-trailers-show, nothing-shows-before, trailers-show-all}
-use Rattle.ledger.proofs.Sessions.{abandon-keeps-board, abandon-drops-file, abandon-nothing}
+use Rattle.ledger.proofs.Sessions.{only-trailers-remember, trailers-remember}
+use Rattle.ledger.proofs.Sessions.{abandon-keeps-board, abandon-keeps-memory, abandon-drops-file, abandon-nothing}
 use Rattle.ledger.proofs.Sessions.{finish-answers, finish-keeps-session, payments-taken-under-a-version}
 use Rattle.ledger.proofs.Shown.{lanes-are-the-payments, lanes-in-order, each-lane-is-exact, no-issuer-has-two-lanes}
 use Rattle.ledger.proofs.Shown.{sums-are-the-records, totals-are-the-records, within-limits}
@@ -54,20 +57,22 @@ use Rattle.ledger.proofs.Runs.{run-is-the-ledgers}
 use Rattle.ledger.proofs.Calls.{calls-agree, replies-are-the-ledgers, calls-are-steps}
 use Rattle.ledger.proofs.LedgerFiles.{ledger-files-are-whole, open-files-have-a-version}
 use Rattle.ledger.proofs.Forms.{forms-agree, only-ended-records}
+use Rattle.ledger.proofs.Numbers.{last-number-is-remembered, numbers-follow}
+use Rattle.ledger.proofs.FilesTwice.{file-twice-is-refused}
 use Rattle.ledger.proofs.FileBytes.{pieces-are-the-records, file-bytes-run}
 use Rattle.ledger.proofs.WrittenFiles.{closed-file-bytes-run}
 use Rattle.ledger.proofs.WholeFiles.{file-accepted, file-posted, fresh-session-accepts, fresh-session-shows}
 use Rattle.ledger.proofs.AcceptedFiles.{accepted-file-is-whole}
 use Rattle.ledger.proofs.WrittenFiles.{closed-file-is-whole, closed-file-is-accepted, fields-write-the-file}
 use Rattle.day.proofs.Inputs.{buffers-print-one-page}
-use Rattle.day.proofs.Samples.{worked-input, open-input, lined-input, refused-input}
+use Rattle.day.proofs.Samples.{worked-input, open-input, lined-input, twice-input, refused-input}
 use Rattle.promises.specs.Demands.{Demand1, Demand2, Demand3, Promised}
 use Rattle.promises.proofs.Calls.{calls-make-one-file, open-writers-have-a-version}
 use Rattle.promises.proofs.OneOutcome.{one-outcome}
 use Rattle.promises.proofs.Refusals.{refusals-change-nothing}
 use Rattle.promises.proofs.Samples.{samples-hold, p5-is-an-exchange, p6-is-a-change, p9-is-a-change}
 use Rattle.promises.proofs.Samples.{box-alone-is-refused}
-use Rattle.promises.proofs.Shown.{refusals-point-at-places, records-show-their-places}
+use Rattle.promises.proofs.Shown.{refusals-point-at-places, records-show-their-places, pairs-are-their-places}
 use Rattle.promises.proofs.WrongLists.{wrong-lists-are-first}
 
 pub demand-1 : Demand1
@@ -88,6 +93,8 @@ demand-1 =
       bytes = each-refuses;
       keeps = refusals-change-nothing;
       finishing = finish-keeps-session;
+      memory = (only-trailers-remember, trailers-remember, abandon-keeps-memory);
+      remembered = (pair-is-remembered, others-stay, no-room-changes-nothing);
       running = run-is-its-takes;
     }
 
@@ -145,6 +152,14 @@ demand-2 =
         written-is-accepted,
         trailer-shows-the-figures,
       );
+      numbers = (last-number-is-remembered, numbers-follow, file-twice-is-refused);
+      following = (
+        pair-accepted,
+        next-is-shown,
+        no-number-follows-itself,
+        one-follows-the-last,
+        pairs-are-their-places,
+      );
       bytesRun = (pieces-are-the-records, file-bytes-run, closed-file-bytes-run);
       fed = (run-leaves-few, feeding-is-one-run);
       answers = (session-agrees, answers-are-the-ledgers, next-answer-is-the-ledgers, run-is-the-ledgers);
@@ -182,5 +197,5 @@ promised =
       second = demand-2;
       third = demand-3;
       p1ToP12 = samples-hold;
-      program = (buffers-print-one-page, worked-input, open-input, lined-input, refused-input);
+      program = (buffers-print-one-page, worked-input, open-input, lined-input, twice-input, refused-input);
     }

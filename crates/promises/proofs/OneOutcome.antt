@@ -124,6 +124,9 @@ of-file = search value
 of-board : outcomes.BoardOutcomes
 of-board = search value
 
+of-pairs : outcomes.PairsOutcomes
+of-pairs = search value
+
 of-session : outcomes.SessionOutcomes
 of-session = search value
 
@@ -154,6 +157,7 @@ one-outcome =
       of-fields,
       of-file,
       of-board,
+      of-pairs,
       of-session,
       of-writer,
       of-page,

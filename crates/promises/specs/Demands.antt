@@ -25,6 +25,8 @@ use Rattle.fields.specs.Promises.{OtherJoinsIgnoreTerms, OtherMakesIgnoreTerms,
 use Rattle.file.specs.Files.{OneRightTrailer}
 use Rattle.file.specs.Forms.{LineEndIsCrAndLf, FittingIsInForm}
 use Rattle.board.specs.Lanes.{PastThirtyTwoBits}
+use Rattle.pairs.specs.Pairs.{NextIsShown, NoNumberFollowsItself, OneFollowsTheLast}
+use Rattle.pairs.specs.Pairs.{PairAccepted, PairIsRemembered, OthersStay, NoRoomChangesNothing}
 use Rattle.writer.specs.Promises.{FieldsWriteTheHeader, FieldsWriteThePayment, FieldsWriteTheTrailer}
 use Rattle.writer.specs.Promises.{WrittenAmountsAreRead, WrittenIsAccepted, TrailerShowsTheFigures}
 use Rattle.writer.specs.Promises.{PaymentsWrittenUnderAVersion}
@@ -42,7 +44,8 @@ use Rattle.ledger.specs.Promises.{SessionAgrees, AnswersAreTheLedgers, NextAnsw
 use Rattle.ledger.specs.Promises.{LanesAreThePayments, LanesInOrder, EachLaneIsExact, NoIssuerHasTwoLanes}
 use Rattle.ledger.specs.Promises.{SumsAreTheRecords, TotalsAreTheRecords, WithinLimits}
 use Rattle.ledger.specs.Promises.{OnlyTrailersShow, NothingShowsBefore, TrailersShowAll}
-use Rattle.ledger.specs.Promises.{AbandonKeepsBoard, AbandonDropsFile, AbandonNothing}
+use Rattle.ledger.specs.Promises.{OnlyTrailersRemember, TrailersRemember}
+use Rattle.ledger.specs.Promises.{AbandonKeepsBoard, AbandonKeepsMemory, AbandonDropsFile, AbandonNothing}
 use Rattle.ledger.specs.Promises.{FinishAnswers, FinishKeepsSession}
 use Rattle.ledger.specs.Promises.{OpenFilesHaveAVersion, PaymentsTakenUnderAVersion}
 use Rattle.session.specs.Runs.{RunIsItsTakes, WrongListTakesNothing, RunLeavesFew, FeedingIsOneRun}
@@ -52,14 +55,15 @@ use Rattle.ledger.specs.Calls.{CallsAgree, RepliesAreTheLedgers, CallsAreSteps}
 use Rattle.ledger.specs.WholeFiles.{LedgerFilesAreWhole}
 use Rattle.ledger.specs.WholeFiles.{FileAccepted, FilePosted, AcceptedFileIsWhole}
 use Rattle.ledger.specs.WholeFiles.{FreshSessionAccepts, FreshSessionShows}
+use Rattle.ledger.specs.Numbers.{LastNumberIsRemembered, NumbersFollow, FileTwiceIsRefused}
 use Rattle.ledger.specs.WrittenFiles.{ClosedFileIsWhole, ClosedFileIsAccepted, ClosedFileBytesRun, FieldsWriteTheFile}
 use Rattle.day.specs.Inputs.{BuffersPrintOnePage}
-use Rattle.day.specs.Samples.{WorkedInput, OpenInput, LinedInput, RefusedInput}
+use Rattle.day.specs.Samples.{WorkedInput, OpenInput, LinedInput, TwiceInput, RefusedInput}
 use Rattle.promises.specs.Calls.{CallsMakeOneFile, OpenWritersHaveAVersion}
 use Rattle.promises.specs.OneOutcome.{OneOutcome}
 use Rattle.promises.specs.Refusals.{RefusalsChangeNothing}
 use Rattle.promises.specs.Samples.{samples, Hold, P5IsAnExchange, P6IsAChange, P9IsAChange, BoxAloneIsRefused}
-use Rattle.promises.specs.Shown.{RefusalsPointAtPlaces, RecordsShowTheirPlaces}
+use Rattle.promises.specs.Shown.{RefusalsPointAtPlaces, RecordsShowTheirPlaces, PairsAreTheirPlaces}
 use Rattle.promises.specs.WrongLists.{WrongListsAreFirst}
 
 -- "It takes every input without a fault and ends" is not stated here: the toolchain proves it of every function that it
@@ -87,6 +91,10 @@ pub record Demand1 : Type 2 where
   -- "and then the session, the board and the buffers we lent are what they were"
   pub keeps : RefusalsChangeNothing
   pub finishing : FinishKeepsSession
+  -- the memory of sequence numbers is in the session: besides, of any session only an accepted Z changes it, by the
+  -- number of the file that it closes, and abandoning leaves it
+  pub memory : OnlyTrailersRemember × TrailersRemember × AbandonKeepsMemory
+  pub remembered : PairIsRemembered × OthersStay × NoRoomChangesNothing
   -- after a run of many records they are what the accepted records before the refusal left
   pub running : RunIsItsTakes
 
@@ -124,6 +132,10 @@ pub record Demand2 : Type 0 where
   pub files : FileAccepted × FilePosted × AcceptedFileIsWhole × FreshSessionAccepts × FreshSessionShows
   pub written :
       ClosedFileIsWhole × ClosedFileIsAccepted × CallsMakeOneFile × WrittenIsAccepted × TrailerShowsTheFigures
+  -- and no file twice: what is remembered of a bank and an agreement is the number of their latest accepted file, the
+  -- numbers of their files follow each other, and an accepted file is refused when it comes again,
+  pub numbers : LastNumberIsRemembered × NumbersFollow × FileTwiceIsRefused
+  pub following : PairAccepted × NextIsShown × NoNumberFollowsItself × OneFollowsTheLast × PairsAreTheirPlaces
   -- also as bytes, run at once or in parts,
   pub bytesRun : PiecesAreTheRecords × FileBytesRun × ClosedFileBytesRun
   pub fed : RunLeavesFew × FeedingIsOneRun
@@ -173,4 +185,4 @@ pub record Promised : Type 2 where
   pub p1ToP12 : Hold samples
   -- `quadro` prints `pageOfInput` of the input's bytes, in whatever buffers they come; inputs and their pages.
   -- That a day of the program that is over is the day of the bytes it read is `OverIsTheInputs`, in its own crate.
-  pub program : BuffersPrintOnePage × WorkedInput × OpenInput × LinedInput × RefusedInput
+  pub program : BuffersPrintOnePage × WorkedInput × OpenInput × LinedInput × TwiceInput × RefusedInput

@@ -18,6 +18,7 @@ use Rattle.record.proofs as records
 use Rattle.fields.proofs as fields
 use Rattle.file.proofs as file
 use Rattle.board.proofs as board
+use Rattle.pairs.proofs as pairs
 use Rattle.session.proofs as session
 use Rattle.writer.proofs as writer
 use Rattle.page.proofs as page
@@ -109,6 +110,7 @@ pub record KindsOutcomes : Type 2 where
   pub kinds·is_capture : One kinds.is_capture.ended (λ M. kinds.is_capture.clauses)
   pub kinds·is_form : One kinds.is_form.ended (λ M. kinds.is_form.clauses)
   pub kinds·check_version : One kinds.check_version.ended (λ M. kinds.check_version.clauses)
+  pub kinds·same_bytes : One kinds.same_bytes.ended (λ M. kinds.same_bytes.clauses)
   pub kinds·byte_at : One kinds.byte_at.ended (λ M. kinds.byte_at.clauses)
 
 pub record RecordOutcomes : Type 2 where
@@ -142,6 +144,12 @@ pub record BoardOutcomes : Type 2 where
   pub board·Slot·post : One board.Slot.post.ended (λ M. board.Slot.post.clauses)
   pub board·Board·new : One board.Board.new.ended (λ M. board.Board.new.clauses)
   pub board·Board·post : One board.Board.post.ended (λ M. board.Board.post.clauses)
+
+pub record PairsOutcomes : Type 2 where
+  pub pairs·Pair·none : One pairs.Pair.none.ended (λ M. pairs.Pair.none.clauses)
+  pub pairs·Memory·new : One pairs.Memory.new.ended (λ M. pairs.Memory.new.clauses)
+  pub pairs·Memory·check : One pairs.Memory.check.ended (λ M. pairs.Memory.check.clauses)
+  pub pairs·Memory·remember : One pairs.Memory.remember.ended (λ M. pairs.Memory.remember.clauses)
 
 pub record SessionOutcomes : Type 2 where
   pub session·Session·limits : One session.Session.limits.ended (λ M. session.Session.limits.clauses)
@@ -235,6 +243,7 @@ pub record OneOutcome : Type 2 where
   pub ofFields : FieldsOutcomes
   pub ofFile : FileOutcomes
   pub ofBoard : BoardOutcomes
+  pub ofPairs : PairsOutcomes
   pub ofSession : SessionOutcomes
   pub ofWriter : WriterOutcomes
   pub ofPage : PageOutcomes

@@ -5,7 +5,7 @@ use mathlib.Core.List.{List, []}
 use mathlib.Core.Path.{_≡_}
 use Rattle.answer.specs.declared.Reason.the-variants.{FixedDiffers}
 use Rattle.answer.specs.declared.Answer.the-variants.{Refused}
-use Rattle.answer.specs.Refusals.{receivedPlace, issuerPlace}
+use Rattle.answer.specs.Refusals.{receivedPlace, issuerPlace, sequencePlace, agreementPlace}
 use Rattle.decimal.specs.Numbers.{numberOf}
 use Rattle.decimal.specs.Places.{places}
 use Rattle.calendar.specs.declared.Date.{Date}
@@ -16,9 +16,10 @@ use Rattle.line.specs.Lines.{inLine}
 use Rattle.file.specs.Files.{countPlace, totalPlace}
 use Rattle.file.specs.Forms.{endPlace}
 use Rattle.layout.specs.declared.Record.the-variants.{Payment}
-use Rattle.layout.specs.Layouts.{rowAt, receivedRow, barcodeRow, countRow, totalRow}
+use Rattle.layout.specs.Layouts.{rowAt, agreementRow, sequenceRow, receivedRow, barcodeRow, countRow, totalRow}
 use Rattle.kinds.specs.Terms.{isVersion, versionAnswer}
 use Rattle.record.specs.Values.{dayOf, headerShown, paymentShown, trailerShown}
+use Rattle.session.specs.Sessions.{pairIn}
 use Rattle.ledger.specs.Samples as ledger
 
 abbrev pub numberAt : ℕ → ℕ → List ℕ → ℕ
@@ -34,8 +35,9 @@ FreeFieldAt segment code line rec =
 
 -- Promise: refusals 13 and 14 point at the count and the total of a Z, 16 and 18 at the received centavos of a G, and
 -- 17 at the issuer, place 16 of its barcode; 10 of a G that is told a number other than 4 and 6 points at place 80, an
--- A's version; 22 at place 151, right behind the record; 11 of an agreed issuer at the first place of its free field, 20
--- in a barcode, 21 in a line and 57 in a G, in segment 6 24, 26 and 61.
+-- A's version; 22 at place 151, right behind the record; 26 and 27 at the sequence number and the agreement of an A; 11
+-- of an agreed issuer at the first place of its free field, 20 in a barcode, 21 in a line and 57 in a G, in segment 6
+-- 24, 26 and 61.
 abbrev pub RefusalsPointAtPlaces : Type 0
 RefusalsPointAtPlaces =
     (countPlace ≡ rowAt countRow .first)
@@ -44,6 +46,8 @@ RefusalsPointAtPlaces =
     × (issuerPlace ≡ rowAt barcodeRow .first - 1 + 16)
     × ((version : ℕ) → isVersion version ≡ false → versionAnswer version Payment ≡ Refused FixedDiffers 80)
     × (endPlace ≡ 151)
+    × (sequencePlace ≡ rowAt sequenceRow .first)
+    × (agreementPlace ≡ rowAt agreementRow .first)
     × FreeFieldAt 1 20 21 57
     × FreeFieldAt 6 24 26 61
 
@@ -69,6 +73,12 @@ RecordsShowTheirPlaces =
       number = numberAt 101 108 rec;
     })
     × (trailerShown rec ≡ record { count = numberAt 2 7 rec; total = numberAt 8 24 rec })
+
+-- Promise: the pair of a file, and its number, are these places of its A, byte for byte.
+abbrev pub PairsAreTheirPlaces : Type 0
+PairsAreTheirPlaces =
+    (rec : List ℕ)
+    → pairIn rec ≡ record { bank = places 43 45 rec; agreement = places 3 22 rec; sequence = numberAt 74 79 rec }
 
 -- Promise: the last digit received, at place 93, is no part of the tariff: a payment of 109 centavos without tariff.
 abbrev pub TariffIsBehindReceived : Type 0
