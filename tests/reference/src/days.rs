@@ -3,10 +3,14 @@
 mod damage;
 mod files;
 mod lists;
+mod pairs;
+mod wrong_numbers;
 
 pub use damage::{damage, damage_line_end, disorder, swap};
 pub use files::{day, day_of, day_under, Day, Form, Posted};
 pub use lists::{agreed, wrong_agreed};
+pub use pairs::{first_number, header_fields_of, header_of, pairs};
+pub use wrong_numbers::misnumber;
 
 use crate::agreed::is_agreed;
 use crate::barcode::{self, Issuer};

@@ -28,5 +28,5 @@ pub use dates::Date;
 pub use page::Reading;
 pub use records::{Header, Payment, Record, Trailer};
 pub use refusal::{answer, Reason, Refusal};
-pub use session::{Board, Lane, RunResult, Session};
+pub use session::{Board, Lane, Memory, Pair, RunResult, Session};
 pub use writer::{Stage, Writer};

@@ -50,6 +50,8 @@ reasons! {
     WideNumber = 21, "number too wide for its field";
     NoLineEnd = 22, "bytes 13 and 10 do not follow the record";
     WrongList = 25, "the list of agreed issuers is too long, or has an entry that names no issuer, or an issuer twice";
+    NotFollowing = 26, "the sequence number does not follow the last one of its bank and agreement";
+    PairsFull = 27, "a new bank and agreement when 16 are remembered";
 }
 
 impl Reason {

@@ -1,8 +1,10 @@
-//! Sessions: docs/SPEC.md, "Sessions" and "Limits".
+//! Sessions: docs/SPEC.md, "Sessions", "Sequence numbers" and "Limits".
 
 mod board;
+mod memory;
 
 pub use board::{Board, Lane, LANES, MOST_BOARD_TOTAL};
+pub use memory::{following, Memory, Pair, LAST_NUMBER, PAIRS};
 
 use crate::agreed;
 use crate::records::{self, Payment, Trailer, LENGTH, LINED, LINE_END};
@@ -43,8 +45,8 @@ pub struct RunResult {
     pub bytes: usize,
 }
 
-/// A session. While no file is open, `taken`, `total` and `version` are 0, `lined` is false and `working` equals
-/// `shown`, except in an arbitrary state.
+/// A session. While no file is open, `taken`, `total` and `version` are 0, `lined` is false, `working` equals `shown`
+/// and `opening` is zeros, except in an arbitrary state.
 #[derive(Clone, Debug, PartialEq, Eq, Hash)]
 pub struct Session {
     /// Whether a file is open.
@@ -61,6 +63,10 @@ pub struct Session {
     pub shown: Board,
     /// The working board, which has the open file's payments too.
     pub working: Board,
+    /// The bank, the agreement and the sequence number of the open file.
+    pub opening: Pair,
+    /// The last number of each bank and agreement, which has accepted files only.
+    pub memory: Memory,
 }
 
 impl Default for Session {
@@ -70,7 +76,7 @@ impl Default for Session {
 }
 
 impl Session {
-    /// A new session: no file is open, and the board is empty.
+    /// A new session: no file is open, the board is empty, and no sequence number is remembered.
     pub const fn new() -> Session {
         Session {
             open: false,
@@ -80,12 +86,14 @@ impl Session {
             lined: false,
             shown: Board::new(),
             working: Board::new(),
+            opening: Pair::new(),
+            memory: Memory::new(),
         }
     }
 
     /// Takes one record, in a lined file with its line end. Order: 25; 1, 9; for G 10 at 80 if the version, in an
-    /// arbitrary state, is neither 4 nor 6; the fields; then for Z 13, 14, and for G 15, 16, 17, 18; last 22. A refusal
-    /// changes nothing. The list is not kept: the next record may come with another one.
+    /// arbitrary state, is neither 4 nor 6; the fields; then for A 26, 27, for Z 13, 14, and for G 15, 16, 17, 18; last
+    /// 22. A refusal changes nothing. The list is not kept: the next record may come with another one.
     pub fn take(&mut self, record: &[u8], agreed: &[u64]) -> Result<(), Refusal> {
         agreed::check(agreed)?;
         self.take_one(record, agreed)
@@ -98,7 +106,9 @@ impl Session {
         match (record[0], self.open) {
             (b'A', false) => {
                 let header = records::header(record)?;
-                self.begin(header.version, end == LINE_END);
+                let opening = Pair::of_header(record, header.sequence);
+                self.memory.check(&opening)?;
+                self.begin(header.version, end == LINE_END, opening);
                 Ok(())
             }
             (b'G', true) => {
@@ -174,7 +184,7 @@ impl Session {
         }
     }
 
-    /// Drops the open file; does nothing if none is open.
+    /// Drops the open file, whose number is not remembered; does nothing if none is open.
     pub fn abandon(&mut self) {
         if self.open {
             self.close();
@@ -194,14 +204,15 @@ impl Session {
         &self.shown
     }
 
-    /// Opens a file of this version and form: the working board starts as the board shown.
-    fn begin(&mut self, version: u64, lined: bool) {
+    /// Opens a file of this version, form, pair and number: the working board starts as the board shown.
+    fn begin(&mut self, version: u64, lined: bool, opening: Pair) {
         self.open = true;
         self.taken = 0;
         self.total = 0;
         self.version = version;
         self.lined = lined;
         self.working = self.shown;
+        self.opening = opening;
     }
 
     /// 22 at 151 if the open file is lined and this, which follows one of its records, is not its line end.
@@ -228,7 +239,8 @@ impl Session {
         Ok(())
     }
 
-    /// Accepts the open file if the trailer has its count and total and, in a lined file, its line end: 13, 14, 22.
+    /// Accepts the open file, and remembers its number, if the trailer has its count and total and, in a lined file,
+    /// its line end: 13, 14, 22.
     fn accept(&mut self, trailer: &Trailer, end: &[u8]) -> Result<(), Refusal> {
         // In an arbitrary state the sum may pass 2^64; then no trailer has this count.
         if self.taken.checked_add(2) != Some(trailer.count) {
@@ -239,11 +251,12 @@ impl Session {
         }
         self.check_end(end)?;
         self.shown = self.working;
+        self.memory.remember(&self.opening);
         self.close();
         Ok(())
     }
 
-    /// The closed state, which depends on the board shown alone.
+    /// The closed state, which depends on the board shown and the memory alone.
     fn close(&mut self) {
         self.open = false;
         self.taken = 0;
@@ -251,5 +264,6 @@ impl Session {
         self.version = 0;
         self.lined = false;
         self.working = self.shown;
+        self.opening = Pair::new();
     }
 }

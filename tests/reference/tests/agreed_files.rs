@@ -3,8 +3,8 @@
 
 mod common;
 
-use common::{a, a06, assert_answer, code_due, g, header_fields, lined, lined_all, payment_fields};
-use common::{key_of, rising, with_byte, with_bytes, z, WRONG};
+use common::{a, a06, a_of, assert_answer, code_due, g, header_fields, lined, lined_all};
+use common::{key_of, payment_fields, rising, with_byte, with_bytes, z, WRONG};
 use reference::records::{self, TABLE};
 use reference::{page, Date, Record, RunResult, Session, Stage, Writer};
 
@@ -212,7 +212,7 @@ fn a_run_under_a_wrong_list() {
 #[test]
 fn a_run_up_to_a_payment_without_a_date() {
     let (good, bad) = (paid(b"20240229"), paid(b"00000000"));
-    let input = [a(), good, z(3, 5), a(), good, bad, z(4, 10)].concat();
+    let input = [a(), good, z(3, 5), a_of(2), good, bad, z(4, 10)].concat();
     let mut session = Session::new();
     let run = session.run(&input, false, &AGREED_1);
     assert_answer(run.answer, 11, 57);

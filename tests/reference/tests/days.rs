@@ -76,21 +76,56 @@ fn no_files_no_bytes() {
     assert_eq!(day, Day::default());
 }
 
+/// The numbers of each pair follow each other. There is often one pair and sometimes 16, never more.
 #[test]
-fn sequence_numbers_rise_for_each_pair() {
-    for seed in 0..30 {
+fn sequence_numbers_follow_for_each_pair() {
+    let mut counts = BTreeMap::new();
+    let mut nexts = BTreeSet::new();
+    for seed in 0..200 {
         let day = days::day(&mut Random::new(seed), 10, 200, 3).unwrap();
-        let mut last: BTreeMap<(Vec<u8>, Vec<u8>), u64> = BTreeMap::new();
+        let mut last: BTreeMap<Vec<u8>, u64> = BTreeMap::new();
         for record in day.bytes.chunks(150).filter(|record| record[0] == b'A') {
             let field = |row| records::field(record, 0, row, &[]).to_vec();
-            let pair = (field(records::A_BANK), field(records::A_AGREEMENT));
-            let sequence = reference::digits::number(&field(records::A_SEQUENCE)).unwrap();
-            if let Some(before) = last.insert(pair, sequence) {
-                assert!(before < sequence);
+            let pair = [field(records::A_BANK), field(records::A_AGREEMENT)].concat();
+            let number = reference::digits::number(&field(records::A_SEQUENCE)).unwrap();
+            if let Some(before) = last.insert(pair, number) {
+                assert_eq!(number, before % 999_999 + 1);
+                nexts.insert((before, number));
             }
         }
-        assert!((1..=16).contains(&last.len()));
+        *counts.entry(last.len()).or_insert(0) += 1;
     }
+    assert_eq!(
+        counts.keys().copied().collect::<Vec<_>>(),
+        Vec::from_iter(1..=16)
+    );
+    assert!(counts[&1] > 80 && counts[&16] > 10, "{counts:?}");
+    for next in [(0, 1), (1, 2), (999_998, 999_999), (999_999, 1)] {
+        assert!(nexts.contains(&next), "{next:?}");
+    }
+}
+
+/// All pairs differ, some of them only in the bank or by a text at another place.
+#[test]
+fn pairs_that_are_nearly_equal() {
+    let mut random = Random::new(5);
+    let mut near = [0; 3];
+    for _ in 0..200 {
+        let pairs = days::pairs(&mut random, 17);
+        for i in 0..17 {
+            for before in &pairs[..i] {
+                let pair = &pairs[i];
+                assert!(!pair.is_same_pair(before));
+                let same_bank = pair.bank == before.bank;
+                let same_agreement = pair.agreement == before.agreement;
+                let same_text = pair.agreement.trim_ascii() == before.agreement.trim_ascii();
+                near[0] += u64::from(same_agreement);
+                near[1] += u64::from(same_bank && !same_text);
+                near[2] += u64::from(same_bank && same_text);
+            }
+        }
+    }
+    assert!(near.iter().all(|&count| count > 200), "{near:?}");
 }
 
 /// The files of a day are of either version, and each has codes of its own version: under 06 all of them.
@@ -168,32 +203,44 @@ fn damage_changes_one_to_three_places() {
     assert_eq!(pair, [2, 1]);
 }
 
-/// Damaged days against the naive session. Refused records are skipped, and files are abandoned now and then.
+/// A day, mostly with damage, and with its records in order or not.
+fn any_day(random: &mut Random, in_order: bool) -> Vec<u8> {
+    let issuers = random.index(71);
+    let files = 1 + random.index(8);
+    let mut bytes = days::day(random, issuers, files, 25).unwrap().bytes;
+    if !in_order {
+        days::disorder(random, &mut bytes);
+    }
+    for _ in 0..random.below(4) {
+        if !bytes.is_empty() {
+            let records = bytes.len().div_ceil(150);
+            let start = random.index(records) * 150;
+            let end = bytes.len().min(start + 150);
+            days::damage(random, &mut bytes[start..end]);
+        }
+    }
+    bytes
+}
+
+/// Damaged days against the naive session. Refused records are skipped, and files are abandoned now and then; most
+/// headers behind those get the number that follows.
 #[test]
 fn damaged_days_against_the_naive_session() {
     let mut random = Random::new(10);
     let mut numbers = BTreeMap::new();
     for round in 0..400 {
-        let issuers = random.index(71);
-        let files = 1 + random.index(8);
-        let mut day = days::day(&mut random, issuers, files, 25).unwrap();
-        if round % 2 == 0 {
-            days::disorder(&mut random, &mut day.bytes);
-        }
-        for _ in 0..random.below(4) {
-            if !day.bytes.is_empty() {
-                let records = day.bytes.len().div_ceil(150);
-                let start = random.index(records) * 150;
-                let end = day.bytes.len().min(start + 150);
-                days::damage(&mut random, &mut day.bytes[start..end]);
-            }
-        }
+        let bytes = any_day(&mut random, round % 2 == 1);
         let mut session = Session::new();
         let mut naive = NaiveSession::default();
-        for record in day.bytes.chunks(150) {
+        for record in bytes.chunks(150) {
+            let record = if random.once_in(8) {
+                record.to_vec()
+            } else {
+                naive.history.in_order(record)
+            };
             let before = session.clone();
-            let outcome = session.take(record, &[]);
-            let expected = naive.take(record, &[]);
+            let outcome = session.take(&record, &[]);
+            let expected = naive.take(&record, &[]);
             assert_eq!(answer(&outcome), expected.clone().err().unwrap_or((0, 0)));
             *numbers.entry(answer(&outcome).0).or_insert(0) += 1;
             match expected {
@@ -203,18 +250,14 @@ fn damaged_days_against_the_naive_session() {
             assert_eq!(NaiveSession::of(&session), naive);
             if random.once_in(200) {
                 session.abandon();
-                naive = NaiveSession {
-                    shown: naive.shown.clone(),
-                    working: naive.shown.clone(),
-                    ..NaiveSession::default()
-                };
+                naive = naive.abandoned();
                 assert_eq!(NaiveSession::of(&session), naive);
             }
         }
         assert_answer(session.finish(), if naive.open { 19 } else { 0 }, 0);
         assert_eq!(NaiveBoard::of(session.board()), naive.shown);
     }
-    for number in [0, 1, 2, 7, 8, 9, 10, 11, 12, 13, 14, 17] {
+    for number in [0, 1, 2, 7, 8, 9, 10, 11, 12, 13, 14, 17, 26] {
         assert!(numbers.contains_key(&number), "{number} of {numbers:?}");
     }
 }

@@ -101,9 +101,10 @@ fn days_under_lists() {
 /// Damages a day in one way or two.
 fn damaged(random: &mut Random, mut bytes: Vec<u8>) -> Vec<u8> {
     for _ in 0..random.below(3) {
-        match random.below(8) {
+        match random.below(10) {
             0 => drop(days::damage(random, &mut bytes)),
             1 | 2 => days::disorder(random, &mut bytes),
+            3 | 4 => days::misnumber(random, &mut bytes),
             _ => days::damage_line_end(random, &mut bytes),
         }
     }

@@ -6,7 +6,8 @@ mod common;
 use std::fs;
 use std::path::Path;
 
-use common::{a, a06, assert_answer, followed, g, lined, lined_all, naive, p4_code, z};
+use common::{a, a06, a_of, assert_answer, followed, g, lined, lined_all, naive, numbered};
+use common::{p4_code, z};
 use reference::page::page_of;
 use reference::{Reading, RunResult, Session};
 
@@ -14,8 +15,14 @@ fn good() -> [u8; 150] {
     g(&p4_code(), 5)
 }
 
-fn file() -> [[u8; 150]; 3] {
-    [a(), good(), z(3, 5)]
+/// A bare file with this sequence number.
+fn bare(number: u64) -> Vec<u8> {
+    [a_of(number), good(), z(3, 5)].concat()
+}
+
+/// The same file, lined.
+fn ended(number: u64) -> Vec<u8> {
+    lined_all(&[a_of(number), good(), z(3, 5)])
 }
 
 /// One run over the whole input: how many records and files it accepts, the answer, and the bytes of those records. The
@@ -38,18 +45,17 @@ fn assert_run(input: &[u8], records: u64, files: u64, answer: (u64, usize), byte
 
 #[test]
 fn lined_and_bare_files_in_turn() {
-    let (bare, ended) = (file().concat(), lined_all(&file()));
     assert_run(b"", 0, 0, (0, 0), 0);
-    assert_run(&ended, 3, 1, (0, 0), 456);
+    assert_run(&ended(1), 3, 1, (0, 0), 456);
     for input in [
-        [&bare[..], &ended, &bare, &ended],
-        [&ended[..], &bare, &ended, &bare],
-        [&ended[..], &ended, &bare, &bare],
+        [bare(1), ended(2), bare(3), ended(4)],
+        [ended(1), bare(2), ended(3), bare(4)],
+        [ended(1), ended(2), bare(3), bare(4)],
     ] {
         assert_run(&input.concat(), 12, 4, (0, 0), 1812);
     }
-    let newer = lined_all(&[a06(), good(), z(3, 5)]);
-    assert_run(&[bare, newer].concat(), 6, 2, (0, 0), 906);
+    let newer = lined_all(&[numbered(a06(), 2), good(), z(3, 5)]);
+    assert_run(&[bare(1), newer].concat(), 6, 2, (0, 0), 906);
 }
 
 #[test]
@@ -65,19 +71,19 @@ fn a_header_and_a_lone_cr() {
 
 #[test]
 fn empty_lines() {
-    let ended = lined_all(&file());
-    // One too many at the end.
-    assert_run(&[&ended[..], b"\r\n"].concat(), 3, 1, (1, 0), 456);
-    // Between two lined files, a lined and a bare one, two bare ones, and a bare and a lined one.
-    let bare = file().concat();
-    assert_run(&[&ended[..], b"\r\n", &ended].concat(), 3, 1, (9, 1), 456);
-    assert_run(&[&ended[..], b"\r\n", &bare].concat(), 3, 1, (9, 1), 456);
-    assert_run(&[&bare[..], b"\r\n", &bare].concat(), 3, 1, (9, 1), 450);
-    assert_run(&[&bare[..], b"\r\n", &ended].concat(), 3, 1, (9, 1), 450);
-    // Behind a bare file, before a file, and within one.
-    assert_run(&[&bare[..], b"\r\n"].concat(), 3, 1, (1, 0), 450);
-    assert_run(&[b"\r\n", &ended[..]].concat(), 0, 0, (9, 1), 0);
-    let input = [&ended[..152], b"\r\n", &ended[152..]].concat();
+    // Between two files, each lined or bare, and one too many at the end.
+    for first in [ended(1), bare(1)] {
+        for next in [ended(2), bare(2)] {
+            let input = [&first[..], b"\r\n", &next].concat();
+            assert_run(&input, 3, 1, (9, 1), first.len());
+        }
+        let input = [&first[..], b"\r\n"].concat();
+        assert_run(&input, 3, 1, (1, 0), first.len());
+    }
+    // Before a file, and within one.
+    let file = ended(1);
+    assert_run(&[b"\r\n", &file[..]].concat(), 0, 0, (9, 1), 0);
+    let input = [&file[..152], b"\r\n", &file[152..]].concat();
     assert_run(&input, 1, 0, (9, 1), 152);
     assert_run(b"\r\n", 0, 0, (1, 0), 0);
 }
@@ -119,7 +125,7 @@ fn a_header_followed_by_cr_and_another_byte() {
 
 #[test]
 fn the_last_line_end_is_missing() {
-    let ended = lined_all(&file());
+    let ended = ended(1);
     assert_run(&ended[..455], 2, 0, (22, 151), 304);
     assert_run(&ended[..454], 2, 0, (22, 151), 304);
     assert_run(&ended[..453], 2, 0, (1, 0), 304);
@@ -142,8 +148,7 @@ fn a_next_record_that_begins_with_a_line_end() {
 /// Where there is more, nothing is taken once fewer than 152 bytes are left, whatever they are.
 #[test]
 fn with_more_to_come() {
-    let ended = lined_all(&file());
-    let bare = file().concat();
+    let (bare, ended) = (bare(1), ended(1));
     for input in [&ended[..], &bare, &[b'x'; 456], &[13; 456]] {
         for length in 0..152 {
             let mut session = Session::new();
@@ -216,22 +221,23 @@ fn in_one_run(input: &[u8]) -> (Session, RunResult) {
 
 /// Small inputs of each form, good and refused.
 fn inputs() -> Vec<Vec<u8>> {
-    let (bare, ended) = (file().concat(), lined_all(&file()));
+    let (next_bare, next_ended) = (bare(2), ended(2));
+    let (bare, ended) = (bare(1), ended(1));
     vec![
         bare.clone(),
         ended.clone(),
-        [&bare[..], &ended].concat(),
-        [&ended[..], &bare].concat(),
+        [&bare[..], &next_ended].concat(),
+        [&ended[..], &next_bare].concat(),
         [&ended[..], b"\r\n"].concat(),
-        [&ended[..], b"\r\n", &ended].concat(),
+        [&ended[..], b"\r\n", &next_ended].concat(),
         ended[..455].to_vec(),
         ended[..454].to_vec(),
         [&lined(&a())[..], &good(), &z(3, 5)].concat(),
         [&a()[..], &ended[152..]].concat(),
         followed(&a(), b"\r"),
         [&followed(&a(), b"\r ")[..], &good()].concat(),
-        [&bare[..], &ended[..152]].concat(),
-        [&bare[..], &ended[..151]].concat(),
+        [&bare[..], &next_ended[..152]].concat(),
+        [&bare[..], &next_ended[..151]].concat(),
     ]
 }
 
@@ -258,8 +264,11 @@ fn feeding_is_one_run() {
 /// Every pair of cuts of two empty files, one of each form.
 #[test]
 fn feeding_in_three_parts_is_one_run() {
-    let (bare, ended) = ([a(), z(2, 0)].concat(), lined_all(&[a(), z(2, 0)]));
-    for input in [[&bare[..], &ended].concat(), [&ended[..], &bare].concat()] {
+    let (first, next) = ([a(), z(2, 0)], [a_of(2), z(2, 0)]);
+    for input in [
+        [first.concat(), lined_all(&next)].concat(),
+        [lined_all(&first), next.concat()].concat(),
+    ] {
         let whole = in_one_run(&input);
         assert_eq!((whole.1.files, whole.1.bytes), (2, 604));
         for second in 0..=input.len() {

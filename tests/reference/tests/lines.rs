@@ -3,7 +3,7 @@
 
 mod common;
 
-use common::{a, a06, assert_answer, code_for, followed, g, lined, p4_code};
+use common::{a, a06, a_of, assert_answer, code_for, followed, g, lined, numbered, p4_code};
 use common::{with_byte, with_bytes, z};
 use reference::random::Random;
 use reference::{answer, days, Session};
@@ -200,8 +200,9 @@ fn a_session_keeps_its_headers_form() {
     assert!(!bare.lined);
     // A refused header decides nothing.
     assert_refused(&mut session, &lined(&with_bytes(a(), 80, b"05")), 10, 80);
-    for header in [a(), a06()] {
-        assert_answer(session.take(&lined(&header), &[]), 0, 0);
+    for (header, number) in [(a(), 1), (a06(), 3)] {
+        let lined_header = lined(&numbered(header, number));
+        assert_answer(session.take(&lined_header, &[]), 0, 0);
         assert!(session.lined);
         assert_answer(session.take(&lined(&good()), &[]), 0, 0);
         assert!(session.lined);
@@ -209,14 +210,14 @@ fn a_session_keeps_its_headers_form() {
         assert_answer(session.take(&lined(&z(3, 5)), &[]), 0, 0);
         assert!(!session.lined);
         // A bare file in turn.
-        for record in [header, good(), z(3, 5)] {
+        for record in [numbered(header, number + 1), good(), z(3, 5)] {
             assert_answer(session.take(&record, &[]), 0, 0);
             assert!(!session.lined);
         }
     }
     assert_eq!(session.board().payments, 4);
     let closed = session.clone();
-    assert_answer(session.take(&lined(&a()), &[]), 0, 0);
+    assert_answer(session.take(&lined(&a_of(5)), &[]), 0, 0);
     session.abandon();
     assert_eq!(session, closed);
     assert_refused(&mut bare, &lined(&good()), 1, 0);

@@ -2,7 +2,7 @@
 
 mod common;
 
-use common::{a, code_for, g, lined_all, p4_code, with_byte, z};
+use common::{a, a06, a_of, code_for, g, lined_all, p4_code, with_byte, z};
 use reference::{page, Board, Issuer, Lane};
 
 #[track_caller]
@@ -17,7 +17,8 @@ fn assert_page(input: &[u8], lines: &[&str]) {
 #[test]
 fn records_of_the_open_file_count() {
     let good = g(&p4_code(), 109);
-    let input = [a(), good, z(3, 109), a(), good, with_byte(good, 1, b'X')].concat();
+    let bad = with_byte(good, 1, b'X');
+    let input = [a(), good, z(3, 109), a_of(2), good, bad].concat();
     assert_page(
         &input,
         &[
@@ -127,6 +128,28 @@ fn number_and_place_may_be_any_numbers() {
         let rest = "record=1\nfiles=2\nlanes=0\npayments=0\ncentavos=0\n";
         assert_eq!(text, format!("answer={number}\nplace={place}\n{rest}"));
     }
+}
+
+#[test]
+fn the_page_of_two_versions() {
+    let paid = with_byte(g(&p4_code(), 5), 117, b'9');
+    let input = [a06(), paid, z(3, 5), a_of(2), paid, z(3, 5)].concat();
+    assert_page(
+        &input,
+        &[
+            "answer=12",
+            "place=117",
+            "record=4",
+            "files=1",
+            "lanes=1",
+            "payments=1",
+            "centavos=5",
+            "lane=1",
+            "issuer=1-3659",
+            "payments=1",
+            "centavos=5",
+        ],
+    );
 }
 
 /// A board in an arbitrary state: issuers are printed whole, whatever their segment and however wide.

@@ -6,7 +6,7 @@ use std::fs::File;
 use std::io::{self, Read, Write};
 use std::process::{Command, Output, Stdio};
 
-use common::{a, code_for, g, naive, p4_code, z};
+use common::{a, a_of, code_for, g, naive, p4_code, z};
 use reference::days::{self, Form};
 use reference::page::{page_of, read_page};
 use reference::random::Random;
@@ -98,7 +98,7 @@ fn many_pieces() {
     }
     input.extend_from_slice(&z(10_002, 20_000));
     let good = input.clone();
-    input.extend_from_slice(&a());
+    input.extend_from_slice(&a_of(2));
     input.extend_from_slice(&payment);
     let text = |input: &[u8]| String::from_utf8(run(input).stdout).unwrap();
     let lane = "lane=1\nissuer=6-00000007\npayments=10000\ncentavos=20000\n";

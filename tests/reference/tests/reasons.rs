@@ -28,6 +28,8 @@ const NUMBERS: &[(Reason, u64)] = &[
     (Reason::WideNumber, 21),
     (Reason::NoLineEnd, 22),
     (Reason::WrongList, 25),
+    (Reason::NotFollowing, 26),
+    (Reason::PairsFull, 27),
 ];
 
 #[test]

@@ -142,6 +142,11 @@ fn each_number_with_its_place() {
     );
     assert_eq!(out, [0; 44]);
     assert_seen(barcode::decode(&code, &[0]).map(|_| ()), 25, 0);
+    let mut after = Session::new();
+    after.run(&[a(), z(2, 0)].concat(), false, &[]);
+    assert_seen(take(after.clone(), &a()), 26, 74);
+    after.memory.used = 16;
+    assert_seen(take(after, &with_bytes(a(), 43, b"237")), 27, 3);
     assert_eq!(seen, Reason::ALL.iter().copied().collect());
 }
 

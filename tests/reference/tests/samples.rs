@@ -93,7 +93,14 @@ fn p11_empty_file() {
     let mut session = Session::new();
     assert_answer(session.take(&a(), &[]), 0, 0);
     assert_answer(session.take(&z(2, 0), &[]), 0, 0);
-    assert_eq!(session, Session::new());
+    // Nothing but its number is left.
+    assert_eq!(session.memory.used, 1);
+    let memory = session.memory;
+    let remembering = Session {
+        memory,
+        ..Session::new()
+    };
+    assert_eq!(session, remembering);
 }
 
 #[test]

@@ -2,11 +2,19 @@
 
 mod common;
 
-use common::{a, assert_answer, code_for, g, p4_code, with_bytes, z};
-use reference::{barcode, Board, Lane, Session};
+use common::{a, a_of, assert_answer, code_for, g, p4_code, with_bytes, z};
+use reference::session::PAIRS;
+use reference::{barcode, Board, Lane, Memory, Pair, Session};
 
 const E18: u64 = 1_000_000_000_000_000_000;
 const FILE_LIMIT: u64 = 99_999_999_999_999_999;
+
+/// A pair that no header has.
+const STRANGE: Pair = Pair {
+    bank: [7; 3],
+    agreement: [7; 20],
+    sequence: u64::MAX,
+};
 
 fn opened() -> Session {
     let mut session = Session::new();
@@ -79,6 +87,10 @@ fn exactly_at_the_limit_is_accepted() {
 
 #[test]
 fn abandon_without_a_file_changes_nothing() {
+    let memory = Memory {
+        pairs: [STRANGE; PAIRS],
+        used: 99,
+    };
     let mut session = Session {
         open: false,
         taken: u64::MAX,
@@ -90,13 +102,19 @@ fn abandon_without_a_file_changes_nothing() {
             used: 99,
             ..Board::new()
         },
+        opening: STRANGE,
+        memory,
     };
     let before = session.clone();
     session.abandon();
     assert_eq!(session, before);
     session.open = true;
     session.abandon();
-    assert_eq!(session, Session::new());
+    let closed = Session {
+        memory,
+        ..Session::new()
+    };
+    assert_eq!(session, closed);
 }
 
 #[test]
@@ -112,6 +130,8 @@ fn an_accepted_a_starts_from_the_board_shown() {
             payments: 9,
             ..Board::new()
         },
+        opening: STRANGE,
+        memory: Memory::new(),
     };
     assert_answer(session.take(&a(), &[]), 0, 0);
     assert_eq!(session, opened());
@@ -125,8 +145,9 @@ fn closed_sessions_are_equal() {
     assert_eq!((session.taken, session.total, session.version), (0, 0, 0));
     assert!(!session.lined);
     assert_eq!(session.working, session.shown);
+    assert_eq!(session.opening, Pair::new());
     let closed = session.clone();
-    assert_answer(session.take(&a(), &[]), 0, 0);
+    assert_answer(session.take(&a_of(2), &[]), 0, 0);
     assert_answer(session.take(&g(&code_for(3, 3), 5), &[]), 0, 0);
     session.abandon();
     assert_eq!(session, closed);
@@ -193,7 +214,7 @@ fn arbitrary_sessions() {
 
 #[test]
 fn run_takes_records_up_to_a_refusal() {
-    let mut bytes = [a(), g(&p4_code(), 109), z(3, 109), a()].concat();
+    let mut bytes = [a(), g(&p4_code(), 109), z(3, 109), a_of(2)].concat();
     let mut session = Session::new();
     let run = session.run(&bytes, false, &[]);
     assert_eq!((run.records, run.files, run.answer), (4, 1, Ok(())));

@@ -3,9 +3,9 @@
 
 mod common;
 
-use common::{a, a06, assert_answer, g, p4_code, with_byte, with_bytes, z};
+use common::{a, a06, a_of, assert_answer, g, numbered, p4_code, with_byte, with_bytes, z};
 use reference::random::Random;
-use reference::{answer, days, page, Board, Session, Stage, Writer};
+use reference::{answer, days, Board, Session, Stage, Writer};
 
 const FILE_LIMIT: u64 = 99_999_999_999_999_999;
 const NO_VERSIONS: [u64; 6] = [0, 5, 7, 77, (1 << 32) + 6, u64::MAX];
@@ -43,22 +43,23 @@ fn open_writer(header: &[u8; 150]) -> Writer {
 fn the_header_of_the_open_file_decides() {
     let mut session = Session::new();
     take_all(&mut session, &[a06(), captured(b'9'), z(3, 5)]);
-    take_all(&mut session, &[a()]);
+    take_all(&mut session, &[a_of(2)]);
     let before = session.clone();
     assert_answer(session.take(&captured(b'9'), &[]), 12, 117);
     let card = with_byte(captured(b'1'), 141, b'4');
     assert_answer(session.take(&card, &[]), 12, 141);
     assert_eq!(session, before);
     take_all(&mut session, &[captured(b'6'), z(3, 5)]);
-    take_all(&mut session, &[a06(), captured(b'i'), card, z(4, 10)]);
+    let newer = |number| numbered(a06(), number);
+    take_all(&mut session, &[newer(3), captured(b'i'), card, z(4, 10)]);
     assert_eq!(session.board().payments, 4);
     // An abandoned file leaves no version behind.
-    take_all(&mut session, &[a06()]);
+    take_all(&mut session, &[newer(4)]);
     session.abandon();
-    take_all(&mut session, &[a()]);
+    take_all(&mut session, &[a_of(4)]);
     assert_answer(session.take(&captured(b'9'), &[]), 12, 117);
     session.abandon();
-    take_all(&mut session, &[a06(), captured(b'9')]);
+    take_all(&mut session, &[newer(4), captured(b'9')]);
 }
 
 #[test]
@@ -94,6 +95,8 @@ fn the_closed_state_has_version_0() {
         session.abandon();
         assert_eq!(session, closed);
         take_all(&mut session, &[header, z(2, 0)]);
+        assert_eq!(session.memory.used, 1);
+        session.memory = closed.memory;
         assert_eq!(session, closed);
     }
     assert_eq!(closed.version, 0);
@@ -126,6 +129,9 @@ fn arbitrary_sessions() {
         let mut abandoned = open.clone();
         take_all(&mut open, &[z(4, 5)]);
         abandoned.abandon();
+        // The file's pair is zeros, which is remembered as another would be.
+        assert_eq!(open.memory.used, 1);
+        open.memory.used = 0;
         assert_eq!((open, abandoned), (Session::new(), Session::new()));
     }
 }
@@ -284,16 +290,4 @@ fn days_under_06() {
         let run = Session::new().run(&day.bytes, false, &[]);
         assert!([(12, 117), (12, 141)].contains(&answer(&run.answer)));
     }
-}
-
-#[test]
-fn the_page_of_two_versions() {
-    let paid = captured(b'9');
-    let input = [a06(), paid, z(3, 5), a(), paid, z(3, 5)].concat();
-    let lane = "lane=1\nissuer=1-3659\npayments=1\ncentavos=5\n";
-    let board = format!("lanes=1\npayments=1\ncentavos=5\n{lane}");
-    assert_eq!(
-        String::from_utf8(page::page_of(&input)).unwrap(),
-        format!("answer=12\nplace=117\nrecord=4\nfiles=1\n{board}")
-    );
 }

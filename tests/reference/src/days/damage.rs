@@ -50,7 +50,7 @@ pub fn swap(random: &mut Random, bytes: &mut [u8]) -> Option<usize> {
 
 /// The places between the records of a day, its start and its end among them: a record has its line end, if one follows
 /// it, and a last piece shorter than a record is none.
-fn borders(bytes: &[u8]) -> Vec<usize> {
+pub(super) fn borders(bytes: &[u8]) -> Vec<usize> {
     let mut borders = vec![0];
     let mut next = LENGTH;
     while next <= bytes.len() {

@@ -1,16 +1,14 @@
-//! Random days: files of many banks and agreements, one after the other.
+//! Random days: files of one to sixteen pairs of a bank and an agreement, one after the other. The numbers of each pair
+//! follow each other.
 
-use super::{barcode_under, header_fields, issuers, payment_fields, text};
+use super::pairs::{next_header, pairs_of_day};
+use super::{barcode_under, issuers, payment_fields};
 use crate::barcode::Issuer;
-use crate::digits;
 use crate::random::Random;
 use crate::records::{HEADER_FIELDS, LENGTH, LINED};
 use crate::refusal::Refusal;
 use crate::session::Lane;
 use crate::writer::Writer;
-
-/// The most pairs of a bank and an agreement in a day.
-const MOST_PAIRS: u64 = 16;
 
 /// The most digits of an amount in a day. A file of 999,997 such payments is below the limit of a file, and a day of a
 /// hundred million below the limit of a board.
@@ -77,44 +75,6 @@ impl Day {
     }
 }
 
-/// A bank and an agreement, with the sequence number of their last file.
-struct Pair {
-    bank: [u8; 3],
-    agreement: [u8; 20],
-    sequence: u64,
-}
-
-/// One to sixteen pairs, all different.
-fn pairs(random: &mut Random) -> Vec<Pair> {
-    let count = random.between(1, MOST_PAIRS);
-    (0..count)
-        .map(|i| {
-            let mut bank = *b"000";
-            digits::write(random.below(1000), &mut bank);
-            let mut agreement = [b' '; 20];
-            text(random, &mut agreement);
-            // The pair's number makes equal texts different.
-            digits::write(i, &mut agreement[..2]);
-            Pair {
-                bank,
-                agreement,
-                sequence: random.below(1000),
-            }
-        })
-        .collect()
-}
-
-/// The field bytes of the pair's next A, of either version, with a higher sequence number.
-fn next_header(random: &mut Random, pair: &mut Pair) -> [u8; HEADER_FIELDS] {
-    // There are numbers for 300,000 files of a pair; after that it keeps the last one.
-    pair.sequence = (pair.sequence + random.between(1, 3)).min(999_999);
-    let mut fields = header_fields(random);
-    fields[..20].copy_from_slice(&pair.agreement);
-    fields[40..43].copy_from_slice(&pair.bank);
-    digits::write(pair.sequence, &mut fields[71..77]);
-    fields
-}
-
 /// A bare day of `files` files with at most `most` payments in each, of `issuer_count` issuers. If there is a file,
 /// every issuer has a payment; the last file has more than `most` payments if that takes them.
 pub fn day(
@@ -148,7 +108,7 @@ pub fn day_under(
     form: Form,
     agreed: &[u64],
 ) -> Result<Day, Refusal> {
-    let mut pairs = pairs(random);
+    let mut pairs = pairs_of_day(random);
     let mut seen = 0;
     let mut day = Day::default();
     for i in 0..files {

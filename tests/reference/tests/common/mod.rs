@@ -3,6 +3,7 @@
 // No test file uses all of this module.
 #![allow(dead_code, unused_imports)]
 
+pub mod memories;
 pub mod naive;
 
 use reference::random::Random;
@@ -36,6 +37,26 @@ pub fn a() -> [u8; 150] {
 /// The same header of version 06.
 pub fn a06() -> [u8; 150] {
     with_bytes(a(), 80, b"06")
+}
+
+/// The header with another sequence number.
+pub fn numbered(header: [u8; 150], number: u64) -> [u8; 150] {
+    with_bytes(header, 74, format!("{number:06}").as_bytes())
+}
+
+/// The header `a`, which has number 1, with this number.
+pub fn a_of(number: u64) -> [u8; 150] {
+    numbered(a(), number)
+}
+
+/// The same header of this bank and agreement.
+pub fn a_by(bank: &[u8; 3], agreement: &[u8; 20], number: u64) -> [u8; 150] {
+    with_bytes(with_bytes(a_of(number), 43, bank), 3, agreement)
+}
+
+/// The same header of the i-th of many pairs, by bank 001 and so on.
+pub fn a_nth(i: u64, number: u64) -> [u8; 150] {
+    with_bytes(a_of(number), 43, format!("{i:03}").as_bytes())
 }
 
 /// A payment of a barcode, spelled out. Its codes are of both versions.

@@ -2,9 +2,11 @@
 //! program is compared with it.
 
 mod lists;
+mod numbers;
 mod sessions;
 
 pub use lists::*;
+pub use numbers::*;
 pub use sessions::*;
 
 pub type Answer = (u64, usize);

@@ -1,6 +1,6 @@
 //! Sessions, runs and pages by the naive rules.
 
-use super::{list, number, record, Answer, Outcome};
+use super::{list, number, record, Answer, History, NaiveFile, Outcome};
 use reference::{answer, Board, Lane, RunResult, Session};
 
 /// A lane: segment, number, payments, centavos.
@@ -41,6 +41,8 @@ pub struct NaiveSession {
     pub lined: bool,
     pub shown: NaiveBoard,
     pub working: NaiveBoard,
+    pub opening: NaiveFile,
+    pub history: History,
 }
 
 const E18: u128 = 1_000_000_000_000_000_000;
@@ -55,6 +57,21 @@ impl NaiveSession {
             lined: session.lined,
             shown: NaiveBoard::of(&session.shown),
             working: NaiveBoard::of(&session.working),
+            opening: NaiveFile::of(&session.opening),
+            history: History::of(&session.memory),
+        }
+    }
+
+    /// The session that follows when the open file, if there is one, is abandoned.
+    pub fn abandoned(&self) -> NaiveSession {
+        if !self.open {
+            return self.clone();
+        }
+        NaiveSession {
+            shown: self.shown.clone(),
+            working: self.shown.clone(),
+            history: self.history.clone(),
+            ..NaiveSession::default()
         }
     }
 
@@ -88,6 +105,8 @@ impl NaiveSession {
         let mut next = self.clone();
         match bytes[0] {
             b'A' => {
+                next.opening = NaiveFile::of_header(bytes);
+                self.history.allows(&next.opening)?;
                 next.open = true;
                 next.taken = 0;
                 next.total = 0;
@@ -106,6 +125,7 @@ impl NaiveSession {
                 next = NaiveSession {
                     shown: self.working.clone(),
                     working: self.working.clone(),
+                    history: self.history.with(&self.opening),
                     ..NaiveSession::default()
                 };
             }
