@@ -54,22 +54,30 @@ AT(hollytrot_lane, tally, 16);
 SIZE(hollytrot_board, 2072);
 AT(hollytrot_board, used, 2048);
 AT(hollytrot_board, total, 2056);
-SIZE(hollytrot_session, 4184);
+SIZE(hollytrot_pair, 32);
+AT(hollytrot_pair, agreement, 3);
+AT(hollytrot_pair, sequence, 24);
+SIZE(hollytrot_memory, 520);
+AT(hollytrot_memory, used, 512);
+SIZE(hollytrot_session, 4736);
 AT(hollytrot_session, work, 2072);
 AT(hollytrot_session, opened, 4144);
 AT(hollytrot_session, file, 4152);
-SIZE(hollytrot_limits, 40);
+AT(hollytrot_session, opening, 4184);
+AT(hollytrot_session, memory, 4216);
+SIZE(hollytrot_limits, 48);
 AT(hollytrot_limits, record_length, 8);
 AT(hollytrot_limits, payments, 16);
 AT(hollytrot_limits, file_total, 24);
 AT(hollytrot_limits, board_total, 32);
-SIZE(hollytrot_take_result, 4200);
+AT(hollytrot_limits, pairs, 40);
+SIZE(hollytrot_take_result, 4752);
 AT(hollytrot_take_result, session, 16);
-SIZE(hollytrot_run_result, 4224);
+SIZE(hollytrot_run_result, 4776);
 AT(hollytrot_run_result, session, 16);
-AT(hollytrot_run_result, records, 4200);
-AT(hollytrot_run_result, files, 4208);
-AT(hollytrot_run_result, bytes, 4216);
+AT(hollytrot_run_result, records, 4752);
+AT(hollytrot_run_result, files, 4760);
+AT(hollytrot_run_result, bytes, 4768);
 SIZE(hollytrot_page_result, 24);
 AT(hollytrot_page_result, length, 16);
 
@@ -362,6 +370,43 @@ static hollytrot_board numbered_board(uint64_t from)
     return board;
 }
 
+/* A pair with a different number in each of its bytes, and a sequence number of more than 32 bits. */
+static hollytrot_pair numbered_pair(uint64_t from)
+{
+    hollytrot_pair pair;
+    for (size_t i = 0; i < sizeof pair.bank; i++)
+        pair.bank[i] = (uint8_t)(from + i);
+    for (size_t i = 0; i < sizeof pair.agreement; i++)
+        pair.agreement[i] = (uint8_t)(from + sizeof pair.bank + i);
+    pair.sequence = (from << 32) + from;
+    return pair;
+}
+
+/* A memory of such pairs. */
+static hollytrot_memory numbered_memory(size_t used)
+{
+    hollytrot_memory memory;
+    for (size_t i = 0; i < HOLLYTROT_PAIRS; i++)
+        memory.pairs[i] = numbered_pair(100 + 23 * i);
+    memory.used = used;
+    return memory;
+}
+
+/* Member by member: a pair has padding. */
+static void same_pair(int line, hollytrot_pair found, hollytrot_pair wanted)
+{
+    same_bytes(line, found.bank, wanted.bank, sizeof found.bank);
+    same_bytes(line, found.agreement, wanted.agreement, sizeof found.agreement);
+    same(line, "sequence", found.sequence, wanted.sequence);
+}
+
+static void same_memory(int line, const hollytrot_memory *found, const hollytrot_memory *wanted)
+{
+    for (size_t i = 0; i < HOLLYTROT_PAIRS; i++)
+        same_pair(line, found->pairs[i], wanted->pairs[i]);
+    same(line, "used", found->used, wanted->used);
+}
+
 static void same_session(int line, const hollytrot_session *found, const hollytrot_session *wanted)
 {
     same_bytes(line, &found->shown, &wanted->shown, sizeof(hollytrot_board));
@@ -371,6 +416,8 @@ static void same_session(int line, const hollytrot_session *found, const hollytr
     SAME(found->file.total, wanted->file.total);
     SAME(found->file.version, wanted->file.version);
     SAME(found->file.lined, wanted->file.lined);
+    same_pair(line, found->opening, wanted->opening);
+    same_memory(line, &found->memory, &wanted->memory);
 }
 
 /* The limits of the library are those of the header and of SPEC.md, "Limits". */
@@ -382,12 +429,14 @@ static void limits(void)
     SAME(limits.payments, 999997);
     SAME(limits.file_total, 99999999999999999);
     SAME(limits.board_total, 1000000000000000000);
+    SAME(limits.pairs, HOLLYTROT_PAIRS);
 }
 
 /* An open bare file of version 6; the second lane of the working board has the issuer of the G. */
 static hollytrot_session open_session(uint64_t taken)
 {
-    hollytrot_session session = {numbered_board(100000), numbered_board(200000), true, {taken, 1000, 6, false}};
+    hollytrot_session session = {numbered_board(100000), numbered_board(200000), true, {taken, 1000, 6, false},
+                                 numbered_pair(50), numbered_memory(5)};
     session.work.lanes[1].issuer = (hollytrot_issuer){6, 12345678};
     return session;
 }
@@ -419,15 +468,122 @@ static void sessions(void)
     session.work = session.shown;
     session.opened = false;
     session.file = (hollytrot_file){0, 0, 0, false};
+    session.opening = (hollytrot_pair){{0}, {0}, 0};
     same_session(__LINE__, &after, &session);
     after = hollytrot_session_new();
     SAME(after.opened, false);
     SAME(after.file.version, 0);
     SAME(after.file.lined, false);
     SAME(after.shown.used, 0);
+    same_pair(__LINE__, after.opening, (hollytrot_pair){{0}, {0}, 0});
+    same_memory(__LINE__, &after.memory, &(hollytrot_memory){{{{0}, {0}, 0}}, 0});
     after = hollytrot_session_take(after, a, 150, NONE).session;
     SAME(after.file.version, 6);
     SAME(after.file.lined, false);
+}
+
+/* The pair of the A, whose own number is 4321. */
+static hollytrot_pair header_pair(uint64_t sequence)
+{
+    hollytrot_pair pair;
+    memcpy(pair.bank, a + 42, sizeof pair.bank);
+    memcpy(pair.agreement, a + 2, sizeof pair.agreement);
+    pair.sequence = sequence;
+    return pair;
+}
+
+/* The A in a session that begins with this memory, as one that starts the day after. */
+static void header_after(hollytrot_memory memory, uint64_t number, size_t place)
+{
+    hollytrot_session session = hollytrot_session_new();
+    session.memory = memory;
+    hollytrot_take_result taken = hollytrot_session_take(session, a, 150, NONE);
+    hollytrot_run_result run = hollytrot_session_run(session, a, 150, false, NONE);
+    if (number == HOLLYTROT_ACCEPTED) {
+        session.opened = true;
+        session.file.version = 6;
+        session.opening = header_pair(4321);
+    }
+    same_answer(taken.answer, number, place);
+    same_session(__LINE__, &taken.session, &session);
+    same_answer(run.answer, number, place);
+    same_session(__LINE__, &run.session, &session);
+}
+
+/* Memories with the pair of the A at each of their places, with the number before, the same and one of 33 bits. */
+static void headers(void)
+{
+    header_after(numbered_memory(0), 0, 0);
+    header_after(numbered_memory(HOLLYTROT_PAIRS - 1), 0, 0);
+    header_after(numbered_memory(HOLLYTROT_PAIRS), HOLLYTROT_PAIRS_FULL, 3);
+    header_after(numbered_memory(SIZE_MAX), HOLLYTROT_PAIRS_FULL, 3);
+    for (size_t i = 0; i < HOLLYTROT_PAIRS; i++) {
+        hollytrot_memory memory = numbered_memory(i + 1);
+        memory.pairs[i] = header_pair(4320);
+        header_after(memory, 0, 0);
+        memory.pairs[i].sequence = 4321;
+        header_after(memory, HOLLYTROT_NOT_FOLLOWING, 74);
+        memory.pairs[i].sequence = (1ull << 32) + 4320;
+        header_after(memory, HOLLYTROT_NOT_FOLLOWING, 74);
+        memory.used = SIZE_MAX;
+        header_after(memory, HOLLYTROT_NOT_FOLLOWING, 74);
+        memory.used = i; /* not in use */
+        header_after(memory, 0, 0);
+    }
+    /* another byte makes another pair */
+    hollytrot_memory memory = numbered_memory(HOLLYTROT_PAIRS);
+    for (size_t i = 0; i < sizeof memory.pairs[0].bank; i++) {
+        memory.pairs[0] = header_pair(4320);
+        memory.pairs[0].bank[i] ^= 1;
+        header_after(memory, HOLLYTROT_PAIRS_FULL, 3);
+    }
+    for (size_t i = 0; i < sizeof memory.pairs[0].agreement; i++) {
+        memory.pairs[0] = header_pair(4320);
+        memory.pairs[0].agreement[i] ^= 128;
+        header_after(memory, HOLLYTROT_PAIRS_FULL, 3);
+    }
+}
+
+/* The Z of the open file remembers its bank, agreement and number: `wanted` is the memory after this one. */
+static void trailer_after(hollytrot_pair opening, const hollytrot_memory *memory, const hollytrot_memory *wanted)
+{
+    hollytrot_session session = open_session(8), after;
+    session.file.total = 124456;
+    session.opening = opening;
+    session.memory = *memory;
+    after = session;
+    after.shown = after.work;
+    after.opened = false;
+    after.file = (hollytrot_file){0, 0, 0, false};
+    after.opening = (hollytrot_pair){{0}, {0}, 0};
+    after.memory = *wanted;
+    hollytrot_take_result taken = hollytrot_session_take(session, z, 150, NONE);
+    same_answer(taken.answer, 0, 0);
+    same_session(__LINE__, &taken.session, &after);
+    hollytrot_run_result run = hollytrot_session_run(session, z, 150, false, NONE);
+    same_answer(run.answer, 0, 0);
+    same_session(__LINE__, &run.session, &after);
+}
+
+static void trailers(void)
+{
+    const hollytrot_memory full = numbered_memory(HOLLYTROT_PAIRS);
+    hollytrot_memory memory, wanted;
+    for (size_t i = 0; i < HOLLYTROT_PAIRS; i++) {
+        /* a new pair */
+        memory = wanted = numbered_memory(i);
+        wanted.pairs[i] = numbered_pair(50);
+        wanted.used = i + 1;
+        trailer_after(numbered_pair(50), &memory, &wanted);
+        /* a known one with another number */
+        memory = wanted = full;
+        wanted.pairs[i].sequence = 7;
+        trailer_after(wanted.pairs[i], &memory, &wanted);
+    }
+    /* no room, as in no session that began as a new one */
+    trailer_after(numbered_pair(50), &full, &full);
+    memory = numbered_memory(SIZE_MAX);
+    trailer_after(numbered_pair(50), &memory, &memory);
 }
 
 /* One record at a time: of a lined file, and in the wrong form. */
@@ -695,6 +851,8 @@ int main(void)
     versions();
     limits();
     sessions();
+    headers();
+    trailers();
     lined_sessions();
     runs();
     lined_runs();

@@ -81,7 +81,7 @@ static void answer_out(hollytrot_answer a) { bytes_out(&a, sizeof a); }
 
 static void part_out(hollytrot_part p) { bytes_out(&p, sizeof p); }
 
-/* Structs with a bool have padding after it, so their members are written one by one. A bool is written as the byte
+/* Structs with a bool, and pairs, have padding, so their members are written one by one. A bool is written as the byte
  * that it is in memory, 0 or 1. */
 static void flag_out(const bool *flag) { bytes_out(flag, 1); }
 
@@ -93,12 +93,23 @@ static void file_out(const hollytrot_file *f)
     flag_out(&f->lined);
 }
 
+static void pair_out(const hollytrot_pair *p)
+{
+    bytes_out(p->bank, sizeof p->bank);
+    bytes_out(p->agreement, sizeof p->agreement);
+    number_out(p->sequence);
+}
+
 static void session_out(const hollytrot_session *s)
 {
     bytes_out(&s->shown, sizeof s->shown);
     bytes_out(&s->work, sizeof s->work);
     flag_out(&s->opened);
     file_out(&s->file);
+    pair_out(&s->opening);
+    for (size_t i = 0; i < HOLLYTROT_PAIRS; i++)
+        pair_out(&s->memory.pairs[i]);
+    number_out(s->memory.used);
 }
 
 static void writer_out(const hollytrot_writer *w)
@@ -261,12 +272,25 @@ static hollytrot_file file_in(void)
     return file;
 }
 
+static hollytrot_pair pair_in(void)
+{
+    hollytrot_pair pair;
+    memcpy(pair.bank, bytes_in(sizeof pair.bank), sizeof pair.bank);
+    memcpy(pair.agreement, bytes_in(sizeof pair.agreement), sizeof pair.agreement);
+    pair.sequence = number_in();
+    return pair;
+}
+
 static void session_in(void)
 {
     memcpy(&session.shown, bytes_in(sizeof session.shown), sizeof session.shown);
     memcpy(&session.work, bytes_in(sizeof session.work), sizeof session.work);
     session.opened = flag_in();
     session.file = file_in();
+    session.opening = pair_in();
+    for (size_t i = 0; i < HOLLYTROT_PAIRS; i++)
+        session.memory.pairs[i] = pair_in();
+    session.memory.used = number_in();
 }
 
 static void take_result_out(hollytrot_take_result result)

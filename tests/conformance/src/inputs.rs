@@ -8,13 +8,17 @@ use reference::Session;
 
 use crate::calls::{Calls, Conversion, PAGE};
 use crate::lines;
-use rest::Rest;
+
+pub use rest::Rest;
 
 /// The length of the largest buffer for a page.
 const MOST_PAGE: usize = 9000;
 
 /// How many bytes a cut of runs has.
 pub const CUT: usize = 3;
+
+/// How many bytes a pair has: its bank, its agreement and its number.
+pub const PAIR: usize = 3 + 20 + 8;
 
 /// If the first byte of runs is at least this, they are fed as a caller would.
 pub const FED: u8 = 128;
@@ -224,7 +228,7 @@ fn take(calls: &mut Calls, rest: &mut Rest, most: usize, agreed: &[u64]) {
 }
 
 /// A session in an arbitrary state: whether its file is open and whether it is lined, its numbers, then up to four
-/// records, then its boards.
+/// records, then its boards, the pair of its file and its memory.
 fn arbitrary_session(calls: &mut Calls, rest: &mut Rest, agreed: &[u64]) {
     let mut session = Session::new();
     let flags = rest.byte();
@@ -242,6 +246,8 @@ fn arbitrary_session(calls: &mut Calls, rest: &mut Rest, agreed: &[u64]) {
     steps.0 = &steps.0[..steps.0.len() - rest.0.len()];
     session.shown = rest.board();
     session.working = rest.board();
+    session.opening = rest.pair();
+    session.memory = rest.memory();
     calls.set_session(&session);
     take(calls, &mut steps, records, agreed);
 }

@@ -13,5 +13,6 @@ pub mod found;
 pub mod inputs;
 pub mod lines;
 pub mod lists;
+pub mod memories;
 pub mod versions;
 pub mod wire;

@@ -53,16 +53,23 @@ pub fn records(bytes: &[u8]) -> Vec<Range<usize>> {
     ranges
 }
 
+/// What follows each record of a lined file, or of a bare one.
+pub fn end(lined: bool) -> &'static [u8] {
+    if lined {
+        LINE_END
+    } else {
+        b""
+    }
+}
+
 /// A record with what follows it in a lined or a bare file; sometimes with what follows it in the other, or with a
 /// damaged line end.
 pub fn with_end(random: &mut Random, record: &[u8; LENGTH], lined: bool) -> Vec<u8> {
     let other = random.once_in(8);
-    let end: &[u8] = if random.once_in(8) {
+    let end = if random.once_in(8) {
         WRONG_ENDS[random.index(WRONG_ENDS.len())]
-    } else if lined != other {
-        LINE_END
     } else {
-        b""
+        end(lined != other)
     };
     [record, end].concat()
 }
@@ -98,9 +105,9 @@ pub fn cuts(random: &mut Random, length: usize) -> Vec<usize> {
 }
 
 /// Runs over the bytes in one call; then from the same session in pieces that end here, where the bytes that a call
-/// leaves are put in front of the next piece. All calls have the same list, and both must come to the same end. Every
-/// reply of the engine is compared with the reference program's, so this holds of the engine too.
-pub fn feed(calls: &mut Calls, bytes: &[u8], ends: &[usize], agreed: &[u64]) {
+/// leaves are put in front of the next piece. All calls have the same list, and both must come to the same end, which
+/// is returned. Every reply of the engine is compared with the reference program's, so this holds of the engine too.
+pub fn feed(calls: &mut Calls, bytes: &[u8], ends: &[usize], agreed: &[u64]) -> RunResult {
     let before = calls.session().clone();
     let whole = calls.run(bytes, false, agreed);
     let after = calls.session().clone();
@@ -116,6 +123,7 @@ pub fn feed(calls: &mut Calls, bytes: &[u8], ends: &[usize], agreed: &[u64]) {
     }
     assert_eq!(fed, whole);
     assert!(*calls.session() == after);
+    whole
 }
 
 /// The result of two runs, of which the second goes on where the first stopped.

@@ -11,7 +11,8 @@ use std::time::Instant;
 use conformance::calls::{Calls, Counts, LISTED};
 use conformance::families::{Family, ALL};
 use reference::random::Random;
-use reference::Reason;
+use reference::records::{A_AGREEMENT, A_SEQUENCE, TABLE};
+use reference::Reason::{self, NotFollowing, PairsFull};
 
 /// Fewer inputs than this are a failure.
 const LEAST_INPUTS: u64 = 5_000_000;
@@ -61,7 +62,8 @@ fn compare_all(seed: u64, times: u64) -> Result<Counts, String> {
     })
 }
 
-/// What is missing: inputs, an answer that no input got, or one about agreed issuers that no request of a letter got.
+/// What is missing: inputs, an answer that no input got, or one about agreed issuers or sequence numbers that no
+/// request of a letter got.
 fn missing(counts: &Counts) -> Option<String> {
     if counts.inputs < LEAST_INPUTS {
         return Some(format!("only {} inputs", counts.inputs));
@@ -75,6 +77,12 @@ fn missing(counts: &Counts) -> Option<String> {
         expected.push((letter, [Reason::WrongList.number(), 0]));
         for &place in places {
             expected.push((letter, [Reason::NoDate.number(), place]));
+        }
+    }
+    // A header is taken alone or in a run.
+    for letter in *b"tR" {
+        for (reason, row) in [(NotFollowing, A_SEQUENCE), (PairsFull, A_AGREEMENT)] {
+            expected.push((letter, [reason.number(), TABLE[row].first as u64]));
         }
     }
     let unseen = |expected: &&(u8, [u64; 2])| !counts.by_letter.contains(*expected);

@@ -1,7 +1,9 @@
-//! The replies of `serve.c`, from the reference program's outcomes: little-endian numbers of eight bytes, and bools of
-//! one, in the order of the structs in hollytrot.h. Requests have lists of agreed issuers too.
+//! The replies of `serve.c`, from the reference program's outcomes: little-endian numbers of eight bytes, bools of one,
+//! and the bytes of pairs, in the order of the structs in hollytrot.h. Requests have lists of agreed issuers too.
 
-use reference::{Barcode, Board, Date, Header, Payment, Record, Refusal, Session, Trailer, Writer};
+use reference::{
+    Barcode, Board, Date, Header, Pair, Payment, Record, Refusal, Session, Trailer, Writer,
+};
 
 pub fn number(reply: &mut Vec<u8>, n: u64) {
     reply.extend_from_slice(&n.to_le_bytes());
@@ -133,12 +135,23 @@ fn file(reply: &mut Vec<u8>, figures: [u64; 3], lined: bool) {
     flag(reply, lined);
 }
 
+pub fn pair(reply: &mut Vec<u8>, pair: &Pair) {
+    reply.extend_from_slice(&pair.bank);
+    reply.extend_from_slice(&pair.agreement);
+    number(reply, pair.sequence);
+}
+
 pub fn session(reply: &mut Vec<u8>, session: &Session) {
     board(reply, &session.shown);
     board(reply, &session.working);
     flag(reply, session.open);
     let figures = [session.taken, session.total, session.version];
     file(reply, figures, session.lined);
+    pair(reply, &session.opening);
+    for one in &session.memory.pairs {
+        pair(reply, one);
+    }
+    number(reply, session.memory.used as u64);
 }
 
 /// A writer whose stage has this number.

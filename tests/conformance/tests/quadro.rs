@@ -43,8 +43,8 @@ fn redirected(redirection: &str) -> Command {
     shell
 }
 
-/// A day of 0 to 70 issuers, bare, lined or both: unchanged, damaged, out of order, with other versions or codes, or
-/// with a damaged line end. Every tenth is longer than one buffer of quadro.
+/// A day of 0 to 70 issuers, bare, lined or both: unchanged, damaged, out of order, with other versions or codes, with
+/// a damaged line end, or with wrong sequence numbers. Every tenth is longer than one buffer of quadro.
 fn day(i: u64) -> Vec<u8> {
     let random = &mut Random::new(i);
     let (files, most) = if i.is_multiple_of(10) {
@@ -57,11 +57,12 @@ fn day(i: u64) -> Vec<u8> {
     let mut bytes = days::day_of(random, issuers, files, most, form)
         .expect("a good day")
         .bytes;
-    match random.below(5) {
+    match random.below(6) {
         0 => drop(days::damage(random, &mut bytes)),
         1 => days::disorder(random, &mut bytes),
         2 => versions::change_day(random, &mut bytes),
         3 => days::damage_line_end(random, &mut bytes),
+        4 => days::misnumber(random, &mut bytes),
         _ => {}
     }
     bytes

@@ -11,9 +11,11 @@ use std::thread;
 use std::time::Duration;
 
 use common::{assert_page, output_of};
+use conformance::{lines, memories};
 use reference::days::{self, Form};
 use reference::page::page_of;
 use reference::random::Random;
+use reference::session::following;
 use reference::{Issuer, Writer};
 
 /// The length of quadro's buffer.
@@ -59,10 +61,29 @@ fn two_files(random: &mut Random, length: usize) -> Vec<u8> {
     bytes
 }
 
+/// Gives the files of a day one pair and numbers that follow: a session refuses the 17th pair.
+fn number(random: &mut Random, bytes: &mut [u8]) {
+    let mut pair = days::pairs(random, 1)[0];
+    for record in lines::records(bytes) {
+        let header = bytes[record].first_chunk_mut();
+        if let Some(header) = header.filter(|header| header[0] == b'A') {
+            memories::put(header, &pair);
+            pair.sequence = following(pair.sequence).expect("a number of six digits");
+        }
+    }
+}
+
 #[track_caller]
 fn assert_same_page(bytes: &[u8]) {
     let output = output_of(|stdin| stdin.write_all(bytes));
     assert_page(&output, &page_of(bytes));
+}
+
+/// The same, of a day that is accepted.
+#[track_caller]
+fn assert_accepted(bytes: &[u8]) {
+    assert!(page_of(bytes).starts_with(b"answer=0\n"));
+    assert_same_page(bytes);
 }
 
 /// The first buffer ends behind each even number of bytes of a header and its line end, and of the record that follows.
@@ -73,7 +94,7 @@ fn headers_at_the_end(lined: bool) {
         let mut bytes = two_files(random, BUFFER - inside);
         bytes.extend(file(random, 5, lined));
         bytes.extend(two_files(random, BUFFER + 152));
-        assert_same_page(&bytes);
+        assert_accepted(&bytes);
     }
 }
 
@@ -97,7 +118,8 @@ fn a_header_at_the_end_of_every_buffer() {
         bytes.extend(two_files(random, BUFFER - inside));
     }
     bytes.extend(file(random, 3, true));
-    assert_same_page(&bytes);
+    number(random, &mut bytes);
+    assert_accepted(&bytes);
 }
 
 /// The same, with a damaged line end in the file at the end of the buffer.
@@ -139,7 +161,7 @@ fn bare_inputs_that_end_around_the_end_of_a_buffer() {
 #[test]
 fn days_that_end_around_the_end_of_a_buffer() {
     for length in (BUFFER - 156..=BUFFER + 156).step_by(2) {
-        assert_same_page(&two_files(&mut Random::new(length as u64), length));
+        assert_accepted(&two_files(&mut Random::new(length as u64), length));
     }
 }
 

@@ -91,9 +91,10 @@ fn each_told(calls: &mut Calls, random: &mut Random) {
 /// An open file of each version and form, and payments with each byte as one of their codes: one by one, and in runs of
 /// two.
 fn taken(calls: &mut Calls, random: &mut Random) {
-    calls.new_session();
     for version in VERSIONS {
         for end in ENDS {
+            // In one session, the number of a second file might have to follow that of the first.
+            calls.new_session();
             let header = versions::header(random, version);
             let agreed = lists::right(random, &sessions::FEW);
             calls

@@ -88,7 +88,7 @@ fn wrong_records(
 }
 
 /// Goes on with this session, if the last call has changed it.
-fn start(calls: &mut Calls, session: &Session) {
+pub fn start(calls: &mut Calls, session: &Session) {
     if calls.session() != session {
         calls.set_session(session);
     }

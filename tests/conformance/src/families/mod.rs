@@ -4,7 +4,9 @@ mod agreed;
 mod codes;
 mod digits;
 mod ends;
+mod pairs;
 mod records;
+mod sequence;
 mod sessions;
 mod writers;
 
@@ -19,7 +21,7 @@ pub struct Family {
 }
 
 /// The slowest first, so that two workers end at about the same time.
-pub const ALL: [Family; 20] = [
+pub const ALL: [Family; 25] = [
     Family {
         name: "line ends, every two bytes",
         compare: ends::each_two_bytes,
@@ -79,6 +81,26 @@ pub const ALL: [Family; 20] = [
     Family {
         name: "line ends, damaged, and every length",
         compare: ends::each_length,
+    },
+    Family {
+        name: "sequence numbers, every byte of a header",
+        compare: sequence::changed_headers,
+    },
+    Family {
+        name: "sequence numbers, every place and edge",
+        compare: sequence::each_place,
+    },
+    Family {
+        name: "sequence numbers, memories in arbitrary states",
+        compare: sequence::arbitrary,
+    },
+    Family {
+        name: "days of many pairs, record by record",
+        compare: pairs::by_record,
+    },
+    Family {
+        name: "days of many pairs, many records at once",
+        compare: pairs::by_run,
     },
     Family {
         name: "sessions, noise",

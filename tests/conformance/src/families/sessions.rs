@@ -1,5 +1,5 @@
-//! Sessions, boards and pages: days, lined and bare, damaged, out of order, with codes of the other version and cut
-//! anywhere, and sessions in arbitrary states.
+//! Sessions, boards and pages: days, lined and bare, damaged, out of order, with codes of the other version, with wrong
+//! sequence numbers and cut anywhere, and sessions in arbitrary states.
 
 use reference::random::Random;
 use reference::records::{LENGTH, LINED, LINE_END};
@@ -7,14 +7,14 @@ use reference::{days, digits, Board, Issuer, Reason, Session};
 
 use super::near;
 use crate::calls::{Calls, PAGE};
-use crate::{lines, lists, versions};
+use crate::{lines, lists, memories, versions};
 
 /// Numbers at the limits of counts and sums.
 const LIMITS: [u64; 4] = [0, 999_997, 1_000_000_000_000_000_000, u64::MAX];
 
 /// A day of 0 to 70 issuers and a list, with files of both versions, lined, bare or both: unchanged, damaged at one to
-/// three places, out of order, or both. One in four has another version or another code in one to three records, one in
-/// four a damaged line end.
+/// three places, out of order, or both. One in five has another version or another code in one to three records, one in
+/// five a damaged line end, one in five wrong sequence numbers.
 fn day(random: &mut Random) -> (Vec<u8>, Vec<u64>) {
     let count = random.index(71);
     let issuers = days::issuers(random, count);
@@ -32,9 +32,10 @@ fn day(random: &mut Random) -> (Vec<u8>, Vec<u64>) {
     if how & 2 != 0 {
         days::disorder(random, &mut bytes);
     }
-    match random.below(4) {
+    match random.below(5) {
         0 => versions::change_day(random, &mut bytes),
         1 => days::damage_line_end(random, &mut bytes),
+        2 => days::misnumber(random, &mut bytes),
         _ => {}
     }
     (bytes, agreed)
@@ -95,7 +96,7 @@ pub fn noise(calls: &mut Calls, random: &mut Random, times: u64) {
         calls.new_session();
         if i % 2 == 1 {
             let header = days::header(random).expect("a good header");
-            let end: &[u8] = if i % 4 == 1 { b"" } else { LINE_END };
+            let end = lines::end(i % 4 == 3);
             calls
                 .take(&[&header, end].concat(), &[])
                 .expect("a file to open");
@@ -172,10 +173,11 @@ pub fn trailer(session: &Session) -> [u8; 150] {
     record
 }
 
-/// Sessions in arbitrary states, with a few calls each. Their file may have a version that is none, and may be lined
-/// while it is not open.
+/// Sessions in arbitrary states, with a few calls each. Their file may have a version that is none, and may be lined or
+/// have a pair while it is not open.
 pub fn arbitrary(calls: &mut Calls, random: &mut Random, times: u64) {
     for _ in 0..12_000 * times {
+        let memory = memories::memory(random);
         let session = Session {
             open: !random.once_in(8),
             taken: near(random, &[0, 999_996, 999_997, u64::MAX - 2]),
@@ -184,6 +186,8 @@ pub fn arbitrary(calls: &mut Calls, random: &mut Random, times: u64) {
             lined: random.once_in(2),
             shown: board(random),
             working: board(random),
+            opening: memories::opening(random, &memory),
+            memory,
         };
         calls.set_session(&session);
         let agreed = lists::lent(random, &FEW);
@@ -213,7 +217,7 @@ fn call(calls: &mut Calls, random: &mut Random, agreed: &[u64]) {
     let next = match random.below(10) {
         0 => trailer(calls.session()),
         1 => days::trailer(random),
-        2 => days::header(random).expect("a good header"),
+        2 => memories::header(random, &calls.session().memory),
         _ => payment(random, version, made),
     };
     let mut bytes = lines::with_end(random, &next, lined);

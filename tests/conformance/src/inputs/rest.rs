@@ -1,7 +1,7 @@
 //! Reads the arguments of calls from the bytes of an input.
 
-use reference::session::LANES;
-use reference::{Board, Issuer, Lane};
+use reference::session::{LANES, PAIRS};
+use reference::{Board, Issuer, Lane, Memory, Pair};
 
 /// The rest of an input. Past its end there are zeros.
 pub struct Rest<'a>(pub &'a [u8]);
@@ -58,5 +58,21 @@ impl<'a> Rest<'a> {
             };
         }
         board
+    }
+
+    pub fn pair(&mut self) -> Pair {
+        let mut pair = Pair::new();
+        pair.bank.fill_with(|| self.byte());
+        pair.agreement.fill_with(|| self.byte());
+        pair.sequence = self.number();
+        pair
+    }
+
+    pub fn memory(&mut self) -> Memory {
+        let mut memory = Memory::new();
+        memory.used = self.number() as usize;
+        let given = usize::from(self.byte()).min(PAIRS);
+        memory.pairs[..given].fill_with(|| self.pair());
+        memory
     }
 }

@@ -7,6 +7,7 @@ mod corpus;
 mod coverage;
 mod ends;
 mod mutate;
+mod pairs;
 mod places;
 mod repair;
 mod seeds;

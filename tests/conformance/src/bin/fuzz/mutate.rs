@@ -1,4 +1,4 @@
-//! Mutations of an input: of bytes, of ranges of bytes, and of the list, the records, fields and line ends in it.
+//! Mutations of an input: of bytes, of ranges of bytes, and of its list, records, fields, pairs and line ends.
 
 use std::ops::Range;
 
@@ -9,7 +9,7 @@ use reference::random::Random;
 use reference::records::TABLE;
 
 use crate::repair::repair;
-use crate::{agreed, ends, places};
+use crate::{agreed, ends, pairs, places};
 
 /// The length of the longest input.
 const MOST_BYTES: usize = 1 << 14;
@@ -18,7 +18,7 @@ const MOST_BYTES: usize = 1 << 14;
 const BYTES: &[u8] = b"\0\x01\n\r\x1f /09:@AGOZ[`az~\x7f\x80\x9f\xa0\xd3\xff";
 
 /// Numbers at the edges of their widths and limits.
-pub const EDGES: [u64; 37] = [
+pub const EDGES: [u64; 39] = [
     0,
     1,
     2,
@@ -27,6 +27,7 @@ pub const EDGES: [u64; 37] = [
     9,
     10,
     12,
+    16,
     28,
     29,
     30,
@@ -46,6 +47,7 @@ pub const EDGES: [u64; 37] = [
     10_000,
     999_997,
     999_998,
+    999_999,
     9_999_999,
     99_999_999,
     1 << 32,
@@ -59,7 +61,7 @@ pub const EDGES: [u64; 37] = [
 ];
 
 /// A number at an edge, next to one, somewhat below one, or any.
-fn edge(random: &mut Random) -> u64 {
+pub fn edge(random: &mut Random) -> u64 {
     let edge = EDGES[random.index(EDGES.len())];
     match random.below(8) {
         0 => random.bits(),
@@ -76,7 +78,7 @@ pub fn mutate(random: &mut Random, kind: Kind, one: &[u8], other: &[u8]) -> Vec<
     let (other_list, other) = agreed::split(kind, other);
     let mut bytes = one.to_vec();
     for _ in 0..1 << random.below(4) {
-        match random.below(15) {
+        match random.below(16) {
             0 => records(random, kind, &mut bytes, other),
             1 | 2 => field(random, kind, &mut bytes, other),
             3 | 4 => range(random, &mut bytes, other),
@@ -84,6 +86,7 @@ pub fn mutate(random: &mut Random, kind: Kind, one: &[u8], other: &[u8]) -> Vec<
             7 => date(random, kind, &mut bytes),
             8 => version(random, kind, &mut bytes),
             9 | 10 => form(random, kind, &mut bytes),
+            11 if pairs::copy(random, kind, &mut bytes) => {}
             _ => byte(random, &mut bytes),
         }
     }

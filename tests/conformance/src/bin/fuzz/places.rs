@@ -1,12 +1,12 @@
-//! Where an input without its first byte and its list has records, dates of eight digits, numbers of eight bytes, and
-//! lengths of buffers; and which issuers its barcodes have.
+//! Where an input without its first byte and its list has records, dates of eight digits, numbers of eight bytes,
+//! pairs, and lengths of buffers; and which issuers its barcodes have.
 
 use std::ops::Range;
 
-use conformance::inputs::{self, Kind};
+use conformance::inputs::{self, Kind, PAIR};
 use conformance::{lines, wire};
 use reference::records::{Content, G_BARCODE, PAYMENT_FIELDS, TABLE};
-use reference::session::LANES;
+use reference::session::{LANES, PAIRS};
 use reference::{barcode, Issuer};
 
 /// Where the field bytes of a payment have its barcode.
@@ -104,14 +104,23 @@ pub fn numbers(kind: Kind, rest: &[u8]) -> Vec<usize> {
         }
         Kind::ArbitrarySession => {
             let mut places = vec![1, 9, 17];
-            let records = steps(rest, 26, arbitrary_steps(rest));
-            let shown = records.last().map_or(26, |last| last.end);
-            let working = board(rest, shown, &mut places);
-            board(rest, working, &mut places);
+            let opening = boards(rest, &mut places);
+            places.push(opening + PAIR);
+            places.extend(pairs(rest).iter().map(|pair| pair + PAIR - 8));
             places
         }
         _ => Vec::new(),
     }
+}
+
+/// Where the pairs of a session in an arbitrary state start: those of its memory, then that of its file. Some may be
+/// past the end.
+pub fn pairs(rest: &[u8]) -> Vec<usize> {
+    let opening = boards(rest, &mut Vec::new());
+    let given = opening + PAIR + 8;
+    let count = rest.get(given).map_or(0, |&count| count.into());
+    let memory = (0..PAIRS.min(count)).map(|i| given + 1 + PAIR * i);
+    memory.chain([opening]).collect()
 }
 
 /// Where the version starts that is told with a record, or that the file of a session or writer in an arbitrary state
@@ -224,6 +233,14 @@ fn built(rest: &[u8]) -> Option<Vec<u8>> {
         &mut code,
     );
     built.ok().map(|()| code.to_vec())
+}
+
+/// Adds where the numbers of the boards of a session in an arbitrary state start, and returns where the boards end.
+fn boards(rest: &[u8], places: &mut Vec<usize>) -> usize {
+    let records = steps(rest, 26, arbitrary_steps(rest));
+    let shown = records.last().map_or(26, |last| last.end);
+    let working = board(rest, shown, places);
+    board(rest, working, places)
 }
 
 /// Adds where the numbers of a board and of its lanes start, and returns where the board ends.

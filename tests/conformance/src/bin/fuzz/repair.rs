@@ -1,17 +1,23 @@
-//! Repairs line ends, check digits and trailers after a mutation, so that inputs get past those checks.
+//! Repairs line ends, sequence numbers, check digits and trailers after a mutation, so that inputs get past those
+//! checks.
 
 use conformance::inputs::Kind;
+use conformance::wire;
 use reference::random::Random;
 use reference::records::{Row, G_BARCODE, G_RECEIVED, LENGTH, TABLE, Z_COUNT, Z_TOTAL};
 use reference::{digits, line, Modulus};
 
 use crate::places::GIVEN_BARCODE;
-use crate::{ends, places};
+use crate::{ends, pairs, places};
 
-/// Repairs line ends only in every second input, so that damaged ones are met behind right records too.
+/// Repairs line ends and sequence numbers only in every second input each, so that wrong ones are met among right
+/// records too.
 pub fn repair(random: &mut Random, kind: Kind, rest: &mut Vec<u8>) {
     if random.once_in(2) {
         ends::repair(kind, rest);
+    }
+    if random.once_in(2) {
+        pairs::repair(kind, rest);
     }
     match kind {
         Kind::Line => repair_line(rest),
@@ -50,7 +56,12 @@ fn repair_line(typed: &mut [u8]) {
 
 /// Repairs the barcodes of payments, and the counts and totals of trailers.
 fn repair_records(kind: Kind, rest: &mut [u8]) {
-    let (mut taken, mut total) = (0, 0u64);
+    let (mut taken, mut total) = match kind {
+        Kind::ArbitrarySession if rest.len() > 16 => {
+            (wire::number_at(rest, 1), wire::number_at(rest, 9))
+        }
+        _ => (0, 0),
+    };
     for record in places::records(kind, rest) {
         let Some(record) = rest.get_mut(record.start..record.start + LENGTH) else {
             return;
@@ -58,9 +69,9 @@ fn repair_records(kind: Kind, rest: &mut [u8]) {
         if record[0] == b'G' {
             repair_barcode(field(record, G_BARCODE));
             let received = digits::number(field(record, G_RECEIVED)).unwrap_or(0);
-            (taken, total) = (taken + 1, total.saturating_add(received));
+            (taken, total) = (taken.saturating_add(1), total.saturating_add(received));
         } else if record[0] == b'Z' {
-            digits::write(taken + 2, field(record, Z_COUNT));
+            digits::write(taken.saturating_add(2), field(record, Z_COUNT));
             digits::write(total, field(record, Z_TOTAL));
         } else {
             (taken, total) = (0, 0);

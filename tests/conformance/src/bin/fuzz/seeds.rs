@@ -5,10 +5,11 @@ use std::{fs, io};
 
 use conformance::engine::root;
 use conformance::inputs::{self, Kind, FED};
-use conformance::{lines, lists};
+use conformance::{lines, lists, memories, wire};
 use reference::random::Random;
-use reference::records::{LENGTH, LINE_END};
-use reference::{days, Board, Issuer, Refusal};
+use reference::records::LENGTH;
+use reference::session::PAIRS;
+use reference::{days, Board, Issuer, Refusal, Writer};
 
 use crate::mutate::EDGES;
 use crate::{agreed, places};
@@ -53,7 +54,7 @@ fn list(random: &mut Random, kind: Kind, turn: usize, rest: &[u8]) -> Vec<u64> {
 }
 
 /// An input of a kind that is valid under an empty list, without its first byte and its list. The turn chooses among
-/// records, conversions and writers.
+/// records, conversions, days, sessions and writers.
 fn valid(random: &mut Random, kind: Kind, turn: usize) -> Result<Vec<u8>, Refusal> {
     Ok(match kind {
         Kind::Line => days::line(random)?.to_vec(),
@@ -80,24 +81,9 @@ fn valid(random: &mut Random, kind: Kind, turn: usize) -> Result<Vec<u8>, Refusa
             2 => [vec![2, 80], record(random, 0)?].concat(),
             _ => [vec![2, 121], record(random, 1)?].concat(),
         },
-        Kind::Run => runs(random)?,
-        Kind::Take => steps(&day(random)?),
-        Kind::ArbitrarySession => {
-            let lined = random.once_in(2);
-            let end: &[u8] = if lined { LINE_END } else { b"" };
-            let mut rest = vec![1 + 2 * u8::from(lined)];
-            let version = days::version(random);
-            rest.extend(numbers([random.number(6), random.number(17), version]));
-            rest.push(2);
-            let issuer = days::issuer(random);
-            let mut payment = days::payment(random, version)?;
-            payment[37..81].copy_from_slice(&days::barcode_of(random, issuer)?);
-            rest.extend(steps(&[&payment, end].concat()));
-            rest.extend(steps(&[&days::trailer(random), end].concat()));
-            rest.extend(board(random, issuer));
-            rest.extend(board(random, issuer));
-            rest
-        }
+        Kind::Run => runs(random, turn)?,
+        Kind::Take => steps(&day(random, turn)?),
+        Kind::ArbitrarySession => session(random, turn.is_multiple_of(2))?,
         Kind::Page => {
             let mut rest = numbers([random.number(2), random.number(3)]);
             rest.extend(numbers([random.number(19), random.number(19), 0]));
@@ -124,16 +110,62 @@ fn record(random: &mut Random, turn: usize) -> Result<Vec<u8>, Refusal> {
     Ok([numbers([version]), record.to_vec()].concat())
 }
 
-/// A day of bare files, of lined files, or of both.
-fn day(random: &mut Random) -> Result<Vec<u8>, Refusal> {
+/// A session in an arbitrary state: with a file open, of which it takes a payment and a trailer, or with none open, of
+/// which it takes a header and a trailer.
+fn session(random: &mut Random, open: bool) -> Result<Vec<u8>, Refusal> {
+    let lined = random.once_in(2);
+    let mut rest = vec![u8::from(open) + 2 * u8::from(lined)];
+    let version = days::version(random);
+    rest.extend(numbers([random.number(6), random.number(17), version]));
+    let memory = memories::memory(random);
+    let issuer = days::issuer(random);
+    let first = if open {
+        days::payment_under(random, issuer, version, &[])?
+    } else {
+        memories::header(random, &memory)
+    };
+    rest.push(2);
+    for record in [first, days::trailer(random)] {
+        rest.extend(steps(&[&record, lines::end(lined)].concat()));
+    }
+    rest.extend(board(random, issuer));
+    rest.extend(board(random, issuer));
+    wire::pair(&mut rest, &memories::opening(random, &memory));
+    wire::number(&mut rest, memory.used as u64);
+    rest.push(PAIRS as u8);
+    for pair in &memory.pairs {
+        wire::pair(&mut rest, pair);
+    }
+    Ok(rest)
+}
+
+/// A day of bare files, of lined files, or of both; or, at the last turn, of more pairs than a session remembers.
+fn day(random: &mut Random, turn: usize) -> Result<Vec<u8>, Refusal> {
+    if turn == EACH - 1 {
+        return many_pairs(random);
+    }
     let (issuers, files) = (random.index(8), random.index(4));
     let form = lines::form(random);
     Ok(days::day_of(random, issuers, files, 4, form)?.bytes)
 }
 
+/// Empty files of one pair more than a session remembers.
+fn many_pairs(random: &mut Random) -> Result<Vec<u8>, Refusal> {
+    let mut day = Vec::new();
+    let mut record = [0; LENGTH];
+    for pair in days::pairs(random, PAIRS + 1) {
+        let mut writer = Writer::new();
+        writer.header(&days::header_fields_of(random, &pair), &mut record)?;
+        day.extend(record);
+        writer.trailer(&mut record)?;
+        day.extend(record);
+    }
+    Ok(day)
+}
+
 /// A day in runs that are cut at up to three places, fed as a caller would or not.
-fn runs(random: &mut Random) -> Result<Vec<u8>, Refusal> {
-    let day = day(random)?;
+fn runs(random: &mut Random, turn: usize) -> Result<Vec<u8>, Refusal> {
+    let day = day(random, turn)?;
     let cuts = random.below(4) as u8;
     let mut rest = vec![cuts + random.one_of(&[0, FED])];
     for _ in 0..cuts {
