@@ -34,7 +34,7 @@ extern "C" {
 #endif
 
 /* The version of this header and of its library. */
-#define HOLLYTROT_VERSION "0.5.0"
+#define HOLLYTROT_VERSION "0.6.0"
 
 /* The lengths that buffers must have, exactly ("Limits"). */
 #define HOLLYTROT_BARCODE 44
@@ -46,6 +46,8 @@ extern "C" {
 #define HOLLYTROT_PAGE 8837
 /* How many lanes a board has. */
 #define HOLLYTROT_LANES 64
+/* How many pairs of a bank and an agreement a session remembers. */
+#define HOLLYTROT_PAIRS 16
 /* The most entries of a list of agreed issuers. */
 #define HOLLYTROT_AGREED 64
 
@@ -82,7 +84,9 @@ enum {
     /* 20 is retired and is not used again */
     HOLLYTROT_TOO_WIDE = 21,           /* a number is too wide for its field */
     HOLLYTROT_NO_LINE_END = 22,        /* a record of a lined file without CR and LF behind it */
-    HOLLYTROT_WRONG_LIST = 25          /* list of agreed issuers: over 64, an entry that names none, or one twice */
+    HOLLYTROT_WRONG_LIST = 25,         /* list of agreed issuers: over 64, an entry that names none, or one twice */
+    HOLLYTROT_NOT_FOLLOWING = 26,      /* the number of a file is not the next of its bank and agreement */
+    HOLLYTROT_PAIRS_FULL = 27          /* a new bank and agreement when 16 are remembered */
 };
 
 /* A part of the caller's bytes: `length` bytes from `bytes + from` on. The empty part is 0 and 0. */
@@ -364,16 +368,43 @@ typedef struct hollytrot_board {
     hollytrot_tally total;
 } hollytrot_board;
 
-/* Sessions ("Sessions"): a value of some 4 KB that you keep. Each call returns the next session, which is equal to the
+/* Sequence numbers ("Sequence numbers"): a session remembers the number of the last accepted file of each pair of bank
+ * and agreement, so that no file is counted twice. */
+
+/* The bank and the agreement of a file, the bytes of its A at places 43 to 45 and 3 to 22, and its number. */
+typedef struct hollytrot_pair {
+    uint8_t bank[3];
+    uint8_t agreement[20];
+    uint64_t sequence;
+} hollytrot_pair;
+
+/* The first `used` pairs are in use, in the order in which they were first accepted; if `used` is above 16, all are. */
+typedef struct hollytrot_memory {
+    hollytrot_pair pairs[HOLLYTROT_PAIRS];
+    size_t used;
+} hollytrot_memory;
+
+/* Sessions ("Sessions"): a value of some 5 KB that you keep. Each call returns the next session, which is equal to the
  * given one if the call is refused; after a run it is the one after the accepted records. */
 
 /* The board shown, which has accepted files only; the working board, which has the open file's payments too; whether a
- * file is open, and its figures, version and form. */
+ * file is open, and its figures, version and form; its bank, agreement and number, all 0 if none is open; and the
+ * memory, which has accepted files only.
+ *
+ * To go on tomorrow where today ended, keep the session. To begin tomorrow with an empty board, keep only its memory,
+ * which is plain data, and put it into a new session: a file of today is then refused 26 tomorrow.
+ *
+ *     hollytrot_session tomorrow = hollytrot_session_new();
+ *     tomorrow.memory = today.memory;
+ *
+ * If you store it outside the program, store it member by member: a pair has padding. */
 typedef struct hollytrot_session {
     hollytrot_board shown;
     hollytrot_board work;
     bool opened;
     hollytrot_file file;
+    hollytrot_pair opening;
+    hollytrot_memory memory;
 } hollytrot_session;
 
 /* The answer of a call, and the session after it. */
@@ -393,19 +424,21 @@ typedef struct hollytrot_run_result {
 } hollytrot_run_result;
 
 /* The limits of every session ("Limits"): the lanes of its board, the bytes of a record, the most payments and the most
- * centavos of a file, and the most that the payments or the centavos of its board may reach. */
+ * centavos of a file, the most that the payments or the centavos of its board may reach, and the pairs that it
+ * remembers. */
 typedef struct hollytrot_limits {
     size_t lanes;
     size_t record_length;
     uint64_t payments;
     uint64_t file_total;
     uint64_t board_total;
+    size_t pairs;
 } hollytrot_limits;
 
 /* The limits that this library checks; they are the same for every session and no call changes them. */
 hollytrot_limits hollytrot_session_limits(void);
 
-/* A session with no file open and an empty board. */
+/* A session with no file open, an empty board and no number remembered. */
 hollytrot_session hollytrot_session_new(void);
 
 /* Takes one record: any bytes of any length. An A of 150 bytes opens a bare file; with CR and LF, 152 bytes, it opens a
@@ -425,7 +458,7 @@ hollytrot_take_result hollytrot_session_take(hollytrot_session session, const ui
 hollytrot_run_result hollytrot_session_run(hollytrot_session session, const uint8_t *bytes, size_t length, bool more,
                                            const uint64_t *agreed, size_t agreed_length);
 
-/* Drops the open file; the same session if none is open. */
+/* Drops the open file, whose number is not remembered and may come again; the same session if none is open. */
 hollytrot_session hollytrot_session_abandon(hollytrot_session session);
 
 /* The end of the input: 19 if a file is open. The session does not change, and knows nothing of bytes that a run left:

@@ -21,10 +21,50 @@
 //! Whether a free field starts with a due date is agreed with each issuer: the functions that read or make a barcode
 //! take the list of those that did, [`Agreed`].
 //!
+//! # The next day
+//!
+//! A [`Session`] takes a file once, even if it is loaded twice: it remembers the number of the last accepted file of
+//! each bank and agreement, and accepts only the next. A program that starts anew each day keeps these numbers,
+//! [`Session::remembered`], in a file of its own, and begins the next day with [`Session::with_remembered`]:
+//!
+//! ```
+//! use hollytrot::{Pair, Session};
+//!
+//! /// What to keep of a day when all its files are taken: bank, agreement and number of each pair, 29 bytes.
+//! fn kept(day: &Session) -> Vec<u8> {
+//!     let mut bytes = Vec::new();
+//!     for pair in day.remembered() {
+//!         bytes.extend(pair.bank);
+//!         bytes.extend(pair.agreement);
+//!         bytes.extend(format!("{:06}", pair.sequence).bytes());
+//!     }
+//!     bytes
+//! }
+//!
+//! /// The next day's session. It fails if the bytes are damaged: a new session instead would take files again.
+//! fn next_day(kept: &[u8]) -> Result<Session, Box<dyn std::error::Error>> {
+//!     let mut pairs = Vec::new();
+//!     for entry in kept.chunks(29) {
+//!         let entry: &[u8; 29] = entry.try_into()?;
+//!         pairs.push(Pair {
+//!             bank: entry[..3].try_into()?,
+//!             agreement: entry[3..23].try_into()?,
+//!             sequence: std::str::from_utf8(&entry[23..])?.parse()?,
+//!         });
+//!     }
+//!     Ok(Session::with_remembered(&pairs)?)
+//! }
+//! # let day = next_day(b"341PS0001              000041237PS0007              000009").unwrap();
+//! # assert_eq!(next_day(&kept(&day)).unwrap(), day);
+//! # assert_eq!(day.remembered()[1].sequence, 9);
+//! # assert!(next_day(&kept(&day)[1..]).is_err());
+//! ```
+//!
 //! The library, libhollytrot.a, is for x86-64 Linux.
 
 mod agreed;
 mod codes;
+mod pairs;
 mod raw;
 pub mod record;
 mod refusal;
@@ -33,6 +73,7 @@ mod writers;
 
 pub use agreed::{Agreed, AGREED};
 pub use codes::{barcode, check_digit, line, Date, Fields, Issuer, Modulus};
+pub use pairs::{Pair, PAIRS};
 pub use record::{Header, Payment, Record, Trailer, Version};
 pub use refusal::{Reason, Refusal};
 pub use sessions::{page, Board, Lane, Limits, RunResult, Session, Tally, LANES};

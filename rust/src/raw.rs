@@ -107,11 +107,20 @@ pub struct WriteResult {
 
 #[repr(C)]
 #[derive(Clone, Copy, Debug, PartialEq, Eq)]
+pub struct Memory {
+    pub pairs: [crate::Pair; crate::PAIRS],
+    pub used: usize,
+}
+
+#[repr(C)]
+#[derive(Clone, Copy, Debug, PartialEq, Eq)]
 pub struct Session {
     pub shown: crate::Board,
     pub work: crate::Board,
     pub opened: bool,
     pub file: File,
+    pub opening: crate::Pair,
+    pub memory: Memory,
 }
 
 #[repr(C)]
@@ -139,7 +148,7 @@ pub struct PageResult {
 }
 
 const _: () = {
-    use crate::{Board, Issuer, Lane, Limits, Tally};
+    use crate::{Board, Issuer, Lane, Limits, Pair, Tally};
     assert!(size_of::<Answer>() == 16 && offset_of!(Answer, place) == 8);
     assert!(size_of::<Part>() == 16 && offset_of!(Part, length) == 8);
     assert!(size_of::<Date>() == 24 && offset_of!(Date, month) == 8 && offset_of!(Date, day) == 16);
@@ -167,12 +176,17 @@ const _: () = {
     assert!(size_of::<WriteResult>() == 56 && offset_of!(WriteResult, writer) == 16);
     assert!(size_of::<Tally>() == 16 && size_of::<Lane>() == 32);
     assert!(size_of::<Board>() == 2072);
-    assert!(size_of::<Session>() == 4184 && offset_of!(Session, work) == 2072);
+    assert!(size_of::<Pair>() == 32 && offset_of!(Pair, bank) == 0);
+    assert!(offset_of!(Pair, agreement) == 3 && offset_of!(Pair, sequence) == 24);
+    assert!(size_of::<Memory>() == 520 && offset_of!(Memory, used) == 512);
+    assert!(size_of::<Session>() == 4736 && offset_of!(Session, work) == 2072);
     assert!(offset_of!(Session, opened) == 4144 && offset_of!(Session, file) == 4152);
-    assert!(size_of::<Limits>() == 40 && offset_of!(Limits, record_length) == 8);
+    assert!(offset_of!(Session, opening) == 4184 && offset_of!(Session, memory) == 4216);
+    assert!(size_of::<Limits>() == 48 && offset_of!(Limits, record_length) == 8);
     assert!(offset_of!(Limits, payments) == 16 && offset_of!(Limits, file_total) == 24);
-    assert!(size_of::<TakeResult>() == 4200 && offset_of!(TakeResult, session) == 16);
-    assert!(size_of::<RunResult>() == 4224 && offset_of!(RunResult, records) == 4200);
-    assert!(offset_of!(RunResult, files) == 4208 && offset_of!(RunResult, bytes) == 4216);
+    assert!(offset_of!(Limits, board_total) == 32 && offset_of!(Limits, pairs) == 40);
+    assert!(size_of::<TakeResult>() == 4752 && offset_of!(TakeResult, session) == 16);
+    assert!(size_of::<RunResult>() == 4776 && offset_of!(RunResult, records) == 4752);
+    assert!(offset_of!(RunResult, files) == 4760 && offset_of!(RunResult, bytes) == 4768);
     assert!(size_of::<PageResult>() == 24 && offset_of!(PageResult, length) == 16);
 };

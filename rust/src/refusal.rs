@@ -53,6 +53,8 @@ reasons! {
     TooWide = 21, "a number is too wide for its field";
     NoLineEnd = 22, "a record of a lined file without CR and LF behind it";
     WrongList = 25, "the list of agreed issuers has over 64 entries, one that names no issuer, or an issuer twice";
+    NotFollowing = 26, "the file's number is not the next of its bank and agreement";
+    PairsFull = 27, "a new bank and agreement when 16 are remembered";
 }
 
 impl Reason {
@@ -138,7 +140,7 @@ mod tests {
                 Err(Refusal { reason, place: 5 })
             );
         }
-        for number in [0, 20, 23, 24, u64::MAX] {
+        for number in [0, 20, 23, 24, 28, u64::MAX] {
             assert_eq!(Reason::from_number(number), None);
         }
     }

@@ -1,7 +1,7 @@
 //! Sessions, the board and the page: docs/SPEC.md, "Sessions", "Board" and "Page".
 
 use crate::raw;
-use crate::{Agreed, Issuer, Refusal};
+use crate::{Agreed, Issuer, Pair, Refusal};
 
 /// How many lanes a board has.
 pub const LANES: usize = 64;
@@ -66,6 +66,8 @@ pub struct Limits {
     pub file_total: u64,
     /// The most that the payments or the centavos of a board may reach.
     pub board_total: u64,
+    /// The most pairs of a bank and an agreement that a session remembers.
+    pub pairs: usize,
 }
 
 /// Takes the records of return files of either version, which each file's header names. The payments of a file appear
@@ -73,6 +75,12 @@ pub struct Limits {
 ///
 /// A file is bare, with nothing between its records, or lined, with CR and LF behind each of them, the last included:
 /// its header decides, and the files of one input may differ.
+///
+/// A file that is loaded twice is taken once. A session remembers the number of the last accepted file of each pair of
+/// bank and agreement, and refuses 26 a header of that pair whose number is not the next: one more, or 1 behind 999999.
+/// The first file of a pair may have any number. At most [`PAIRS`](crate::PAIRS) pairs are remembered, and the header
+/// of another one is refused 27. [`remembered`](Self::remembered) shows them, and
+/// [`with_remembered`](Self::with_remembered) begins the next day with them.
 #[derive(Clone, Debug, PartialEq, Eq)]
 pub struct Session(Box<raw::Session>);
 
@@ -103,7 +111,8 @@ impl Session {
         unsafe { raw::hollytrot_session_limits() }
     }
 
-    /// A session with no file open and an empty board.
+    /// A session with no file open, an empty board and no number remembered. One that knows which files were accepted
+    /// the day before is made by [`with_remembered`](Self::with_remembered).
     pub fn new() -> Session {
         // SAFETY: the call has no arguments.
         Session(Box::new(unsafe { raw::hollytrot_session_new() }))
@@ -188,7 +197,7 @@ impl Session {
         self.0.file.lined
     }
 
-    /// Drops the open file; does nothing if none is open.
+    /// Drops the open file, whose number is not remembered and may come again; does nothing if none is open.
     pub fn abandon(&mut self) {
         // SAFETY: the session came from the engine.
         *self.0 = unsafe { raw::hollytrot_session_abandon(*self.0) };
@@ -206,6 +215,13 @@ impl Session {
     /// The board shown, which has accepted files only.
     pub fn board(&self) -> &Board {
         &self.0.shown
+    }
+
+    /// The pairs of bank and agreement of accepted files, each with its last number, in the order in which each was
+    /// first accepted. An open file is not among them: its number is remembered when its trailer is accepted.
+    pub fn remembered(&self) -> &[Pair] {
+        let memory = &self.0.memory;
+        &memory.pairs[..memory.used]
     }
 }
 

@@ -207,9 +207,11 @@ fn a_fresh_session_takes_a_file_under_the_list_it_was_written_under() {
         let mut session = Session::new();
         let result = session.run(&records.concat(), list);
         assert_eq!((result.answer, result.files), (Ok(()), 1));
+        assert_eq!(session.board().total().payments, 1);
+        let mut one_by_one = Session::new();
         for record in &records {
-            session.take(record, list).expect("expected now");
+            one_by_one.take(record, list).expect("expected now");
         }
-        assert_eq!(session.board().total().payments, 2);
+        assert_eq!(one_by_one, session);
     }
 }

@@ -2,11 +2,11 @@
 
 mod common;
 
-use common::{code, payment_of, refused, HEADER, ISSUER, NONE};
+use common::{code, header_numbered, payment_of, refused, HEADER, ISSUER, NONE};
 use hollytrot::record::{self, Row};
 use hollytrot::{
     barcode, check_digit, line, page, Agreed, Date, Fields, Issuer, Modulus, Reason, Record,
-    Session, Version, Writer, LANES, RECORD,
+    Session, Version, Writer, LANES, PAIRS, RECORD,
 };
 
 const P4: &[u8] = b"817700000000010936599702411310797039001433708318";
@@ -40,6 +40,7 @@ fn limits_are_those_of_the_constants() {
     assert_eq!(limits.payments, 999_997);
     assert_eq!(limits.file_total, 99_999_999_999_999_999);
     assert_eq!(limits.board_total, 1_000_000_000_000_000_000);
+    assert_eq!((limits.pairs, PAIRS), (PAIRS, 16));
 }
 
 #[test]
@@ -164,7 +165,10 @@ fn a_file_written_and_taken() {
     );
     assert_eq!(session.board().total(), lane.tally);
 
-    session.take(&a, &NONE).expect("another file");
+    let next = Writer::new().header(&header_numbered(4322));
+    session
+        .take(&next.expect("a good header"), &NONE)
+        .expect("another file");
     session.abandon();
     assert_eq!(session.finish(), Ok(()));
     let text = "answer=0\nplace=0\nrecord=3\nfiles=1\nlanes=1\npayments=1\ncentavos=4294967296\n\
@@ -241,7 +245,9 @@ fn the_header_of_the_open_file_decides_the_codes() {
 
     // a file of version 04 behind it does not have the code
     let mut writer = Writer::new();
-    let a = writer.header(HEADER).expect("a good header");
+    let a = writer
+        .header(&header_numbered(4322))
+        .expect("a good header");
     let unknown = refused(Reason::UnknownCode, 117);
     assert_eq!(writer.payment(&payment_of_06(), 1, 0, &NONE), Err(unknown));
     session.take(&a, &NONE).expect("another file");

@@ -2,12 +2,18 @@
 
 mod common;
 
-use common::{code, payment_of, refused, HEADER, NONE};
+use common::{code, header_numbered, payment_of, refused, HEADER, NONE};
 use hollytrot::{record, Reason, RunResult, Session, Version, Writer, LINED, RECORD};
 
 /// The three records of a file with one payment, as this writer writes them.
-fn records_of(mut writer: Writer) -> [Vec<u8>; 3] {
-    let header = writer.header(HEADER).expect("a good header");
+fn records_of(writer: Writer) -> [Vec<u8>; 3] {
+    records_numbered(writer, 4321)
+}
+
+/// The same of a file with another number.
+fn records_numbered(mut writer: Writer, number: u64) -> [Vec<u8>; 3] {
+    let header = writer.header(&header_numbered(number));
+    let header = header.expect("a good header");
     let payment = writer.payment(&payment_of(&code()), 5, 0, &NONE);
     let payment = payment.expect("a good payment");
     [header, payment, writer.trailer().expect("an open file")]
@@ -76,6 +82,7 @@ fn the_header_decides_the_form_that_a_session_takes() {
             .expect("a record with CR and LF");
         assert_eq!(session.is_lined(), record != &z);
     }
+    let [a, _, _] = records_numbered(Writer::lined(), 4322);
     session.take(&a[..RECORD], &NONE).expect("the header alone");
     assert!(!session.is_lined());
     assert_eq!(session.take(&g, &NONE), Err(wrong_length));
@@ -124,13 +131,16 @@ fn a_record_without_its_line_end_changes_nothing() {
 
 #[test]
 fn a_run_takes_lined_and_bare_files() {
-    let (bare, lined) = (records_of(Writer::new()), records_of(Writer::lined()));
-    let input = [lined.concat(), bare.concat(), lined.concat()].concat();
+    let writers = [Writer::lined(), Writer::new(), Writer::lined()];
+    let numbered = (1..).zip(writers);
+    let files = numbered.map(|(number, writer)| records_numbered(writer, number).concat());
+    let input: Vec<u8> = files.flatten().collect();
     let mut session = Session::new();
     assert_eq!(session.run(&input, &NONE), accepted(9, 3, input.len()));
     assert_eq!(session.finish(), Ok(()));
     assert_eq!(session.run(b"", &NONE), accepted(0, 0, 0));
     // the last record without its LF
+    let mut session = Session::new();
     let result = session.run(&input[..input.len() - 1], &NONE);
     assert_eq!(result.answer, Err(refused(Reason::NoLineEnd, 151)));
     assert_eq!((result.records, result.files), (8, 2));
@@ -140,7 +150,8 @@ fn a_run_takes_lined_and_bare_files() {
 
 #[test]
 fn an_input_may_be_split_anywhere() {
-    let (bare, lined) = (records_of(Writer::new()), records_of(Writer::lined()));
+    let bare = records_numbered(Writer::new(), 4321);
+    let lined = records_numbered(Writer::lined(), 4322);
     let input = [bare.concat(), lined.concat()].concat();
     let mut whole = Session::new();
     assert_eq!(whole.run(&input, &NONE), accepted(6, 2, input.len()));

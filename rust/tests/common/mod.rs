@@ -1,9 +1,19 @@
 //! What the tests share: an empty list, a refusal, and the field bytes of a header and of a payment.
 
+// No test file uses all of this module.
+#![allow(dead_code)]
+
 use hollytrot::{barcode, Agreed, Issuer, Reason, Refusal};
 
 pub const HEADER: &[u8; 80] =
     b"AGREEMENT           COMPANY             237BANK                2023123100432104O";
+
+/// The same with another sequence number.
+pub fn header_numbered(number: u64) -> [u8; 80] {
+    let mut fields = *HEADER;
+    fields[71..77].copy_from_slice(format!("{number:06}").as_bytes());
+    fields
+}
 
 /// No agreed issuers.
 pub static NONE: Agreed = Agreed::none();
