@@ -1,7 +1,8 @@
 //! `days ISSUERS PAYMENTS [lined | 06 | due]`: writes a day of PAYMENTS payments to standard output, in files of at
 //! most 50,000, each of a random one of ISSUERS issuers. A longer day of as many issuers starts with the same payments.
-//! All files have version 04, and the days are the same bytes as before there was a version 06, so that new figures
-//! compare with old ones. A lined day has the same records, with CR and LF behind each. The files of a 06 day have
+//! All files have version 04, one bank and agreement, and numbers that follow. So that new figures compare with old
+//! ones, the days are the same bytes as before there was a version 06; only the bank, agreement and number of each
+//! further file were others. A lined day has the same records, with CR and LF behind each. The files of a 06 day have
 //! version 06, and their payments any of its codes. The barcodes of a due day all have a due date, so that its issuers,
 //! at most 64, may be agreed ones.
 
@@ -12,7 +13,8 @@ use reference::agreed::key;
 use reference::days;
 use reference::random::Random;
 use reference::records::{HEADER_FIELDS, LENGTH, LINED};
-use reference::Writer;
+use reference::session::following;
+use reference::{digits, Writer};
 
 /// Small enough that no day here passes the limit of a file or of the board.
 const AMOUNT_DIGITS: u32 = 10;
@@ -31,6 +33,24 @@ fn header_fields(random: &mut Random, version: &[u8; 2]) -> [u8; HEADER_FIELDS] 
     fields[71..77].fill_with(|| random.digit());
     fields[77..79].copy_from_slice(version);
     fields[79] = random.one_of(&[79, 211]);
+    fields
+}
+
+/// The field bytes of the next A: if there is one before it, with the agreement and the bank of that one, and its next
+/// number. It is then the one before.
+fn next_header(
+    random: &mut Random,
+    version: &[u8; 2],
+    before: &mut Option<[u8; HEADER_FIELDS]>,
+) -> [u8; HEADER_FIELDS] {
+    let mut fields = header_fields(random, version);
+    if let Some(before) = before {
+        fields[..20].copy_from_slice(&before[..20]);
+        fields[40..43].copy_from_slice(&before[40..43]);
+        let next = digits::number(&before[71..77]).and_then(following);
+        digits::write(next.unwrap_or(0), &mut fields[71..77]);
+    }
+    *before = Some(fields);
     fields
 }
 
@@ -54,9 +74,10 @@ fn main() -> Result<(), Box<dyn Error>> {
     let mut out = BufWriter::with_capacity(1 << 20, io::stdout().lock());
     let mut record = vec![0; size];
     let mut left = payments;
+    let mut before = None;
     while left > 0 {
         let mut writer = Writer::new();
-        writer.header(&header_fields(random, version), &mut record)?;
+        writer.header(&next_header(random, version, &mut before), &mut record)?;
         out.write_all(&record)?;
         for _ in 0..left.min(PAYMENTS_IN_FILE) {
             let issuer = issuers[random.index(issuers.len())];
