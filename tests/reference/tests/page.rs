@@ -2,7 +2,7 @@
 
 mod common;
 
-use common::{a, a06, a_of, code_for, g, lined_all, p4_code, with_byte, z};
+use common::{a, a06, a_nth, a_of, code_for, g, lined_all, p4_code, with_byte, z};
 use reference::{page, Board, Issuer, Lane};
 
 #[track_caller]
@@ -148,6 +148,37 @@ fn the_page_of_two_versions() {
             "issuer=1-3659",
             "payments=1",
             "centavos=5",
+        ],
+    );
+}
+
+/// 17 files of 17 pairs, with 100, 101 and so on centavos for two issuers in turn. The last file is refused.
+#[test]
+fn the_page_of_17_pairs() {
+    let codes = [p4_code(), code_for(2, 7)];
+    let file = |i: u64| {
+        let code = &codes[i as usize % 2];
+        [a_nth(i, 1), g(code, 100 + i), z(3, 100 + i)].concat()
+    };
+    let input: Vec<u8> = (0..17).flat_map(file).collect();
+    assert_page(
+        &input,
+        &[
+            "answer=27",
+            "place=3",
+            "record=48",
+            "files=16",
+            "lanes=2",
+            "payments=16",
+            "centavos=1720",
+            "lane=1",
+            "issuer=1-3659",
+            "payments=8",
+            "centavos=856",
+            "lane=2",
+            "issuer=2-0007",
+            "payments=8",
+            "centavos=864",
         ],
     );
 }

@@ -2,7 +2,7 @@
 
 mod common;
 
-use common::{a, assert_answer, barcode_of_line, g, p4_code, with_bytes, z, P4};
+use common::{a, assert_answer, barcode_of_line, g, memory_of_a, p4_code, with_bytes, z, P4};
 use reference::{barcode, line, Date, Modulus, Session};
 
 const BOX: &[u8] = b"01230067896";
@@ -93,11 +93,9 @@ fn p11_empty_file() {
     let mut session = Session::new();
     assert_answer(session.take(&a(), &[]), 0, 0);
     assert_answer(session.take(&z(2, 0), &[]), 0, 0);
-    // Nothing but its number is left.
-    assert_eq!(session.memory.used, 1);
-    let memory = session.memory;
+    // Nothing but its bank, its agreement and its number is left.
     let remembering = Session {
-        memory,
+        memory: memory_of_a(),
         ..Session::new()
     };
     assert_eq!(session, remembering);

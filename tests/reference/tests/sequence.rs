@@ -2,6 +2,7 @@
 
 mod common;
 
+use common::steps::{assert_refused, assert_taken, take_file};
 use common::{a, a06, a_by, a_nth, a_of, assert_answer, followed, g, lined, numbered, p4_code};
 use common::{with_byte, with_bytes, z, WRONG};
 use reference::session::PAIRS;
@@ -9,13 +10,6 @@ use reference::{digits, Memory, Pair, Session};
 
 const LEFT: &[u8; 20] = b"PS0001              ";
 const RIGHT: &[u8; 20] = b"              PS0001";
-
-/// Takes an empty file.
-#[track_caller]
-fn take_file(session: &mut Session, header: &[u8; 150]) {
-    assert_answer(session.take(header, &[]), 0, 0);
-    assert_answer(session.take(&z(2, 0), &[]), 0, 0);
-}
 
 /// A session that has accepted empty files with these headers.
 #[track_caller]
@@ -25,18 +19,6 @@ fn after(headers: &[[u8; 150]]) -> Session {
         take_file(&mut session, header);
     }
     session
-}
-
-/// Takes a record that is refused, which must change nothing. A run over it answers the same.
-#[track_caller]
-fn assert_refused(session: &mut Session, record: &[u8], number: u64, place: usize) {
-    let before = session.clone();
-    assert_answer(session.take(record, &[]), number, place);
-    assert_eq!(*session, before);
-    let run = session.run(record, false, &[]);
-    assert_answer(run.answer, number, place);
-    assert_eq!((run.records, run.files, run.bytes), (0, 0, 0));
-    assert_eq!(*session, before);
 }
 
 fn pair(bank: &[u8; 3], agreement: &[u8; 20], sequence: u64) -> Pair {
@@ -148,17 +130,23 @@ fn any_first_number() {
 }
 
 /// Faults of a header: the place, the byte that is put there, and the answer.
-const FAULTS: [(usize, u8, u64, usize); 11] = [
+const FAULTS: [(usize, u8, u64, usize); 17] = [
     (1, b'B', 9, 1),
     (2, b'1', 10, 2),
+    (3, 7, 8, 3),
+    (22, 7, 8, 22),
     (23, 7, 8, 23),
+    (43, b'x', 2, 43),
+    (45, b' ', 2, 45),
     (46, 7, 8, 46),
     (66, b'x', 2, 66),
     (73, b'9', 11, 66),
+    (74, b'x', 2, 74),
     (79, b'x', 2, 79),
     (81, b'5', 10, 80),
     (83, b'o', 10, 82),
     (98, b'x', 10, 82),
+    (99, b'x', 10, 99),
     (150, b'x', 10, 99),
 ];
 
@@ -191,7 +179,7 @@ fn behind_the_headers_own_refusals() {
     }
 }
 
-/// While a file is open, every header is 9, whatever its number and its pair are.
+/// While a file is open, every header is 9, whatever its number, its pair and its fields are.
 #[test]
 fn behind_9() {
     let mut headers: Vec<[u8; 150]> = (0..16).map(|i| a_nth(i, 1)).collect();
@@ -204,6 +192,8 @@ fn behind_9() {
         a_nth(0, 2),
         a_nth(0, 3),
         a_nth(16, 1),
+        with_byte(a_nth(0, 2), 83, b'o'),
+        with_byte(a_nth(1, 2), 83, b'o'),
     ] {
         assert_refused(&mut session, &header, 9, 1);
     }
@@ -233,6 +223,26 @@ fn seventeen_pairs() {
     assert_eq!(session.memory.used, 16);
 }
 
+/// An abandoned 16th pair takes no place, so another pair may; then the abandoned one is the 17th.
+#[test]
+fn an_abandoned_16th_pair() {
+    let fifteen: Vec<[u8; 150]> = (0..15).map(|i| a_nth(i, 1)).collect();
+    let mut session = after(&fifteen);
+    let before = session.clone();
+    assert_taken(&mut session, &a_nth(15, 7));
+    session.abandon();
+    assert_eq!(session, before);
+    take_file(&mut session, &a_nth(16, 9));
+    let sixteenth = pair(b"016", b"AGREEMENT           ", 9);
+    assert_eq!(session.memory.used, 16);
+    assert_eq!(session.memory.pairs[..15], before.memory.pairs[..15]);
+    assert_eq!(session.memory.pairs[15], sixteenth);
+    for number in [1, 7, 8, 10] {
+        assert_refused(&mut session, &a_nth(15, number), 27, 3);
+    }
+    take_file(&mut session, &a_nth(16, 10));
+}
+
 /// A number is remembered when Z is accepted, not before, and a refused Z leaves it.
 #[test]
 fn remembered_with_the_trailer() {
@@ -244,14 +254,15 @@ fn remembered_with_the_trailer() {
         assert_answer(session.take(&record, &[]), 0, 0);
         assert_eq!((session.opening, session.memory), (opening, remembered));
     }
-    for refused in [
-        z(3, 6),
-        z(2, 7),
-        a_of(5),
-        a_of(6),
-        with_byte(z(3, 7), 150, b'x'),
+    for (refused, number, place) in [
+        (z(3, 6), 14, 8),
+        (z(2, 7), 13, 2),
+        (a_of(5), 9, 1),
+        (a_of(6), 9, 1),
+        (with_byte(z(3, 7), 150, b'x'), 10, 25),
+        (with_bytes(g(&p4_code(), 7), 22, b"20230229"), 11, 22),
     ] {
-        assert!(session.take(&refused, &[]).is_err());
+        assert_refused(&mut session, &refused, number, place);
         assert_eq!((session.opening, session.memory), (opening, remembered));
     }
     assert_answer(session.take(&z(3, 7), &[]), 0, 0);

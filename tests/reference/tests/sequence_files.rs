@@ -245,30 +245,3 @@ fn the_rest_of_misnumbered_days() {
     assert_eq!(numbers, [(0, 0), (26, 74), (27, 3)]);
     assert!(seen.values().all(|&count| count > 300), "{seen:?}");
 }
-
-/// Each way to make a number wrong is taken, and any bytes are answered.
-#[test]
-fn misnumbering() {
-    let mut random = Random::new(307);
-    let mut lengths = BTreeMap::new();
-    let mut zeros = 0;
-    let two = [file(a_of(999_999)), file(a_of(1))].concat();
-    for _ in 0..2_000 {
-        let mut day = two.clone();
-        days::misnumber(&mut random, &mut day);
-        *lengths.entry(day.len() / 450).or_insert(0) += 1;
-        zeros += usize::from(day == [file(a_of(999_999)), file(a_of(0))].concat());
-        let mut bytes: Vec<u8> = (0..random.below(400))
-            .map(|_| random.one_of(b"AGZ\r\n"))
-            .collect();
-        days::misnumber(&mut random, &mut bytes);
-    }
-    // From one file left out to 17 put in.
-    assert_eq!(Vec::from_iter(lengths.into_keys()), Vec::from_iter(1..=19));
-    assert!(zeros > 100, "{zeros}");
-    for mut nothing in [Vec::new(), z(2, 0).to_vec(), a_of(1)[..149].to_vec()] {
-        let before = nothing.clone();
-        days::misnumber(&mut random, &mut nothing);
-        assert_eq!(nothing, before);
-    }
-}

@@ -1,7 +1,9 @@
-//! Memories of sequence numbers in arbitrary states, made by hand: docs/SPEC.md, "Sequence numbers".
+//! Memories of sequence numbers in arbitrary states, made by hand: docs/SPEC.md, "Sequence numbers". Each step is also
+//! run, so that a run is its takes from such a state too.
 
 mod common;
 
+use common::steps::{assert_refused, assert_taken, take_file};
 use common::{a_nth, assert_answer, g, lined, p4_code, z};
 use reference::session::{following, LAST_NUMBER, PAIRS};
 use reference::{Memory, Pair, Session};
@@ -36,22 +38,6 @@ fn open(opening: Pair, memory: Memory) -> Session {
         opening,
         ..closed(memory)
     }
-}
-
-/// Takes a record that is refused, which must change nothing.
-#[track_caller]
-fn assert_refused(session: &mut Session, record: &[u8], number: u64, place: usize) {
-    let before = session.clone();
-    assert_answer(session.take(record, &[]), number, place);
-    assert_eq!(*session, before);
-}
-
-/// Takes an empty file and returns the memory that it leaves.
-#[track_caller]
-fn take_file(session: &mut Session, header: &[u8; 150]) -> Memory {
-    assert_answer(session.take(header, &[]), 0, 0);
-    assert_answer(session.take(&z(2, 0), &[]), 0, 0);
-    session.memory
 }
 
 /// More than 16 in use is all 16, and `used` is not changed.
@@ -138,11 +124,11 @@ fn an_open_file_without_room() {
     for used in [16, 17, usize::MAX] {
         for opening in [nth(16, 4), Pair::new(), nth(200, u64::MAX)] {
             let mut session = open(opening, memory(used));
-            assert_answer(session.take(&g(&p4_code(), 5), &[]), 0, 0);
+            assert_taken(&mut session, &g(&p4_code(), 5));
             assert_eq!(session.opening, opening);
             assert_refused(&mut session, &z(2, 5), 13, 2);
             assert_refused(&mut session, &z(3, 6), 14, 8);
-            assert_answer(session.take(&z(3, 5), &[]), 0, 0);
+            assert_taken(&mut session, &z(3, 5));
             assert_eq!(session.memory, memory(used));
             assert_eq!((session.opening, session.open), (Pair::new(), false));
             assert_eq!(session.board().centavos, 5);
@@ -156,13 +142,13 @@ fn an_open_file_that_does_not_follow() {
     for sequence in [0, 10, 77, 1_000_000, u64::MAX] {
         for used in [3, 16, usize::MAX] {
             let mut session = open(nth(2, sequence), memory(used));
-            assert_answer(session.take(&z(2, 0), &[]), 0, 0);
+            assert_taken(&mut session, &z(2, 0));
             let mut expected = memory(used);
             expected.pairs[2].sequence = sequence;
             assert_eq!(session, closed(expected));
         }
         let mut session = open(nth(2, sequence), memory(2));
-        assert_answer(session.take(&z(2, 0), &[]), 0, 0);
+        assert_taken(&mut session, &z(2, 0));
         let mut expected = memory(3);
         expected.pairs[2].sequence = sequence;
         assert_eq!(session, closed(expected));
@@ -174,7 +160,7 @@ fn an_open_file_that_does_not_follow() {
 fn an_open_file_of_zeros() {
     let mut session = open(Pair::new(), Memory::new());
     for sequence in [0, 5] {
-        assert_answer(session.take(&z(2, 0), &[]), 0, 0);
+        assert_taken(&mut session, &z(2, 0));
         assert_eq!(session.memory.used, 1);
         let opening = Pair {
             sequence,
@@ -182,7 +168,7 @@ fn an_open_file_of_zeros() {
         };
         session = open(opening, session.memory);
     }
-    assert_answer(session.take(&z(2, 0), &[]), 0, 0);
+    assert_taken(&mut session, &z(2, 0));
     assert_eq!(session.memory.in_use()[0].sequence, 5);
     // Those that are not in use are no pair.
     assert_eq!(take_file(&mut session, &a_nth(1, 7)).used, 2);
@@ -208,7 +194,7 @@ fn a_closed_session_with_an_opening() {
     ] {
         assert_refused(&mut session, &record, number, place);
     }
-    assert_answer(session.take(&a_nth(7, 11), &[]), 0, 0);
+    assert_taken(&mut session, &a_nth(7, 11));
     assert_eq!(session, open(nth(7, 11), memory(16)));
 }
 
@@ -218,7 +204,7 @@ fn abandoning_an_open_file() {
     for used in [0, 5, 16, usize::MAX] {
         for opening in [nth(2, 11), nth(2, 500), nth(16, 1), Pair::new()] {
             let mut session = open(opening, memory(used));
-            assert_answer(session.take(&g(&p4_code(), 5), &[]), 0, 0);
+            assert_taken(&mut session, &g(&p4_code(), 5));
             session.abandon();
             assert_eq!(session, closed(memory(used)));
         }
@@ -233,7 +219,7 @@ fn a_trailer_without_its_line_end() {
         ..open(nth(2, 11), memory(16))
     };
     assert_refused(&mut session, &z(2, 0), 22, 151);
-    assert_answer(session.take(&lined(&z(2, 0)), &[]), 0, 0);
+    assert_taken(&mut session, &lined(&z(2, 0)));
     let mut expected = memory(16);
     expected.pairs[2].sequence = 11;
     assert_eq!(session, closed(expected));

@@ -3,7 +3,8 @@
 
 mod common;
 
-use common::{a, a06, a_of, assert_answer, g, numbered, p4_code, with_byte, with_bytes, z};
+use common::{a, a06, a_of, assert_answer, g, memory_of_a, numbered, p4_code};
+use common::{with_byte, with_bytes, z};
 use reference::random::Random;
 use reference::{answer, days, Board, Session, Stage, Writer};
 
@@ -95,7 +96,7 @@ fn the_closed_state_has_version_0() {
         session.abandon();
         assert_eq!(session, closed);
         take_all(&mut session, &[header, z(2, 0)]);
-        assert_eq!(session.memory.used, 1);
+        assert_eq!(session.memory, memory_of_a());
         session.memory = closed.memory;
         assert_eq!(session, closed);
     }

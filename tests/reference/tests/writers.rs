@@ -2,8 +2,8 @@
 
 mod common;
 
-use common::{a, assert_answer, g, header_fields, p4_code, payment_fields, with_byte, z};
-use reference::{answer, Stage, Writer};
+use common::{a, a_nth, assert_answer, g, header_fields, p4_code, payment_fields, with_byte, z};
+use reference::{answer, Session, Stage, Writer};
 
 const FILE_LIMIT: u64 = 99_999_999_999_999_999;
 
@@ -218,5 +218,69 @@ fn arbitrary_fresh_writers() {
             lined: false,
         };
         assert_eq!(writer, open);
+    }
+}
+
+/// The file of one payment that a new writer makes of these field bytes.
+#[track_caller]
+fn written(header: &[u8; 80]) -> Vec<u8> {
+    let mut writer = Writer::new();
+    let mut records = [[7; 150]; 3];
+    let [first, second, third] = &mut records;
+    assert_answer(writer.header(header, first), 0, 0);
+    assert_answer(
+        writer.payment(&payment_fields(), 109, 150, &[], second),
+        0,
+        0,
+    );
+    assert_answer(writer.trailer(third), 0, 0);
+    records.concat()
+}
+
+/// The session accepts a file of one payment.
+#[track_caller]
+fn assert_accepted(session: &mut Session, file: &[u8]) {
+    let run = session.run(file, false, &[]);
+    assert_answer(run.answer, 0, 0);
+    assert_eq!((run.records, run.files, run.bytes), (3, 1, 450));
+}
+
+/// The session refuses a file at its header and does not change.
+#[track_caller]
+fn assert_refused(session: &mut Session, file: &[u8], number: u64, place: usize) {
+    let before = session.clone();
+    let run = session.run(file, false, &[]);
+    assert_answer(run.answer, number, place);
+    assert_eq!((run.records, run.files, run.bytes), (0, 0, 0));
+    assert_eq!(*session, before);
+}
+
+/// A writer has no memory: one header may be written twice. The second file is for a session to refuse.
+#[test]
+fn one_header_from_two_writers() {
+    let files = [written(&header_fields()), written(&header_fields())];
+    for file in &files {
+        assert_eq!(*file, [a(), g(&p4_code(), 109), z(3, 109)].concat());
+        assert_accepted(&mut Session::new(), file);
+    }
+    let mut session = Session::new();
+    assert_accepted(&mut session, &files[0]);
+    assert_refused(&mut session, &files[1], 26, 74);
+}
+
+/// Nor do writers count pairs: a fresh session accepts each of their files, and one session refuses the 17th.
+#[test]
+fn writers_of_17_pairs() {
+    let mut session = Session::new();
+    for i in 0..17 {
+        let mut header = header_fields();
+        header[40..43].copy_from_slice(format!("{i:03}").as_bytes());
+        let file = written(&header);
+        assert_eq!(file[..150], a_nth(i, 1));
+        assert_accepted(&mut Session::new(), &file);
+        match i {
+            16 => assert_refused(&mut session, &file, 27, 3),
+            _ => assert_accepted(&mut session, &file),
+        }
     }
 }

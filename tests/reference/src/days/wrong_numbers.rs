@@ -85,7 +85,7 @@ fn set_zero(bytes: &mut [u8], files: &[Range<usize>], given: usize) {
     bytes[start + 73..start + 79].fill(b'0');
 }
 
-/// Gives a header another number, mostly one near its own.
+/// Gives a header a number: mostly another one, and mostly one near its own.
 fn change_number(random: &mut Random, header: &mut [u8]) {
     let number = number_at(header, 0).unwrap_or(0);
     let other = match random.below(4) {

@@ -5,9 +5,10 @@
 
 pub mod memories;
 pub mod naive;
+pub mod steps;
 
 use reference::random::Random;
-use reference::{answer, days, line, records, Issuer, Record, Refusal};
+use reference::{answer, days, line, records, Issuer, Memory, Pair, Record, Refusal};
 
 /// The typed line of P4, without blanks.
 pub const P4: &[u8; 48] = b"817700000000010936599702411310797039001433708318";
@@ -57,6 +58,18 @@ pub fn a_by(bank: &[u8; 3], agreement: &[u8; 20], number: u64) -> [u8; 150] {
 /// The same header of the i-th of many pairs, by bank 001 and so on.
 pub fn a_nth(i: u64, number: u64) -> [u8; 150] {
     with_bytes(a_of(number), 43, format!("{i:03}").as_bytes())
+}
+
+/// What a new session remembers of one accepted file with the header `a`, or `a06`.
+pub fn memory_of_a() -> Memory {
+    let mut memory = Memory::new();
+    memory.pairs[0] = Pair {
+        bank: *b"341",
+        agreement: *b"AGREEMENT           ",
+        sequence: 1,
+    };
+    memory.used = 1;
+    memory
 }
 
 /// A payment of a barcode, spelled out. Its codes are of both versions.
