@@ -369,7 +369,7 @@ typedef struct hollytrot_board {
 } hollytrot_board;
 
 /* Sequence numbers ("Sequence numbers"): a session remembers the number of the last accepted file of each pair of bank
- * and agreement, so that no file is counted twice. */
+ * and agreement, and accepts only the next: a file that comes again is refused 26. */
 
 /* The bank and the agreement of a file, the bytes of its A at places 43 to 45 and 3 to 22, and its number. */
 typedef struct hollytrot_pair {

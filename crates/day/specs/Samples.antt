@@ -44,14 +44,15 @@ LinedInput =
     × (dayOfInput (workedInput ++ linedInput 2) .session .shown .used ≡ 1)
     × (dayOfInput (workedInput ++ linedInput 2) .session .shown .total ≡ record { payments = 2; centavos = 218 })
 
--- Promise: loaded twice it is refused 26 at place 74, and every other line of the page is the worked page's: its three
--- records, its file and its lane are shown once.
+-- two lines of a page, each with its newline: answer=26 and place=74
 abbrev pub refusedLines : List ℕ
 refusedLines =
     97 ∷ 110 ∷ 115 ∷ 119 ∷ 101 ∷ 114 ∷ 61 ∷ 50 ∷ 54 ∷ 10
     ∷ 112 ∷ 108 ∷ 97 ∷ 99 ∷ 101 ∷ 61 ∷ 55 ∷ 52 ∷ 10
     ∷ []
 
+-- Promise: loaded twice the worked input is refused 26 at place 74, and every other line of the page is the worked
+-- page's: its three records, its file and its lane are shown once.
 abbrev pub TwiceInput : Type 0
 TwiceInput = pageOfInput (workedInput ++ workedInput) ≡ refusedLines ++ drop 17 workedPage
 

@@ -33,9 +33,9 @@ use Rattle.board.proofs.Lanes.{one-payment-more}
 use Rattle.board.proofs.Posting.{fit, with-sound, post-places, stays-sound}
 use Rattle.board.proofs.Boards.{answers-as-payments}
 use Rattle.pairs.specs.declared.Memory.{Memory}
-use Rattle.pairs.specs.Pairs.{mostPairs, pairAnswer, remembering, pairsOf, memoryAnswer, memoryWith, hasRoomFor}
+use Rattle.pairs.specs.Pairs.{mostPairs, pairAnswer, remembering, pairsOf, memoryAnswer, memoryWith, SoundMemory, hasRoomFor}
 use Rattle.pairs.proofs.Searches.{in-use}
-use Rattle.pairs.proofs.Memories.{pair-accepted, pair-is-remembered, with-length}
+use Rattle.pairs.proofs.Memories.{pair-accepted, pair-is-remembered, memory-stays-sound}
 use Rattle.session.specs.declared.Session.{Session}
 use Rattle.session.specs.Sessions.{freshSession, openedAt, closedAt, pairIn, sessionTerms, sessionExpects, figuresIn, payAnswer, sessionWithPayment, sessionClosed, sessionAnswer, sessionWith, takeAnswer, nextSession, takeOf, abandonOf}
 use Rattle.ledger.specs.Ledgers.{Opened, Filed, Ledger, freshLedger, paymentRecords, openRecords, laneOfRecord, lanesOfRecords, receivedBy, receivedIn, limitsAnswer, isOpen, isOpenLined, ledgerExpects, openVersion, ledgerTerms, filedWith, paymentStateAnswer, trailerStateAnswer, headerStateAnswer, stateAnswer, ledgerAnswer, ledgerCheck, withRecord, nextLedger, Step, taking, abandoning, ledgerStep, ledgerAfter, ledgerAnswers}
@@ -69,7 +69,7 @@ module _ (agreed : List ℕ) (s : Session) (files : List Filed) (rec : List ℕ)
       → memoryAnswer (s .memory) (pairIn rec) ≡ headerStateAnswer files rec
   opening-answer o h =
       let few : length (remembered files) ≤ mostPairs =
-      omega (arith, ap length (h .memory), in-use (s .memory) (h .whole)) in
+      omega (arith, ap length (h .memory), in-use (s .memory) (h .soundMemory .whole)) in
       ap (λ qs. pairAnswer qs (pairIn rec)) (h .memory) ∙ header-answer files rec few
 
   record-answer : (o : Option Opened) (n : MaybeRecord) (a : Answer) → Agrees s (record { accepted = files; opened = o })
@@ -111,11 +111,11 @@ check-agrees agreed s k rec h = ap (λ (a : Answer). listAnswer agreed then a) (
 
 -- The session that follows.
 
--- both boards and the memory are those of the accepted files
 record Remembers (m : Memory) (files : List Filed) : Type 0 where
   memory : pairsOf m ≡ remembered files
-  whole : length (m .pairs) ≡ mostPairs
+  sound : SoundMemory m
 
+-- both boards and the memory are those of the accepted files
 at-rest : (b : Board) (m : Memory) (files : List Filed) (o : Option Opened)
     → lanesOf b ≡ lanesFrom (lanesOfRecords (paymentRecords files)) → SoundBoard b → Remembers m files
     → (isOpen o ≡ true → hasRoomFor m (openPair o) ≡ true) → openRecords o ≡ []
@@ -131,15 +131,15 @@ at-rest b m files o e sound remembers room none-yet =
       lined = refl;
       opening = refl;
       memory = remembers .memory;
-      whole = remembers .whole;
       room = room;
+      soundMemory = remembers .sound;
       soundShown = sound;
       soundWork = sound;
     }
 
 module _ (agreed : List ℕ) (s : Session) (files : List Filed) (ended : Bool) (rec : List ℕ) where
   remembers : (o : Option Opened) → Agrees s (record { accepted = files; opened = o }) → Remembers (s .memory) files
-  remembers o h = record { memory = h .memory; whole = h .whole }
+  remembers o h = record { memory = h .memory; sound = h .soundMemory }
 
   opens : (o : Option Opened) → Agrees s (record { accepted = files; opened = o })
       → memoryAnswer (s .memory) (pairIn rec) ≡ Accepted
@@ -158,10 +158,10 @@ module _ (agreed : List ℕ) (s : Session) (files : List Filed) (ended : Bool) (
     remembers-file =
         record {
           memory =
-              pair-is-remembered (s .memory) (s .opening) (h .whole) (h .room (h .opened)) .0
+              pair-is-remembered (s .memory) (s .opening) (h .soundMemory .whole) (h .room (h .opened)) .0
               ∙ ap₂ remembering (h .opening) (h .memory)
               ∙ sym (remembered-joined files (filedWith f rec));
-          whole = with-length (s .memory) (s .opening) ∙ h .whole;
+          sound = memory-stays-sound .1 (s .memory) (s .opening) (h .soundMemory);
         }
 
     closes : Agrees (sessionClosed s) (withRecord files (some f) (Is Trailer) ended rec)
@@ -195,8 +195,8 @@ module _ (agreed : List ℕ) (s : Session) (files : List Filed) (ended : Bool) (
           lined = h .lined;
           opening = h .opening;
           memory = h .memory;
-          whole = h .whole;
           room = h .room;
+          soundMemory = h .soundMemory;
           soundShown = h .soundShown;
           soundWork =
               with-sound (s .work) (laneOfRecord rec) (h .soundWork) (fit (s .work) (laneOfRecord rec) .0 posted);
@@ -272,8 +272,8 @@ fresh-agrees =
       lined = refl;
       opening = refl;
       memory = refl;
-      whole = refl;
       room = never;
+      soundMemory = memory-stays-sound .0;
       soundShown = stays-sound .0;
       soundWork = stays-sound .0;
     }

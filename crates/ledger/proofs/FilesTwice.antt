@@ -1,8 +1,8 @@
 -- A file that was accepted is not accepted again. Assumes nothing.
 use Prim.Native.Nat.{ℕ}
-use mathlib.Core.Bool.{Bool, false, not}
+use mathlib.Core.Bool.{Bool, false}
 use mathlib.Core.List.{List, [], _∷_, _++_, map}
-use mathlib.Core.Option.{none, some}
+use mathlib.Core.Option.{Option, none, some}
 use mathlib.Core.Path.{_≡_, refl, sym, ap, subst, _∙_}
 use borrow.Author.Tests.{ne-eqb}
 use Rattle.answer.specs.Refusals.{sequencePlace}
@@ -20,23 +20,23 @@ use Rattle.kinds.specs.Terms.{Terms}
 use Rattle.record.proofs.Shown.{accepted-is}
 use Rattle.file.specs.Forms.{inForm}
 use Rattle.board.specs.Lanes.{lanesFrom}
-use Rattle.pairs.specs.Pairs.{nextNumber, rememberedFor, pairsOf, memoryAnswer}
+use Rattle.pairs.specs.Pairs.{nextNumber, rememberedFor, follows, pairsOf}
 use Rattle.pairs.proofs.Memories.{no-number-follows-itself}
 use Rattle.session.specs.declared.Session.{Session}
 use Rattle.session.specs.declared.TakeResult.{TakeResult}
-use Rattle.session.specs.Sessions.{pairIn, sessionTerms, sessionExpects, takeAnswer, takeOf}
+use Rattle.session.specs.Sessions.{pairIn, sessionExpects, takeAnswer, takeOf}
 use Rattle.session.specs.Runs.{emptyRun, runAll, runOf, bytesOf}
 use Rattle.session.proofs.Feeding.{run-right}
 use Rattle.ledger.specs.Ledgers.{Filed, paymentRecords, lanesOfRecords, headersOf, numberShown, areOfOnePair, latestNumber, headerTerms, isOpen, Step, taking}
 use Rattle.ledger.specs.Promises.{sessionAfter, reached, ledgerOf, shownLanes}
 use Rattle.ledger.specs.WholeFiles.{IsRight, SoundFile, recordsOf, allInForm, fileOf}
-use Rattle.ledger.specs.Numbers.{FileTwiceIsRefused}
+use Rattle.ledger.specs.Numbers.{FileAgainIsRefused, FileTwiceIsRefused}
 use Rattle.ledger.proofs.Headers.{one-pair-self}
 use Rattle.ledger.proofs.Records.{records-joined}
 use Rattle.ledger.proofs.Agreement.{session-agrees}
 use Rattle.ledger.proofs.Shown.{lanes-are-the-payments}
 use Rattle.ledger.proofs.Sessions.{refusal-keeps-session}
-use Rattle.ledger.proofs.WholeFiles.{right-under-any-terms, first-of, taken}
+use Rattle.ledger.proofs.WholeFiles.{right-under-any-terms, first-of, headers-ask-the-memory}
 use Rattle.ledger.proofs.AcceptedFiles.{taken-right}
 use Rattle.ledger.proofs.LedgerFiles.{ledger-files-are-whole}
 use Rattle.ledger.proofs.FileBytes.{file-pieces}
@@ -54,11 +54,6 @@ latest-here : (before : List Filed) (f : Filed) (after : List Filed)
     → latestNumber (f .header) (headersOf (before ++ (f ∷ after))) ≡ some (numberShown (f .header))
 latest-here [] f after h = rw (none-later (f .header) after h, one-pair-self (f .header))
 latest-here (g ∷ before) f after h = rw (latest-here before f after h)
-
--- the answer of a memory that has the number of a file itself
-module _ (s : Session) (a : List ℕ) (last : rememberedFor (pairIn a) (pairsOf (s .memory)) ≡ some (numberShown a)) where
-  refused : memoryAnswer (s .memory) (pairIn a) ≡ Refused NotFollowing sequencePlace
-  refused = rw (last, ne-eqb (numberShown a) (nextNumber (numberShown a)) (no-number-follows-itself (numberShown a)))
 
 -- With no file open neither a payment nor a trailer is taken.
 
@@ -84,7 +79,7 @@ each-at P (y ∷ xs) x ys h = each-at P xs x ys (h .1)
 
 module _ (steps : List Step) (agreed : List ℕ) (lined : Bool) (before : List Filed) (f : Filed) (after : List Filed)
     (right : RightList agreed) (none-open : ledgerOf steps .opened ≡ none) (are : ledgerOf steps .accepted ≡ before ++ (f ∷ after))
-    (others : Each (λ (g : Filed). areOfOnePair (g .header) (f .header) ≡ false) after) where
+    (not-next : follows (latestNumber (f .header) (headersOf (before ++ (f ∷ after)))) (numberShown (f .header)) ≡ false) where
   abbrev s : Session
   s = reached steps
 
@@ -97,18 +92,16 @@ module _ (steps : List Step) (agreed : List ℕ) (lined : Bool) (before : List F
   sound : SoundFile f
   sound = each-at SoundFile before f after (subst (Each SoundFile) are (ledger-files-are-whole steps))
 
-  remembered : rememberedFor (pairIn (f .header)) (pairsOf (s .memory)) ≡ some (numberShown (f .header))
+  remembered : rememberedFor (pairIn (f .header)) (pairsOf (s .memory)) ≡ latestNumber (f .header) (headersOf (before ++ (f ∷ after)))
   remembered =
       last-number-is-remembered steps (f .header)
       ∙ ap (λ (files : List Filed). latestNumber (f .header) (headersOf files)) are
-      ∙ latest-here before f after others
 
   header-refused : takeOf agreed s (inForm lined (f .header))
       ≡ record { answer = Refused NotFollowing sequencePlace; session = s }
   header-refused =
-      let own = right-under-any-terms t (sessionTerms agreed s) Header (f .header) refl (sound .whole .header) in
-      taken agreed right s lined Header (f .header) own (ap not closed) (λ e. unequal e closed)
-      ∙ rw (refused s (f .header) remembered)
+      let own = right-under-any-terms t (headerTerms agreed (f .header)) Header (f .header) refl (sound .whole .header) in
+      headers-ask-the-memory agreed s lined (f .header) right closed own ∙ rw (remembered, not-next)
 
   abbrev all : List (List ℕ)
   all = allInForm lined (recordsOf (f .header) (f .payments) (f .trailer))
@@ -133,10 +126,16 @@ module _ (steps : List Step) (agreed : List ℕ) (lined : Bool) (before : List F
       ∙ ap (λ (files : List Filed). lanesFrom (lanesOfRecords (paymentRecords files))) are
       ∙ ap (λ (recs : List (List ℕ)). lanesFrom (lanesOfRecords recs)) (records-joined before (f ∷ after))
 
-pub file-twice-is-refused : FileTwiceIsRefused
-file-twice-is-refused steps agreed lined before f after right none-open are others = (
-  header-refused steps agreed lined before f after right none-open are others,
-  run-refused steps agreed lined before f after right none-open are others,
-  session-stays steps agreed lined before f after right none-open are others,
-  shown-once steps agreed lined before f after right none-open are others,
+pub file-again-is-refused : FileAgainIsRefused
+file-again-is-refused steps agreed lined before f after right none-open are not-next = (
+  header-refused steps agreed lined before f after right none-open are not-next,
+  run-refused steps agreed lined before f after right none-open are not-next,
+  session-stays steps agreed lined before f after right none-open are not-next,
+  shown-once steps agreed lined before f after right none-open are not-next,
 )
+
+pub file-twice-is-refused : FileTwiceIsRefused
+file-twice-is-refused steps agreed lined before f after right none-open are others =
+    let n = numberShown (f .header) in
+    file-again-is-refused steps agreed lined before f after right none-open are
+    (ap (λ (o : Option ℕ). follows o n) (latest-here before f after others) ∙ ne-eqb n (nextNumber n) (no-number-follows-itself n))

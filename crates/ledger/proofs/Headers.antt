@@ -1,23 +1,24 @@
 -- What the ledger reads off headers is what a memory has of them. Assumes nothing.
 use Prim.Native.Nat.{ℕ, suc, _+_, _≤_}
 use mathlib.Core.Bool.{Bool, true, false, cond, false≢true}
-use mathlib.Core.List.{List, [], _∷_, _++_}
+use mathlib.Core.List.{List, [], _∷_, _++_, map, append-nil, append-assoc}
 use mathlib.Core.Option.{Option, none, some}
 use mathlib.Core.Path.{_≡_, refl, sym, ap, ap₂, _∙_}
 use native.Mathlib.Omega.{arith}
 use borrow.Author.Tests.{le-leb}
 use lib.Dec.{leb}
-use lib.ListN.{length}
+use lib.ListN.{length, length-map, length-append}
 use Rattle.answer.specs.Refusals.{sequencePlace, agreementPlace}
 use Rattle.answer.specs.declared.Reason.the-variants.{NotFollowing, PairsFull}
 use Rattle.answer.specs.Orders.{require, _then_}
 use Rattle.answer.proofs.Tests.{split}
 use Rattle.pairs.specs.declared.Pair.{Pair}
 use Rattle.pairs.specs.Pairs.{mostPairs, isSamePair, rememberedFor, follows, hasRoom, pairAnswer, remembering}
-use Rattle.pairs.proofs.Remembering.{pair-refl, pair-sym, pair-alike, remembered-own, remembered-other}
+use Rattle.pairs.proofs.Remembering.{pair-refl, pair-sym, pair-bytes, pair-alike, remembered-own, remembered-other}
 use Rattle.session.specs.Sessions.{pairIn}
 use Rattle.ledger.specs.Ledgers.{Filed, headersOf, numberShown, areOfOnePair, firstOf, latestNumber, isPairSeen, firstOfPairs, headerStateAnswer}
 use Rattle.ledger.specs.Promises.{rememberedAfter, remembered}
+use Rattle.ledger.specs.Numbers.{unnumbered}
 
 pub one-pair : (a b : List ℕ) → isSamePair (pairIn a) (pairIn b) ≡ areOfOnePair a b
 unfolding isSamePair
@@ -75,28 +76,43 @@ pub remembered-of : (a : List ℕ) (files : List Filed)
     → rememberedFor (pairIn a) (remembered files) ≡ latestNumber a (headersOf files)
 remembered-of a files = remembered-latest a (headersOf files) [] ∙ first-none (latestNumber a (headersOf files))
 
--- How many pairs.
+-- Which pairs, and how many.
 
 abbrev isKnown : Option ℕ → Bool
 isKnown none = false
 isKnown (some n) = true
 
--- one pair more, unless it is known
+-- The pairs without their numbers: a known one leaves them, a new one comes at the end.
+
+alike-unnumbered : (p q : Pair) → isSamePair q p ≡ true → unnumbered p ≡ unnumbered q
+alike-unnumbered p q e =
+    let equal = pair-bytes q p e in
+    ap₂ {C = Pair} (λ (b a : List ℕ). record { bank = b; agreement = a; sequence = 0 }) (sym (equal .0)) (sym (equal .1))
+
+remembering-pairs : (p : Pair) (qs : List Pair)
+    → map unnumbered (remembering p qs)
+    ≡ map unnumbered qs ++ cond (isKnown (rememberedFor p qs)) [] (unnumbered p ∷ [])
+remembering-pairs p [] = refl
+remembering-pairs p (q ∷ qs) = go (isSamePair q p) refl (remembering-pairs p qs)
+  where
+    go : (t : Bool) → isSamePair q p ≡ t
+        → map unnumbered (remembering p qs) ≡ map unnumbered qs ++ cond (isKnown (rememberedFor p qs)) [] (unnumbered p ∷ [])
+        → map unnumbered (cond t (p ∷ qs) (q ∷ remembering p qs))
+        ≡ unnumbered q ∷ (map unnumbered qs ++ cond (isKnown (cond t (some (q .sequence)) (rememberedFor p qs))) [] (unnumbered p ∷ []))
+    go true e later = ap₂ (λ (r : Pair) (rs : List Pair). r ∷ rs) (alike-unnumbered p q e) (sym (append-nil (map unnumbered qs)))
+    go false e later = ap (λ (rs : List Pair). unnumbered q ∷ rs) later
+
+-- so one pair more, unless it is known
 remembering-length : (p : Pair) (qs : List Pair)
     → length (remembering p qs) ≡ cond (isKnown (rememberedFor p qs)) (length qs) (suc (length qs))
-remembering-length p [] = refl
-remembering-length p (q ∷ qs) = go (isSamePair q p) (remembering-length p qs)
+remembering-length p qs =
+    sym (length-map (remembering p qs) unnumbered) ∙ ap length (remembering-pairs p qs)
+    ∙ length-append (map unnumbered qs) (cond (isKnown (rememberedFor p qs)) [] (unnumbered p ∷ []))
+    ∙ go (isKnown (rememberedFor p qs))
   where
-    inner : (u : Bool) → length (remembering p qs) ≡ cond u (length qs) (suc (length qs))
-        → suc (length (remembering p qs)) ≡ cond u (suc (length qs)) (suc (suc (length qs)))
-    inner true e = ap suc e
-    inner false e = ap suc e
-
-    go : (t : Bool) → length (remembering p qs) ≡ cond (isKnown (rememberedFor p qs)) (length qs) (suc (length qs))
-        → length (cond t (p ∷ qs) (q ∷ remembering p qs))
-        ≡ cond (isKnown (cond t (some (q .sequence)) (rememberedFor p qs))) (suc (length qs)) (suc (suc (length qs)))
-    go true e = refl
-    go false e = inner (isKnown (rememberedFor p qs)) e
+    go : (t : Bool) → length (map unnumbered qs) + length (cond t [] (unnumbered p ∷ [])) ≡ cond t (length qs) (suc (length qs))
+    go true = omega (arith, length-map qs unnumbered)
+    go false = omega (arith, length-map qs unnumbered)
 
 -- a header more among those seen, or a pair more among those known
 seen-more : (a h : List ℕ) (seen : List (List ℕ))
@@ -136,20 +152,24 @@ seen-again a h (x ∷ seen) e f =
     go true false q e later = absurd (false≢true (sym q))
     go false false q e later = later e
 
-abbrev Counts : List (List ℕ) → Type 0
-Counts hs =
-    (seen : List (List ℕ)) (qs : List Pair) → Sees seen qs
-    → length (rememberedAfter qs hs) ≡ length qs + length (firstOfPairs seen hs)
+-- the pair of a header, without its number
+abbrev pairAlone : List ℕ → Pair
+pairAlone h = unnumbered (pairIn h)
 
-count-pairs : (hs : List (List ℕ)) → Counts hs
-count-pairs [] seen qs sees = omega arith
-count-pairs (h ∷ hs) seen qs sees = go (isPairSeen h seen) refl (count-pairs hs)
+abbrev InOrder : List (List ℕ) → Type 0
+InOrder hs =
+    (seen : List (List ℕ)) (qs : List Pair) → Sees seen qs
+    → map unnumbered (rememberedAfter qs hs) ≡ map unnumbered qs ++ map pairAlone (firstOfPairs seen hs)
+
+in-order : (hs : List (List ℕ)) → InOrder hs
+in-order [] seen qs sees = sym (append-nil (map unnumbered qs))
+in-order (h ∷ hs) seen qs sees = go (isPairSeen h seen) refl (in-order hs)
   where
     next : List Pair
     next = remembering (pairIn h) qs
 
-    grown : (t : Bool) → isPairSeen h seen ≡ t → length next ≡ cond t (length qs) (suc (length qs))
-    grown t e = remembering-length (pairIn h) qs ∙ rw (sees h, e)
+    grown : (t : Bool) → isPairSeen h seen ≡ t → map unnumbered next ≡ map unnumbered qs ++ cond t [] (pairAlone h ∷ [])
+    grown t e = remembering-pairs (pairIn h) qs ∙ rw (sees h, e)
 
     known-then : (seen′ : List (List ℕ)) → ((a : List ℕ) → isPairSeen a seen′ ≡ cond (areOfOnePair h a) true (isPairSeen a seen))
         → Sees seen′ next
@@ -158,11 +178,25 @@ count-pairs (h ∷ hs) seen qs sees = go (isPairSeen h seen) refl (count-pairs h
     stays : isPairSeen h seen ≡ true → (a : List ℕ) → isPairSeen a seen ≡ cond (areOfOnePair h a) true (isPairSeen a seen)
     stays e a = split (λ (t : Bool). isPairSeen a seen ≡ t) (areOfOnePair h a) (seen-again a h seen e) (λ f. refl)
 
-    go : (t : Bool) → isPairSeen h seen ≡ t → Counts hs
-        → length (rememberedAfter next hs) ≡ length qs + length (cond t (firstOfPairs seen hs) (h ∷ firstOfPairs (seen ++ (h ∷ [])) hs))
-    go true e later = omega (arith, later seen next (known-then seen (stays e)), grown true e)
+    go : (t : Bool) → isPairSeen h seen ≡ t → InOrder hs
+        → map unnumbered (rememberedAfter next hs)
+        ≡ map unnumbered qs ++ map pairAlone (cond t (firstOfPairs seen hs) (h ∷ firstOfPairs (seen ++ (h ∷ [])) hs))
+    go true e later =
+        later seen next (known-then seen (stays e))
+        ∙ ap (λ (ps : List Pair). ps ++ map pairAlone (firstOfPairs seen hs)) (grown true e ∙ append-nil (map unnumbered qs))
     go false e later =
-        omega (arith, later (seen ++ (h ∷ [])) next (known-then (seen ++ (h ∷ [])) (λ a. seen-more a h seen)), grown false e)
+        let more = map pairAlone (firstOfPairs (seen ++ (h ∷ [])) hs) in
+        later (seen ++ (h ∷ [])) next (known-then (seen ++ (h ∷ [])) (λ a. seen-more a h seen))
+        ∙ ap (λ (ps : List Pair). ps ++ more) (grown false e)
+        ∙ append-assoc (map unnumbered qs) (pairAlone h ∷ []) more
+
+-- from no pair on
+pub remembered-in-order : (hs : List (List ℕ)) → map unnumbered (rememberedAfter [] hs) ≡ map pairAlone (firstOfPairs [] hs)
+remembered-in-order hs = in-order hs [] [] (λ a. refl)
+
+pub count-pairs : (hs : List (List ℕ)) → length (rememberedAfter [] hs) ≡ length (firstOfPairs [] hs)
+count-pairs hs =
+    sym (length-map (rememberedAfter [] hs) unnumbered) ∙ ap length (remembered-in-order hs) ∙ length-map (firstOfPairs [] hs) pairAlone
 
 -- headers joined
 pub after-joined : (hs ks : List (List ℕ)) (qs : List Pair)
@@ -183,8 +217,7 @@ remembered-joined files f =
 module _ (files : List Filed) (a : List ℕ) (few : length (remembered files) ≤ mostPairs) where
   pairs-with : length (firstOfPairs [] (headersOf files ++ (a ∷ []))) ≡ length (remembering (pairIn a) (remembered files))
   pairs-with =
-      let counted = count-pairs (headersOf files ++ (a ∷ [])) [] [] (λ b. refl) in
-      omega (arith, counted, ap length (after-joined (headersOf files) (a ∷ []) []))
+      sym (count-pairs (headersOf files ++ (a ∷ []))) ∙ ap length (after-joined (headersOf files) (a ∷ []) [])
 
   room-by : (o : Option ℕ)
       → hasRoom o (length (remembered files))

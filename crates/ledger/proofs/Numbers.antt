@@ -1,11 +1,12 @@
 -- Sequence numbers over any history. Assumes nothing.
 use Prim.Native.Nat.{ℕ}
 use mathlib.Core.Bool.{Bool, true, false, cond}
-use mathlib.Core.List.{List, [], _∷_, _++_, append-nil}
+use mathlib.Core.List.{List, [], _∷_, _++_, map, append-nil}
 use mathlib.Core.Option.{Option, none, some}
 use mathlib.Core.Path.{_≡_, refl, sym, ap, ap₂, subst, _∙_}
+use native.Mathlib.Omega.{arith}
 use borrow.Author.Tests.{eqb-true}
-use lib.ListN.{getD}
+use lib.ListN.{length, getD}
 use Rattle.answer.specs.Refusals.{sequencePlace}
 use Rattle.answer.specs.declared.Reason.the-variants.{NotFollowing}
 use Rattle.answer.specs.declared.Answer.the-variants.{Accepted}
@@ -17,17 +18,27 @@ use Rattle.layout.specs.declared.Record.the-variants.{Header, Payment, Trailer}
 use Rattle.layout.specs.Layouts.{namedBy}
 use Rattle.file.specs.Forms.{bodyOf, hasLineEnd}
 use Rattle.pairs.specs.Pairs.{nextNumber, rememberedFor, follows}
+use Rattle.pairs.proofs.Searches.{in-use}
 use Rattle.session.specs.Sessions.{pairIn}
 use Rattle.ledger.specs.Ledgers.{Opened, Filed, Ledger, freshLedger, headersOf, numberShown, areOfOnePair, firstOf, latestNumber, ledgerExpects, filedWith, stateAnswer, withRecord}
-use Rattle.ledger.specs.Promises.{ledgerOf}
-use Rattle.ledger.specs.Numbers.{numbersOf, FollowingOn, Following, LastNumberIsRemembered, NumbersFollow}
-use Rattle.ledger.proofs.Headers.{one-pair-alike, first-none, remembered-of, headers-joined}
+use Rattle.ledger.specs.Promises.{reached, ledgerOf}
+use Rattle.ledger.specs.Numbers.{unnumbered, numbersOf, FollowingOn, Following, LastNumberIsRemembered, PairsInOrder, NumbersFollow}
+use Rattle.ledger.proofs.Headers.{one-pair-alike, first-none, remembered-of, headers-joined, remembered-in-order, count-pairs}
 use Rattle.ledger.proofs.Histories.{all-keep}
 use Rattle.ledger.proofs.Agreement.{session-agrees}
 
 pub last-number-is-remembered : LastNumberIsRemembered
 last-number-is-remembered steps a =
     ap (rememberedFor (pairIn a)) (session-agrees steps .memory) ∙ remembered-of a (ledgerOf steps .accepted)
+
+pub pairs-in-order : PairsInOrder
+pairs-in-order steps =
+    let agrees = session-agrees steps in
+    let hs = headersOf (ledgerOf steps .accepted) in
+    let memory = reached steps .memory in
+    let sound = agrees .soundMemory in
+    let count = ap length (agrees .memory) ∙ count-pairs hs in
+    (ap (map unnumbered) (agrees .memory) ∙ remembered-in-order hs, omega (arith, count, in-use memory (sound .whole), sound .within), sound .within)
 
 -- The last of some numbers, and one more behind them.
 

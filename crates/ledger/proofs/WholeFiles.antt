@@ -36,7 +36,7 @@ use Rattle.session.specs.declared.TakeResult.{TakeResult}
 use Rattle.session.specs.Sessions.{freshSession, closedAt, openedAt, sessionWorking, pairIn, sessionTerms, sessionExpects, figuresIn, payAnswer, sessionWithPayment, sessionClosed, sessionAnswer, sessionWith, takeResult, takeOf}
 use Rattle.ledger.specs.Ledgers.{laneOfRecord, lanesOfRecords, receivedBy, receivedIn, headerTerms, Step, taking}
 use Rattle.ledger.specs.Promises.{sessionAfter, answersOf}
-use Rattle.ledger.specs.WholeFiles.{IsRight, Whole, allInForm, fileOf, receivedEach, TrueFigures, AllAccepted, FileAccepted, FilePosted, FreshSessionAccepts, FreshSessionShows}
+use Rattle.ledger.specs.WholeFiles.{IsRight, Whole, allInForm, fileOf, receivedEach, TrueFigures, AllAccepted, HeadersAskTheMemory, FileAccepted, FilePosted, FreshSessionAccepts, FreshSessionShows}
 use Rattle.ledger.proofs.Records.{lanes-tally}
 
 -- a header and a trailer are right under any terms
@@ -137,6 +137,11 @@ module _ (agreed : List ℕ) (list : RightList agreed) (s : Session) (is-open : 
 
 -- The file from its header on.
 
+pub headers-ask-the-memory : HeadersAskTheMemory
+headers-ask-the-memory agreed s lined a list closed right =
+    taken agreed list s lined Header a (right-under-any-terms (headerTerms agreed a) (sessionTerms agreed s) Header a refl right) (ap not closed)
+    (λ e. unequal e closed)
+
 pub received-each : (recs : List (List ℕ)) → receivedOf (receivedEach recs) ≡ receivedIn recs
 received-each [] = refl
 received-each (rec ∷ recs) = omega (arith, received-each recs)
@@ -161,9 +166,7 @@ module _ (agreed : List ℕ) (s : Session) (lined : Bool) (a : List ℕ) (recs :
   start = openedAt (s .shown) (s .memory) (versionIn a) lined (pairIn a)
 
   opening : takeOf agreed s (inForm lined a) ≡ takeResult (memoryAnswer (s .memory) (pairIn a)) start s
-  opening =
-      taken agreed (whole .list) s lined Header a (right-under-any-terms (headerTerms agreed a) (sessionTerms agreed s) Header a refl (whole .header)) (ap not closed)
-      (λ e. unequal e closed)
+  opening = headers-ask-the-memory agreed s lined a (whole .list) closed (whole .header)
 
   answered : takeOf agreed s (inForm lined a) .answer ≡ memoryAnswer (s .memory) (pairIn a)
   answered = ap (λ (t : TakeResult). t .answer) opening

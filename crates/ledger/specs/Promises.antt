@@ -24,7 +24,8 @@ use Rattle.board.specs.declared.Lane.{Lane}
 use Rattle.board.specs.Lanes.{mostLanes, limit, lanesFrom, sumBy, each, issuersOf, Distinct}
 use Rattle.board.specs.Boards.{lanesOf, SoundBoard}
 use Rattle.pairs.specs.declared.Pair.{Pair}
-use Rattle.pairs.specs.Pairs.{mostPairs, rememberedFor, remembering, noPair, pairsOf, memoryWith, hasRoomFor}
+use Rattle.pairs.specs.Pairs.{mostPairs, rememberedFor, remembering, noPair, pairsOf, memoryWith, SoundMemory}
+use Rattle.pairs.specs.Pairs.{hasRoomFor}
 use Rattle.session.specs.declared.Session.{Session}
 use Rattle.session.specs.Sessions.{freshSession, pairIn, takeOf, abandonOf, finishOf}
 use Rattle.ledger.specs.Ledgers.{Opened, Filed, Ledger, freshLedger, headersOf, paymentRecords, openRecords}
@@ -92,8 +93,8 @@ pub record Agrees (s : Session) (k : Ledger) : Type 0 where
   pub lined : s .file .lined ≡ isOpenLined (k .opened)
   pub opening : s .opening ≡ openPair (k .opened)
   pub memory : pairsOf (s .memory) ≡ remembered (k .accepted)
-  pub whole : length (s .memory .pairs) ≡ mostPairs
   pub room : s .opened ≡ true → hasRoomFor (s .memory) (s .opening) ≡ true
+  pub soundMemory : SoundMemory (s .memory)
   pub soundShown : SoundBoard (s .shown)
   pub soundWork : SoundBoard (s .work)
 
@@ -206,7 +207,8 @@ abbrev pub NothingShowsBefore : Type 0
 NothingShowsBefore = (s : Session) (steps : List Step) → Each NoTrailer steps → sessionAfter s steps .shown ≡ s .shown
 
 -- every record but an accepted Z leaves the memory as it was; a Z has the number of the open file remembered for its
--- pair, if the pair is there or has room, as in every session that steps reach
+-- pair, if the pair is there or has room, as in every session that steps reach (the array has 16 entries, as every
+-- array of the code has)
 abbrev pub OnlyTrailersRemember : Type 0
 OnlyTrailersRemember =
     (agreed : List ℕ) (s : Session) (rec : List ℕ)

@@ -22,7 +22,7 @@ use Rattle.board.specs.Lanes.{mostLanes, lanesFrom}
 use Rattle.board.specs.Boards.{postAnswers, boardWithAll}
 use Rattle.session.specs.declared.Session.{Session}
 use Rattle.pairs.specs.Pairs.{memoryAnswer, memoryWith}
-use Rattle.session.specs.Sessions.{freshSession, closedAt, pairIn}
+use Rattle.session.specs.Sessions.{freshSession, closedAt, openedAt, pairIn, takeResult, takeOf}
 use Rattle.ledger.specs.Ledgers.{Filed, lanesOfRecords, receivedBy, receivedIn, headerTerms, Step, taking}
 use Rattle.ledger.specs.Promises.{sessionAfter, answersOf, reached, ledgerOf, shownLanes}
 
@@ -58,6 +58,16 @@ abbrev pub AllAccepted : List Answer → Type 0
 AllAccepted answers = Each (λ (a : Answer). a ≡ Accepted) answers
 
 -- Promises.
+
+-- of any session with no file open: a right A, lined or bare, is answered by the memory, 26 and 27, and opens its file
+-- if that lets it pass
+abbrev pub HeadersAskTheMemory : Type 0
+HeadersAskTheMemory =
+    (agreed : List ℕ) (s : Session) (lined : Bool) (a : List ℕ)
+    → RightList agreed → s .opened ≡ false → IsRight (headerTerms agreed a) Header a
+    → takeOf agreed s (inForm lined a)
+    ≡ takeResult (memoryAnswer (s .memory) (pairIn a))
+    (openedAt (s .shown) (s .memory) (versionIn a) lined (pairIn a)) s
 
 -- of any session with no file open: a file, lined or bare, is accepted under its list exactly if the memory lets its
 -- header pass, none of its payments is refused 15 to 18 and its trailer is true; the board then has them all, and the

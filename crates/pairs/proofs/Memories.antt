@@ -15,7 +15,7 @@ use Rattle.answer.proofs.Orders.{require-accepts, then-accepts}
 use Rattle.answer.proofs.Tests.{lt-or-le}
 use Rattle.pairs.specs.declared.Pair.{Pair}
 use Rattle.pairs.specs.declared.Memory.{Memory}
-use Rattle.pairs.specs.Pairs.{mostPairs, lastNumber, nextNumber, rememberedFor, follows, hasRoom, remembering, pairsOf, indexOf, memoryWith, hasRoomFor, NextIsShown, NoNumberFollowsItself, OneFollowsTheLast, PairAccepted, PairIsRemembered, OthersStay, NoRoomChangesNothing}
+use Rattle.pairs.specs.Pairs.{mostPairs, lastNumber, nextNumber, rememberedFor, follows, hasRoom, remembering, pairsOf, indexOf, memoryWith, hasRoomFor, NextIsShown, NoNumberFollowsItself, OneFollowsTheLast, PairAccepted, PairIsRemembered, OthersStay, NoRoomChangesNothing, SoundMemory, MemoryStaysSound}
 use Rattle.pairs.proofs.Searches.{in-use, index-within}
 use Rattle.pairs.proofs.Remembering.{found-number, not-found, stored, remembered-own, remembered-other}
 
@@ -52,19 +52,24 @@ pair-accepted m p =
     let second = require-accepts (hasRoomFor m p) PairsFull agreementPlace in
     (λ e. (first .0 (both .0 e .0), second .0 (both .0 e .1)), λ h. both .1 (first .1 (h .0), second .1 (h .1)))
 
--- the array is as long as it was
-pub with-length : (m : Memory) (p : Pair) → length (memoryWith m p .pairs) ≡ length (m .pairs)
+pub memory-stays-sound : MemoryStaysSound
 unfolding memoryWith
-with-length m p = go (ltb (indexOf p (pairsOf m)) mostPairs)
+memory-stays-sound = (record { whole = refl; within = omega arith }, λ m p h. go m p h (ltb (indexOf p (pairsOf m)) mostPairs) refl)
   where
-    at : ℕ
-    at = indexOf p (pairsOf m)
+    used : (m : Memory) (at : ℕ) → m .used ≤ mostPairs → at < mostPairs → (t : Bool) → cond t (m .used) (at + 1) ≤ mostPairs
+    used m at h k true = h
+    used m at h k false = omega arith
 
-    go : (t : Bool)
-        → length (cond t (record { pairs = set (m .pairs) at p; used = cond (ltb at (m .used)) (m .used) (at + 1) }) m .pairs)
-        ≡ length (m .pairs)
-    go true = length-set (m .pairs) at p
-    go false = refl
+    go : (m : Memory) (p : Pair) → SoundMemory m → let at = indexOf p (pairsOf m) in
+        (t : Bool) → ltb at mostPairs ≡ t
+        → SoundMemory (cond t (record { pairs = set (m .pairs) at p; used = cond (ltb at (m .used)) (m .used) (at + 1) }) m)
+    go m p h true e =
+        let at = indexOf p (pairsOf m) in
+        record {
+          whole = length-set (m .pairs) at p ∙ h .whole;
+          within = used m at (h .within) (ltb-true at mostPairs e) (ltb at (m .used));
+        }
+    go m p h false e = h
 
 -- there is room exactly where the index is one of the array's
 module _ (m : Memory) (p : Pair) (full : length (m .pairs) ≡ mostPairs) where

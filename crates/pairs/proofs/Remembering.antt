@@ -43,12 +43,16 @@ pub pair-sym : (p q : Pair) → isSamePair p q ≡ isSamePair q p
 unfolding isSamePair
 pair-sym p q = ap₂ _&&_ (same-sym (p .bank) (q .bank)) (same-sym (p .agreement) (q .agreement))
 
+pub pair-bytes : (p q : Pair) → isSamePair p q ≡ true → (p .bank ≡ q .bank) × (p .agreement ≡ q .agreement)
+unfolding isSamePair
+pair-bytes p q e =
+    let both = and-eq-true-iff (same (p .bank) (q .bank)) (same (p .agreement) (q .agreement)) .0 e in
+    (same-equal (p .bank) (q .bank) (both .0), same-equal (p .agreement) (q .agreement) (both .1))
+
 -- what is the same as one is the same as the other
 pub pair-alike : (p q r : Pair) → isSamePair p q ≡ true → isSamePair p r ≡ isSamePair q r
 unfolding isSamePair
-pair-alike p q r e =
-    let both = and-eq-true-iff (same (p .bank) (q .bank)) (same (p .agreement) (q .agreement)) .0 e in
-    rw (same-equal (p .bank) (q .bank) (both .0), same-equal (p .agreement) (q .agreement) (both .1))
+pair-alike p q r e = rw (pair-bytes p q e .0, pair-bytes p q e .1)
 
 -- By the index.
 

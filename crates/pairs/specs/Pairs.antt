@@ -86,6 +86,12 @@ memoryWith m p =
     cond (ltb at mostPairs)
     (record { pairs = set (m .pairs) at p; used = cond (ltb at (m .used)) (m .used) (at + 1) }) m
 
+-- what holds of a fresh memory, and stays: it has its 16 entries, as every array of the code has, and no more are in
+-- use
+pub record SoundMemory (m : Memory) : Type 0 where
+  pub whole : length (m .pairs) ≡ mostPairs
+  pub within : m .used ≤ mostPairs
+
 -- whether the memory has this pair, or room for it
 abbrev pub hasRoomFor : Memory → Pair → Bool
 hasRoomFor m p = hasRoom (rememberedFor p (pairsOf m)) (length (pairsOf m))
@@ -102,9 +108,10 @@ NoNumberFollowsItself = (n : ℕ) → n ≡ nextNumber n → ⊥
 abbrev pub OneFollowsTheLast : Type 0
 OneFollowsTheLast = (nextNumber 999_999 ≡ 1) × (nextNumber 0 ≡ 1) × (nextNumber 999_998 ≡ 999_999)
 
--- Promises, of any memory. A header is accepted exactly if its number follows and its pair is there or has room. A pair
--- that is there or has room is then remembered with its number, at its place or as the last; the number of every other
--- pair is as it was. One that has no room changes nothing.
+-- Promises, of any memory; that its array has 16 entries is a premise, since an array is a list here. A header is
+-- accepted exactly if its number follows and its pair is there or has room. A pair that is there or has room is then
+-- remembered with its number, at its place or as the last; the number of every other pair is as it was. One that has no
+-- room changes nothing.
 
 abbrev pub PairAccepted : Type 0
 PairAccepted =
@@ -126,3 +133,7 @@ OthersStay =
 abbrev pub NoRoomChangesNothing : Type 0
 NoRoomChangesNothing =
     (m : Memory) (p : Pair) → length (m .pairs) ≡ mostPairs → hasRoomFor m p ≡ false → memoryWith m p ≡ m
+
+abbrev pub MemoryStaysSound : Type 0
+MemoryStaysSound =
+    SoundMemory freshMemory × ((m : Memory) (p : Pair) → SoundMemory m → SoundMemory (memoryWith m p))

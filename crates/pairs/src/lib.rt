@@ -78,7 +78,7 @@ impl Memory {
     }
 
     // How many pairs are in use: `used`, at most PAIRS for a memory in an arbitrary state.
-    fn in_use(used: usize) -> usize
+    fn pairs_in_use(used: usize) -> usize
         ensures { λ r. ⌜ r ≡ min used mostPairs ⌝ }
     {
         if Self::PAIRS < used {
@@ -91,7 +91,7 @@ impl Memory {
     fn pair_index(self, pair: Pair) -> usize
         ensures { λ r. ⌜ r ≡ indexOf pair (pairsOf self) ⌝ }
     {
-        let end = Self::in_use(self.used);
+        let end = Self::pairs_in_use(self.used);
         let mut i: usize = 0;
         while i < end {
             let known = self.pairs[i];
@@ -108,7 +108,7 @@ impl Memory {
         ensures { λ r. ⌜ r ≡ memoryAnswer self pair ⌝ }
     {
         let at = self.pair_index(pair);
-        if at < Self::in_use(self.used) {
+        if at < Self::pairs_in_use(self.used) {
             let known = self.pairs[at];
             if follows(known.sequence, pair.sequence) {
                 return Answer::Accepted;

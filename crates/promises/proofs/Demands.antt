@@ -25,7 +25,7 @@ use Rattle.file.proofs.Files.{one-right-trailer}
 use Rattle.file.proofs.Forms.{line-end-is-cr-and-lf, fitting-is-in-form}
 use Rattle.board.proofs.Lanes.{past-thirty-two-bits}
 use Rattle.pairs.proofs.Memories.{next-is-shown, no-number-follows-itself, one-follows-the-last, pair-accepted}
-use Rattle.pairs.proofs.Memories.{pair-is-remembered, others-stay, no-room-changes-nothing}
+use Rattle.pairs.proofs.Memories.{pair-is-remembered, others-stay, no-room-changes-nothing, memory-stays-sound}
 use Rattle.writer.proofs.Written.{fields-write-the-header, fields-write-the-payment, written-is-accepted}
 use Rattle.writer.proofs.Written.{payments-written-under-a-version}
 use Rattle.writer.proofs.Trailers.{fields-write-the-trailer}
@@ -57,11 +57,11 @@ use Rattle.ledger.proofs.Runs.{run-is-the-ledgers}
 use Rattle.ledger.proofs.Calls.{calls-agree, replies-are-the-ledgers, calls-are-steps}
 use Rattle.ledger.proofs.LedgerFiles.{ledger-files-are-whole, open-files-have-a-version}
 use Rattle.ledger.proofs.Forms.{forms-agree, only-ended-records}
-use Rattle.ledger.proofs.Numbers.{last-number-is-remembered, numbers-follow}
-use Rattle.ledger.proofs.FilesTwice.{file-twice-is-refused}
+use Rattle.ledger.proofs.Numbers.{last-number-is-remembered, pairs-in-order, numbers-follow}
+use Rattle.ledger.proofs.FilesTwice.{file-again-is-refused, file-twice-is-refused}
 use Rattle.ledger.proofs.FileBytes.{pieces-are-the-records, file-bytes-run}
 use Rattle.ledger.proofs.WrittenFiles.{closed-file-bytes-run}
-use Rattle.ledger.proofs.WholeFiles.{file-accepted, file-posted, fresh-session-accepts, fresh-session-shows}
+use Rattle.ledger.proofs.WholeFiles.{headers-ask-the-memory, file-accepted, file-posted, fresh-session-accepts, fresh-session-shows}
 use Rattle.ledger.proofs.AcceptedFiles.{accepted-file-is-whole}
 use Rattle.ledger.proofs.WrittenFiles.{closed-file-is-whole, closed-file-is-accepted, fields-write-the-file}
 use Rattle.day.proofs.Inputs.{buffers-print-one-page}
@@ -94,7 +94,7 @@ demand-1 =
       keeps = refusals-change-nothing;
       finishing = finish-keeps-session;
       memory = (only-trailers-remember, trailers-remember, abandon-keeps-memory);
-      remembered = (pair-is-remembered, others-stay, no-room-changes-nothing);
+      remembered = (pair-is-remembered, others-stay, no-room-changes-nothing, memory-stays-sound);
       running = run-is-its-takes;
     }
 
@@ -152,14 +152,10 @@ demand-2 =
         written-is-accepted,
         trailer-shows-the-figures,
       );
-      numbers = (last-number-is-remembered, numbers-follow, file-twice-is-refused);
-      following = (
-        pair-accepted,
-        next-is-shown,
-        no-number-follows-itself,
-        one-follows-the-last,
-        pairs-are-their-places,
-      );
+      numbers = (last-number-is-remembered, pairs-in-order, numbers-follow);
+      again = (file-again-is-refused, file-twice-is-refused);
+      following = (headers-ask-the-memory, pair-accepted, pairs-are-their-places);
+      next = (next-is-shown, no-number-follows-itself, one-follows-the-last);
       bytesRun = (pieces-are-the-records, file-bytes-run, closed-file-bytes-run);
       fed = (run-leaves-few, feeding-is-one-run);
       answers = (session-agrees, answers-are-the-ledgers, next-answer-is-the-ledgers, run-is-the-ledgers);

@@ -26,7 +26,7 @@ use Rattle.file.specs.Files.{OneRightTrailer}
 use Rattle.file.specs.Forms.{LineEndIsCrAndLf, FittingIsInForm}
 use Rattle.board.specs.Lanes.{PastThirtyTwoBits}
 use Rattle.pairs.specs.Pairs.{NextIsShown, NoNumberFollowsItself, OneFollowsTheLast}
-use Rattle.pairs.specs.Pairs.{PairAccepted, PairIsRemembered, OthersStay, NoRoomChangesNothing}
+use Rattle.pairs.specs.Pairs.{PairAccepted, PairIsRemembered, OthersStay, NoRoomChangesNothing, MemoryStaysSound}
 use Rattle.writer.specs.Promises.{FieldsWriteTheHeader, FieldsWriteThePayment, FieldsWriteTheTrailer}
 use Rattle.writer.specs.Promises.{WrittenAmountsAreRead, WrittenIsAccepted, TrailerShowsTheFigures}
 use Rattle.writer.specs.Promises.{PaymentsWrittenUnderAVersion}
@@ -52,10 +52,11 @@ use Rattle.session.specs.Runs.{RunIsItsTakes, WrongListTakesNothing, RunLeavesF
 use Rattle.ledger.specs.Forms.{FormsAgree, OnlyEndedRecords}
 use Rattle.ledger.specs.Runs.{RunIsTheLedgers, FileBytesRun, PiecesAreTheRecords}
 use Rattle.ledger.specs.Calls.{CallsAgree, RepliesAreTheLedgers, CallsAreSteps}
-use Rattle.ledger.specs.WholeFiles.{LedgerFilesAreWhole}
+use Rattle.ledger.specs.WholeFiles.{LedgerFilesAreWhole, HeadersAskTheMemory}
 use Rattle.ledger.specs.WholeFiles.{FileAccepted, FilePosted, AcceptedFileIsWhole}
 use Rattle.ledger.specs.WholeFiles.{FreshSessionAccepts, FreshSessionShows}
-use Rattle.ledger.specs.Numbers.{LastNumberIsRemembered, NumbersFollow, FileTwiceIsRefused}
+use Rattle.ledger.specs.Numbers.{LastNumberIsRemembered, PairsInOrder, NumbersFollow}
+use Rattle.ledger.specs.Numbers.{FileAgainIsRefused, FileTwiceIsRefused}
 use Rattle.ledger.specs.WrittenFiles.{ClosedFileIsWhole, ClosedFileIsAccepted, ClosedFileBytesRun, FieldsWriteTheFile}
 use Rattle.day.specs.Inputs.{BuffersPrintOnePage}
 use Rattle.day.specs.Samples.{WorkedInput, OpenInput, LinedInput, TwiceInput, RefusedInput}
@@ -94,7 +95,7 @@ pub record Demand1 : Type 2 where
   -- the memory of sequence numbers is in the session: besides, of any session only an accepted Z changes it, by the
   -- number of the file that it closes, and abandoning leaves it
   pub memory : OnlyTrailersRemember × TrailersRemember × AbandonKeepsMemory
-  pub remembered : PairIsRemembered × OthersStay × NoRoomChangesNothing
+  pub remembered : PairIsRemembered × OthersStay × NoRoomChangesNothing × MemoryStaysSound
   -- after a run of many records they are what the accepted records before the refusal left
   pub running : RunIsItsTakes
 
@@ -134,8 +135,11 @@ pub record Demand2 : Type 0 where
       ClosedFileIsWhole × ClosedFileIsAccepted × CallsMakeOneFile × WrittenIsAccepted × TrailerShowsTheFigures
   -- and no file twice: what is remembered of a bank and an agreement is the number of their latest accepted file, the
   -- numbers of their files follow each other, and an accepted file is refused when it comes again,
-  pub numbers : LastNumberIsRemembered × NumbersFollow × FileTwiceIsRefused
-  pub following : PairAccepted × NextIsShown × NoNumberFollowsItself × OneFollowsTheLast × PairsAreTheirPlaces
+  pub numbers : LastNumberIsRemembered × PairsInOrder × NumbersFollow
+  pub again : FileAgainIsRefused × FileTwiceIsRefused
+  -- in any session, since an A is answered by its memory, exactly as its number follows there,
+  pub following : HeadersAskTheMemory × PairAccepted × PairsAreTheirPlaces
+  pub next : NextIsShown × NoNumberFollowsItself × OneFollowsTheLast
   -- also as bytes, run at once or in parts,
   pub bytesRun : PiecesAreTheRecords × FileBytesRun × ClosedFileBytesRun
   pub fed : RunLeavesFew × FeedingIsOneRun

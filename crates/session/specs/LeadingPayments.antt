@@ -21,7 +21,8 @@ use Rattle.session.specs.declared.leading.LeadingPayments.{LeadingPaymen
 use Rattle.session.specs.Sessions.{sessionWorking, laneOfPayment}
 use Rattle.session.specs.Runs.{leastLeft, addCounts, runUnder}
 
--- the bytes that must be left for one more record of an open file of this form: a record's, or 152 if more are to follow
+-- the bytes that must be left for one more record of an open file of this form: a record's, or 152 if more are to
+-- follow
 abbrev pub recordNeeds : Bool → Bool → ℕ
 recordNeeds lined more = cond more linedLength (lengthOf lined)
 

@@ -16,14 +16,14 @@ Inv-loop pair self end i₀ i =
 abbrev μ-loop : tie.MeasureT-loop
 μ-loop pair self end i₀ i = end - i
 
-in-use-requires : tie.Need-in-use-requires Inv-loop μ-loop
-in-use-requires c κs = search needs
+pairs-in-use-requires : tie.Need-pairs-in-use-requires Inv-loop μ-loop
+pairs-in-use-requires c κs = search needs
 
 loop-holds : tie.Need-loop-holds Inv-loop μ-loop
 loop-holds c =
     let a = c .before .args in
     let full = sym (length-map (a .t1 .pairs) _) ∙ c .before .good .0 .1 .1 .0 .1 .0 .1 in
-    (full, c .in-use .ensures, search-starts (a .t1) full (a .pair))
+    (full, c .pairs-in-use .ensures, search-starts (a .t1) full (a .pair))
 
 mul-known : tie.Need-mul-known Inv-loop μ-loop
 mul-known c = search needs
@@ -68,7 +68,7 @@ pair-index-spec =
     (tie.spec
     Inv-loop
     μ-loop
-    in-use-requires
+    pairs-in-use-requires
     loop-holds
     mul-known
     element-copy-out-known
