@@ -11,6 +11,7 @@ use Rattle.answer.specs.declared.Reason.the-variants.{WrongLength, NotExpected}
 use Rattle.answer.specs.declared.Answer.{Answer}
 use Rattle.answer.specs.declared.Answer.the-variants.{Accepted, Refused}
 use Rattle.answer.specs.Orders.{require, _then_}
+use Rattle.answer.proofs.Orders.{then-groups}
 use Rattle.file.specs.declared.File.{File}
 use Rattle.file.specs.declared.FileResult.{FileResult}
 use Rattle.file.specs.Files.{fileResultOf, fileAnswer, fileWith}
@@ -24,7 +25,7 @@ use Rattle.record.specs.declared.Decoded.{Decoded}
 use Rattle.record.specs.Values.{decodedRecordUnder}
 use Rattle.session.specs.declared.Session.{Session}
 use Rattle.session.specs.declared.TakeResult.{TakeResult}
-use Rattle.session.specs.Sessions.{sessionTerms, sessionExpects, sessionAnswer, sessionWith, takeResult, recordResult, takeUnder}
+use Rattle.session.specs.Sessions.{sessionTerms, sessionExpects, payAnswer, sessionAnswer, sessionWith, takeResult, recordResult, takeUnder}
 
 -- an answer passed on, with the old session or with the next
 pub took-refused : {a b : Answer} {why : Reason} {p : ℕ} (new old : Session) → a ≡ b → a ≡ Refused why p
@@ -45,11 +46,6 @@ pub took-go : {t : Bool} {r : TakeResult} (why : Reason) (p : ℕ) (next : Answe
     → r ≡ takeResult (require t why p then next) new old
 took-go why p next new old e f = rw e f
 
--- the file accepted: the board's answer is left
-pub took-then : {a b : Answer} {r : TakeResult} (next : Answer) (new old : Session) → a ≡ b → a ≡ Accepted
-    → r ≡ takeResult next new old → r ≡ takeResult (b then next) new old
-took-then {a} {b} next new old e f h = let g : b ≡ Accepted = cc in rw g h
-
 -- the board after an accepted posting, and the file after an accepted payment
 pub posted-board : {r : PostResult} (b : Board) (p : Lane) → r ≡ postResultOf b p → r .answer ≡ Accepted
     → r .board ≡ boardWith b p
@@ -62,6 +58,17 @@ pub taken-file : {r : FileResult} (f : File) (x : ℕ) → r ≡ fileResultOf f 
 taken-file {r} f x e h =
     let g : fileAnswer f x ≡ Accepted = sym (ap (λ (t : FileResult). t .answer) e) ∙ h in
     ap (λ (t : FileResult). t .file) e ∙ rw g
+
+-- the answer to a payment: the file's, the board's, and that to what follows
+pub payment-answer : (s : Session) (p : Lane) (ending : Answer) {t : FileResult} {q : PostResult} {behind a : Answer}
+    → t ≡ fileResultOf (s .file) (p .tally .centavos) → q ≡ postResultOf (s .work) p
+    → behind ≡ q .answer then ending → a ≡ t .answer then behind → a ≡ payAnswer s p then ending
+payment-answer s p ending e f g h =
+    let file = fileAnswer (s .file) (p .tally .centavos) in
+    let posting = postAnswer (s .work) p in
+    h
+    ∙ ap₂ (λ (x y : Answer). x then y) (ap (λ (t : FileResult). t .answer) e) (g ∙ ap (λ (q : PostResult). q .answer then ending) f)
+    ∙ sym (then-groups file posting ending)
 
 -- a record by what it was decoded as
 pub decoded-as : (agreed : List ℕ) (s : Session) (ended : Bool) (ending : Answer) (rec : List ℕ) {e d : Decoded} {r : TakeResult}

@@ -107,13 +107,9 @@ figuresIn t = record { count = t .count; total = t .total }
 abbrev pub payAnswer : Session → Lane → Answer
 payAnswer s p = fileAnswer (s .file) (p .tally .centavos) then postAnswer (s .work) p
 
--- the session with a payment on its working board, and with this file
-abbrev pub sessionWithPosted : Session → Lane → File → Session
-sessionWithPosted s p file = sessionWorking s (boardWith (s .work) p) file
-
 -- the session with a payment on its working board and in its file
 abbrev pub sessionWithPayment : Session → Lane → Session
-sessionWithPayment s p = sessionWithPosted s p (fileWith (s .file) (p .tally .centavos))
+sessionWithPayment s p = sessionWorking s (boardWith (s .work) p) (fileWith (s .file) (p .tally .centavos))
 
 -- the session whose file is closed: its payments are shown together, and its number is remembered, if there is room
 abbrev pub sessionClosed : Session → Session
@@ -140,9 +136,6 @@ abbrev pub takeResult : Answer → Session → Session → TakeResult
 takeResult a new old = record { answer = a; session = ifAccepted a new old }
 
 -- the results of the parts of `take`, each with the answer to what follows the record behind its own
-abbrev pub postingResult : Session → Lane → File → Answer → TakeResult
-postingResult s p file ending = takeResult (postAnswer (s .work) p then ending) (sessionWithPosted s p file) s
-
 abbrev pub paymentResult : Session → Lane → Answer → TakeResult
 paymentResult s p ending = takeResult (payAnswer s p then ending) (sessionWithPayment s p) s
 

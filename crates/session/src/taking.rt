@@ -5,7 +5,7 @@ ghost use Rattle.layout.specs.Layouts.{recordLength};
 ghost use Rattle.record.specs.Values.{decodedRecordUnder};
 ghost use Rattle.board.specs.Lanes.{laneOfOne};
 ghost use Rattle.session.specs.Sessions.{closedAt, freshSession, sessionTerms, sessionExpects, paymentResult};
-ghost use Rattle.session.specs.Sessions.{postingResult, trailerResult, recordResult, takeUnder, takeOf};
+ghost use Rattle.session.specs.Sessions.{trailerResult, recordResult, takeUnder, takeOf};
 ghost use Rattle.session.specs.Sessions.{abandonOf, finishOf};
 use crate::Session;
 use crate::TakeResult;
@@ -60,37 +60,18 @@ impl Session {
     }
 
     // Takes a payment into the open file and onto the working board: 15, 16, 17, 18, the answer to what follows the
-    // record, or the session with it.
-    fn take_payment(self, issuer: Issuer, received: u64, ending: Answer) -> TakeResult
+    // record, or the session with it. The board is asked where the file refuses too: the first refusal counts.
+    fn take_payment(mut self, issuer: Issuer, received: u64, ending: Answer) -> TakeResult
         ensures { λ r. ⌜ r ≡ paymentResult self (laneOfOne issuer received) ending ⌝ }
     {
         let file = self.file;
         let taken = file.take(received);
-        let a = taken.answer;
-        match a {
-            Answer::Refused(_, _) => TakeResult {
-                answer: a,
-                session: self,
-            },
-            Answer::Accepted => self.post_payment(issuer, received, taken.file, ending),
-        }
-    }
-
-    // Posts a payment to the working board: 17, 18, the answer to what follows the record, or the session with it and
-    // with `file`, the file that took it.
-    fn post_payment(
-        mut self,
-        issuer: Issuer,
-        received: u64,
-        file: File,
-        ending: Answer,
-    ) -> TakeResult
-        ensures { λ r. ⌜ r ≡ postingResult self (laneOfOne issuer received) file ending ⌝ }
-    {
+        let taking = taken.answer;
         let work = self.work;
         let posted = work.post(issuer, received);
         let posting = posted.answer;
-        let a = answer::first_refusal(posting, ending);
+        let behind = answer::first_refusal(posting, ending);
+        let a = answer::first_refusal(taking, behind);
         match a {
             Answer::Refused(_, _) => TakeResult {
                 answer: a,
@@ -98,8 +79,9 @@ impl Session {
             },
             Answer::Accepted => {
                 let after = posted.board;
+                let grown = taken.file;
                 self.work = after;
-                self.file = file;
+                self.file = grown;
                 TakeResult {
                     answer: a,
                     session: self,
