@@ -119,20 +119,22 @@ areOfOnePair a b =
     same (fieldBytes (rowAt bankRow) a) (fieldBytes (rowAt bankRow) b)
     && same (fieldBytes (rowAt agreementRow) a) (fieldBytes (rowAt agreementRow) b)
 
--- the number of the last of these headers that is of this one's pair, if one is: those behind a header are asked first
+-- the first of two numbers that is there
 abbrev pub firstOf : Option ℕ → Option ℕ → Option ℕ
 firstOf none o = o
 firstOf (some n) o = some n
 
+-- the number of the last of these headers that is of this one's pair, if one is: those behind a header are asked first
 abbrev pub latestNumber : List ℕ → List (List ℕ) → Option ℕ
 latestNumber a [] = none
 latestNumber a (h ∷ hs) = firstOf (latestNumber a hs) (cond (areOfOnePair h a) (some (numberShown h)) none)
 
--- the headers that are the first of their pair, without the pairs seen before
+-- whether one of these headers is of this one's pair
 abbrev pub isPairSeen : List ℕ → List (List ℕ) → Bool
 isPairSeen a [] = false
 isPairSeen a (h ∷ hs) = cond (areOfOnePair h a) true (isPairSeen a hs)
 
+-- the headers that are the first of their pair, without the pairs seen before
 abbrev pub firstOfPairs : List (List ℕ) → List (List ℕ) → List (List ℕ)
 firstOfPairs seen [] = []
 firstOfPairs seen (h ∷ hs) =

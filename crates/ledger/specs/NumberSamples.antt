@@ -11,6 +11,7 @@ use Rattle.ledger.specs.Samples.{nothing, oneLane, tally, plain, withLin
 abbrev pub emptyFile : List ℕ → List Step
 emptyFile a = plain a ∷ plain (trailer 2 0) ∷ []
 
+-- a header of the samples' pair with this number
 abbrev pub numbered : ℕ → List ℕ
 numbered number = headerOf version04 number
 
@@ -65,11 +66,12 @@ notYet =
           accepted;
     }
 
--- A pair is the bank and the agreement, byte for byte: one agreement of banks 341 and 237 is two pairs, and so is one
--- text at the left and at the right of its field. The header's own fields come first, 26 behind them.
+-- the text PS0001
 abbrev pub ps0001 : List ℕ
 ps0001 = 80 ∷ 83 ∷ 48 ∷ 48 ∷ 48 ∷ 49 ∷ []
 
+-- a pair is the bank and the agreement, byte for byte: one agreement of banks 341 and 237 is two pairs, and so is one
+-- text at the left and at the right of its field. The header's own fields come first, 26 behind them.
 abbrev pub apart : Sample
 apart =
     record {
@@ -82,11 +84,12 @@ apart =
       outcome = nothing (replicate 6 accepted ++ (refused 26 74 ∷ refused 10 80 ∷ [])) accepted;
     }
 
--- 16 pairs, then a 17th, 27 at 3. A remembered one may go on, and its wrong number is still 26.
+-- so many files, each of another bank, from this one on
 abbrev pub manyPairs : ℕ → ℕ → List Step
 manyPairs zero bank = []
 manyPairs (suc left) bank = emptyFile (headerWith (blanks 20) bank 1 version04) ++ manyPairs left (bank + 1)
 
+-- 16 pairs, then a 17th, 27 at 3. A remembered one may go on, and its wrong number is still 26.
 abbrev pub seventeenth : Sample
 seventeenth =
     record {
