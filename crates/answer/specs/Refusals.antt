@@ -43,10 +43,14 @@ abbrev pub answerPlace : Answer → ℕ
 answerPlace Accepted = 0
 answerPlace (Refused why place) = place
 
--- The places of a payment record that refusals 16 to 18 point at: its received centavos, and the issuer in its barcode.
+-- The places of a payment record that refusals 16 to 18 point at: its received centavos, its tariff, and the issuer in
+-- its barcode.
 
 abbrev pub receivedPlace : ℕ
 receivedPlace = 82
+
+abbrev pub tariffPlace : ℕ
+tariffPlace = 94
 
 abbrev pub issuerPlace : ℕ
 issuerPlace = 53

@@ -35,9 +35,11 @@ pub enum Reason {
     PairsFull,
 }
 
-// The places of a payment record, G, that refusals 16 to 18 point at: its received centavos, and the issuer in its
-// barcode.
+// The places of a payment record, G, that refusals 16 to 18 point at: its received centavos, its tariff, and the issuer
+// in its barcode.
 pub const RECEIVED_PLACE: usize = 82;
+
+pub const TARIFF_PLACE: usize = 94;
 
 pub const ISSUER_PLACE: usize = 53;
 

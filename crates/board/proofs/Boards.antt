@@ -1,7 +1,7 @@
 -- Laws of a sound board: what it accepts and answers, and that a fresh one holds its payments grouped by issuer.
 -- Assumes nothing.
 use Prim.Native.Nat.{ℕ, zero, suc, _≤_, _<_}
-use mathlib.Core.Bool.{Bool, true, false, cond, _&&_, and-false, false≢true}
+use mathlib.Core.Bool.{Bool, true, false, cond, _&&_, false≢true}
 use mathlib.Core.List.{List, [], _∷_, _++_}
 use mathlib.Core.Logic.{_↔_, _⊎_, inl, inr, ⊎-elim}
 use mathlib.Core.Path.{_≡_, refl, sym, ap, ap₂, _∙_}
@@ -11,8 +11,9 @@ use borrow.Author.Tests.{lt-ltb, le-leb, ltb-true, ltb-false}
 use lib.Dec.{ltb, leb}
 use lib.ListN.{length, getD, length-set, length-append}
 use lib.Seq.{getD-take}
-use Rattle.answer.specs.Refusals.{receivedPlace, issuerPlace}
+use Rattle.answer.specs.Refusals.{receivedPlace, tariffPlace, issuerPlace}
 use Rattle.answer.specs.declared.Reason.the-variants.{BoardFull, BoardTotalPassed}
+use Rattle.answer.specs.declared.Answer.{Answer}
 use Rattle.answer.specs.declared.Answer.the-variants.{Accepted}
 use Rattle.answer.specs.Orders.{require, _then_}
 use Rattle.answer.proofs.Orders.{then-accepts}
@@ -20,51 +21,53 @@ use Rattle.barcode.specs.declared.Issuer.{Issuer}
 use Rattle.board.specs.declared.Tally.{Tally}
 use Rattle.board.specs.declared.Lane.{Lane}
 use Rattle.board.specs.declared.Board.{Board}
-use Rattle.board.proofs.Tallies.{low, low-fits, plus-swap, plus-groups, plus-none}
+use Rattle.board.proofs.Tallies.{AtMost, at-most-sum, payments-fit-less, tariff-fits-less, fits-less, plus-swap, plus-groups, plus-none}
 use Rattle.board.proofs.Searches.{index-within}
 use Rattle.board.proofs.Lanes.{placed-kept, sum-is-kept, one-payment-more}
 use Rattle.board.proofs.Posting.{placed-found, placed-new, length-lanes, Fit, fit, with-placed, with-sound, stays-sound}
-use Rattle.board.specs.Lanes.{mostLanes, emptyTally, plus, fits, isLaneOf, grownLane, placed, placedAll, lanesFrom, tallySum, issuersOf, isAmong}
-use Rattle.board.specs.Boards.{blank, freshBoard, lanesOf, indexOf, slotOf, ownOf, slotAnswer, postAnswer, boardWith, postAnswers, boardWithAll, SoundBoard, AnswersAsPayments, PostAccepts, FreshBoardTakes, FreshBoardHolds}
+use Rattle.board.specs.Lanes.{mostLanes, emptyTally, plus, paymentsFit, tariffFits, fits, isLaneOf, grownLane, placed, placedAll, lanesFrom, tallySum, issuersOf, isAmong}
+use Rattle.board.specs.Boards.{blank, freshBoard, lanesOf, indexOf, slotOf, ownOf, sumsAnswer, slotAnswer, postAnswer, boardWith, postAnswers, boardWithAll, SoundBoard, AnswersAsPayments, PostAccepts, FreshBoardTakes, FreshBoardHolds}
 
 -- What a sound board accepts.
 
 -- a lane has no more than the sum
-lane-below : (ls : List Lane) (k : ℕ) → k < length ls
-    → (getD ls k blank .tally .payments ≤ tallySum ls .payments)
-    × (getD ls k blank .tally .centavos ≤ tallySum ls .centavos)
+lane-below : (ls : List Lane) (k : ℕ) → k < length ls → AtMost (getD ls k blank .tally) (tallySum ls)
 lane-below [] k h = absurd (omega arith)
-lane-below (l ∷ ls) zero h = (omega arith, omega arith)
+lane-below (l ∷ ls) zero h = at-most-sum (l .tally) (tallySum ls)
 lane-below (l ∷ ls) (suc k) h =
     let r = lane-below ls k (omega arith) in
-    (omega arith, omega arith)
+    record {
+      payments = omega (arith, r .payments);
+      centavos = omega (arith, r .centavos);
+      tariff = omega (arith, r .tariff);
+    }
 
--- if the total fits, the lane fits
-own-fits : (b : Board) (p : Lane) → SoundBoard b → (k : ℕ) → k ≤ length (lanesOf b)
-    → fits (plus (b .total) (p .tally)) ≡ true
+-- with a payment, the lane that it is added to has no more than the total
+own-below : (b : Board) (p : Lane) → SoundBoard b → (k : ℕ) → k ≤ length (lanesOf b)
     → (t : Bool) → ltb k (b .used) ≡ t
-    → fits (plus (cond t (getD (b .lanes) k blank .tally) emptyTally) (p .tally)) ≡ true
-own-fits b p s k h e true t =
-    let f = low (plus (b .total) (p .tally)) e in
+    → AtMost (plus (cond t (getD (b .lanes) k blank .tally) emptyTally) (p .tally)) (plus (b .total) (p .tally))
+own-below b p s k h true t =
     let m : k < b .used = ltb-true k (b .used) t in
     let r =
     rw (getD-take (b .used) (b .lanes) k blank m, ← s .total) at
     (lane-below (lanesOf b) k (omega (arith, length-lanes b s))) in
-    low-fits _ (record { payments = omega (arith, f .payments, r .0); centavos = omega (arith, f .centavos, r .1) })
-own-fits b p s k h e false t =
-    let f = low (plus (b .total) (p .tally)) e in
-    low-fits _ (record { payments = omega (arith, f .payments); centavos = omega (arith, f .centavos) })
+    record {
+      payments = omega (arith, r .payments);
+      centavos = omega (arith, r .centavos);
+      tariff = omega (arith, r .tariff);
+    }
+own-below b p s k h false t = record { payments = omega arith; centavos = omega arith; tariff = omega arith }
+
+grown-below : (b : Board) (p : Lane) → SoundBoard b
+    → AtMost (plus (ownOf (slotOf b (p .issuer))) (p .tally)) (plus (b .total) (p .tally))
+unfolding ownOf
+grown-below b p s =
+    let at = indexOf (p .issuer) (lanesOf b) in
+    own-below b p s at (index-within (p .issuer) (lanesOf b)) (ltb at (b .used)) refl
 
 pub sound-fit : (b : Board) (p : Lane) → SoundBoard b → indexOf (p .issuer) (lanesOf b) < mostLanes
     → fits (plus (b .total) (p .tally)) ≡ true → Fit b p
-unfolding ownOf
-sound-fit b p s free e =
-    record {
-      free = free;
-      own =
-          own-fits b p s (indexOf (p .issuer) (lanesOf b)) (index-within (p .issuer) (lanesOf b)) e (ltb (indexOf (p .issuer) (lanesOf b)) (b .used)) refl;
-      low = e;
-    }
+sound-fit b p s free e = record { free = free; own = fits-less (grown-below b p s) e; low = e }
 
 -- an issuer is among the lanes exactly if its index is below their number
 known : (i : Issuer) (ls : List Lane) (t : Bool) → isAmong i (issuersOf ls) ≡ t
@@ -113,32 +116,31 @@ free-lane p ls few = go (ltb (indexOf (p .issuer) ls) (length ls)) refl
         let last : indexOf (p .issuer) ls ≡ length ls = omega (arith, index-within (p .issuer) ls) in
         rw (last, ← placed-new p ls h, length-append ls (p ∷ []), add-one (length ls))
 
--- of a sound board the lane's own sums fit if the total does
-own-follows : (b : Board) (p : Lane) → SoundBoard b
-    → (fits (plus (ownOf (slotOf b (p .issuer))) (p .tally)) && fits (plus (b .total) (p .tally)))
-    ≡ fits (plus (b .total) (p .tally))
-unfolding ownOf
-own-follows b p s = go (fits (plus (b .total) (p .tally))) refl
-  where
-    at : ℕ
-    at = indexOf (p .issuer) (lanesOf b)
-
-    go : (t : Bool) → fits (plus (b .total) (p .tally)) ≡ t
-        → (fits (plus (cond (ltb at (b .used)) (getD (b .lanes) at blank .tally) emptyTally) (p .tally)) && t) ≡ t
-    go true e = rw (own-fits b p s at (index-within (p .issuer) (lanesOf b)) e (ltb at (b .used)) refl)
-    go false e =
-        and-false (fits (plus (cond (ltb at (b .used)) (getD (b .lanes) at blank .tally) emptyTally) (p .tally)))
+-- the first of two tests need not be asked where it follows from the second
+need-not-ask : (t u : Bool) → (u ≡ true → t ≡ true) → (t && u) ≡ u
+need-not-ask true u h = refl
+need-not-ask false true h = h refl
+need-not-ask false false h = refl
 
 pub answers-as-payments : AnswersAsPayments
-unfolding slotAnswer
+unfolding slotAnswer sumsAnswer
 answers-as-payments b ps p s e =
     let after : placed p (lanesOf b) ≡ lanesFrom (ps ++ (p ∷ [])) = ap (placed p) e ∙ sym (one-payment-more ps p) in
     let sum : plus (b .total) (p .tally) ≡ tallySum (ps ++ (p ∷ [])) =
     plus-swap (b .total) (p .tally) ∙ ap (plus (p .tally)) (s .total) ∙ sym (placed-kept p (lanesOf b))
     ∙ ap tallySum after ∙ sum-is-kept (ps ++ (p ∷ [])) in
-    ap₂ (λ (t u : Bool). require t BoardFull issuerPlace then require u BoardTotalPassed receivedPlace)
-    (free-lane p (lanesOf b) (omega (arith, length-lanes b s, s .few)) ∙ ap (λ (ls : List Lane). leb (length ls) mostLanes) after)
-    (own-follows b p s ∙ ap fits sum)
+    let own = grown-below b p s in
+    let lane = plus (ownOf (slotOf b (p .issuer))) (p .tally) in
+    let total = plus (b .total) (p .tally) in
+    let free =
+    free-lane p (lanesOf b) (omega (arith, length-lanes b s, s .few))
+    ∙ ap (λ (ls : List Lane). leb (length ls) mostLanes) after in
+    let payments = need-not-ask (paymentsFit lane) (paymentsFit total) (payments-fit-less own) ∙ ap paymentsFit sum in
+    let tariffs = need-not-ask (tariffFits lane) (tariffFits total) (tariff-fits-less own) ∙ ap tariffFits sum in
+    ap₂ (λ (t : Bool) (a : Answer). require t BoardFull issuerPlace then a) free
+    (ap₂
+    (λ (t u : Bool). require t BoardTotalPassed receivedPlace then require u BoardTotalPassed tariffPlace)
+    payments tariffs)
 
 -- A fresh board and any payments.
 
@@ -158,12 +160,6 @@ placed-all-longer : (ls ps : List Lane) → length ls ≤ length (placedAll ls p
 placed-all-longer ls [] = omega arith
 placed-all-longer ls (p ∷ ps) = omega (arith, placed-longer p ls .1, placed-all-longer (placed p ls) ps)
 
--- what fits with more fits alone
-fits-less : (a b : Tally) → fits (plus a b) ≡ true → fits a ≡ true
-fits-less a b e =
-    let f = low (plus a b) e in
-    low-fits a (record { payments = omega (arith, f .payments); centavos = omega (arith, f .centavos) })
-
 takes : (b : Board) → SoundBoard b → (ps : List Lane)
     → (postAnswers b ps ≡ Accepted)
     ↔ ((length (placedAll (lanesOf b) ps) ≤ mostLanes) × (fits (plus (b .total) (tallySum ps)) ≡ true))
@@ -176,7 +172,7 @@ takes b s (p ∷ ps) =
       λ e. rest (fit b p .0 (two .0 e .0)) .0 (two .0 e .1),
       λ h.
           let sum =
-          fits-less (plus (b .total) (p .tally)) (tallySum ps)
+          fits-less (at-most-sum (plus (b .total) (p .tally)) (tallySum ps))
           (rw (plus-groups (b .total) (p .tally) (tallySum ps)) (h .1)) in
           let free : indexOf (p .issuer) (lanesOf b) < mostLanes =
           omega (arith, placed-longer p (lanesOf b) .0, placed-all-longer (placed p (lanesOf b)) ps, h .0) in

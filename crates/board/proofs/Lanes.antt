@@ -1,22 +1,26 @@
 -- Laws of payments grouped into lanes: the sums, the issuers, their order. Assumes nothing.
-use Prim.Native.Nat.{ℕ, _+_}
+use Prim.Native.Nat.{ℕ, zero, suc, _+_, _*_}
 use mathlib.Core.Bool.{Bool, true, false, cond, _&&_, and-eq-true-iff, false≢true}
 use mathlib.Core.List.{List, [], _∷_, _++_, append-assoc, append-nil}
 use mathlib.Core.Path.{_≡_, refl, sym, ap, ap₂, _∙_}
 use native.Mathlib.Omega.{arith}
 use borrow.Author.Tests.{eqb-true, eq-eqb}
 use lib.Dec.{eqb}
+use lib.ListN.{replicate}
 use Rattle.answer.proofs.Tests.{split, eqb-sym}
 use Rattle.barcode.specs.declared.Issuer.{Issuer}
 use Rattle.board.specs.declared.Tally.{Tally}
 use Rattle.board.specs.declared.Lane.{Lane}
 use Rattle.board.proofs.Tallies.{alike}
-use Rattle.board.specs.Lanes.{plus, emptyTally, sameIssuer, isLaneOf, grownLane, placed, placedAll, lanesFrom, tallySum, sumBy, Adds, each, only, issuersOf, isAmong, appearing, Distinct, PaymentsAdd, CentavosAdd, SumsAgree, OwnSumsAgree, SumIsKept, PastThirtyTwoBits, NoIssuerTwice, InOrderOfAppearance, OnePaymentMore}
+use Rattle.board.specs.Lanes.{plus, emptyTally, sameIssuer, isLaneOf, laneOfOne, grownLane, placed, placedAll, lanesFrom, tallySum, sumBy, Adds, each, only, issuersOf, isAmong, appearing, Distinct, PaymentsAdd, CentavosAdd, TariffsAdd, SumsAgree, OwnSumsAgree, SumIsKept, PastThirtyTwoBits, NoIssuerTwice, InOrderOfAppearance, OnePaymentMore}
 
 -- Issuers.
 
 same-sym : (i j : Issuer) → sameIssuer i j ≡ sameIssuer j i
 same-sym i j = ap₂ _&&_ (eqb-sym (i .segment) (j .segment)) (eqb-sym (i .number) (j .number))
+
+same-refl : (i : Issuer) → sameIssuer i i ≡ true
+same-refl i = rw (eq-eqb (i .segment) (i .segment) refl, eq-eqb (i .number) (i .number) refl)
 
 pub same-is : (i j : Issuer) → sameIssuer i j ≡ true → i ≡ j
 same-is i j e =
@@ -45,6 +49,9 @@ payments-add a b = refl
 pub centavos-add : CentavosAdd
 centavos-add a b = refl
 
+pub tariffs-add : TariffsAdd
+tariffs-add a b = refl
+
 pub sums-agree : SumsAgree
 sums-agree w adds ps = placed-all-sum (each w) (λ l p t. adds (l .tally) (p .tally)) [] ps ∙ omega arith
 
@@ -70,7 +77,9 @@ sum-read w adds (l ∷ ls) = omega (arith, adds (l .tally) (tallySum ls), sum-re
 -- two sums are equal if each of their numbers is
 same-sum : (ls ms : List Lane) → ((w : Tally → ℕ) → Adds w → sumBy (each w) ls ≡ sumBy (each w) ms)
     → tallySum ls ≡ tallySum ms
-same-sum ls ms h = alike (number (λ t. t .payments) payments-add) (number (λ t. t .centavos) centavos-add)
+same-sum ls ms h =
+    alike (number (λ t. t .payments) payments-add) (number (λ t. t .centavos) centavos-add)
+    (number (λ t. t .tariff) tariffs-add)
   where
     number : (w : Tally → ℕ) → Adds w → w (tallySum ls) ≡ w (tallySum ms)
     number w adds = sum-read w adds ls ∙ h w adds ∙ sym (sum-read w adds ms)
@@ -83,8 +92,23 @@ placed-kept p ls =
 pub sum-is-kept : SumIsKept
 sum-is-kept ps = same-sum (lanesFrom ps) ps (λ w adds. sums-agree w adds ps)
 
+-- one issuer's payments of 1 centavo, each with the largest tariff, behind its lane
+all-added : (i : Issuer) (n : ℕ) (t : Tally)
+    → placedAll (record { issuer = i; tally = t } ∷ []) (replicate n (laneOfOne i 1 9_999_999))
+    ≡ record { issuer = i; tally = record { payments = t .payments + n; centavos = t .centavos + n; tariff = t .tariff + n * 9_999_999 } } ∷ []
+all-added i zero t =
+    ap (λ (u : Tally). record { issuer = i; tally = u } ∷ []) (alike (omega arith) (omega arith) (omega arith))
+all-added i (suc n) t =
+    let one = laneOfOne i 1 9_999_999 in
+    rw (placedAll, placed, same-refl i)
+    (all-added i n (plus t (one .tally))
+    ∙ ap (λ (u : Tally). record { issuer = i; tally = u } ∷ []) (alike (omega arith) (omega arith) (omega arith)))
+
 pub past-thirty-two-bits : PastThirtyTwoBits
-past-thirty-two-bits i = rw (eq-eqb (i .segment) (i .segment) refl, eq-eqb (i .number) (i .number) refl)
+past-thirty-two-bits i = (
+  rw (same-refl i),
+  all-added i 429 (laneOfOne i 1 9_999_999 .tally),
+)
 
 -- The issuers.
 

@@ -1,6 +1,6 @@
 -- Laws of one payment: if accepted it is added to its lane, and the board stays sound. Assumes nothing.
 use Prim.Native.Nat.{ℕ, suc, _+_, _≤_, _<_}
-use mathlib.Core.Bool.{Bool, true, false, cond, _&&_, and-eq-true-iff}
+use mathlib.Core.Bool.{Bool, true, false, cond, _&&_, and-eq-true-iff, false≢true}
 use mathlib.Core.List.{List, [], _∷_, _++_}
 use mathlib.Core.Logic.{_↔_}
 use mathlib.Core.Path.{_≡_, refl, sym, ap, _∙_}
@@ -10,20 +10,21 @@ use borrow.Author.Tests.{lt-ltb, ltb-true, ltb-false}
 use lib.Dec.{ltb}
 use lib.ListN.{length, getD, set, take, length-set, length-replicate}
 use lib.Seq.{getD-take, take-set-lt, take-suc-set, length-take-le}
-use Rattle.answer.specs.Refusals.{receivedPlace, issuerPlace}
+use Rattle.answer.specs.Refusals.{answerPlace, receivedPlace, tariffPlace, issuerPlace}
 use Rattle.answer.specs.declared.Reason.the-variants.{BoardFull, BoardTotalPassed}
 use Rattle.answer.specs.declared.Answer.{Answer}
 use Rattle.answer.specs.declared.Answer.the-variants.{Accepted, Refused}
-use Rattle.answer.specs.Orders.{require, ifAccepted}
+use Rattle.answer.specs.Orders.{require, _then_, ifAccepted}
 use Rattle.answer.proofs.Orders.{require-accepts, then-accepts, refusal-keeps}
 use Rattle.board.specs.declared.Tally.{Tally}
 use Rattle.board.specs.declared.Lane.{Lane}
 use Rattle.board.specs.declared.Board.{Board}
 use Rattle.board.proofs.Tallies.{low, low-fits, alike, plus-swap}
+use Rattle.board.proofs.Slots.{sums-accept}
 use Rattle.board.proofs.Searches.{index-within}
 use Rattle.board.proofs.Lanes.{placed-distinct, placed-kept}
-use Rattle.board.specs.Lanes.{mostLanes, emptyTally, plus, fits, isLaneOf, grownLane, placed, tallySum}
-use Rattle.board.specs.Boards.{blank, lanesOf, indexOf, slotOf, ownOf, usedAfter, grownSlot, slotAnswer, postAnswer, boardWith, SoundBoard, RefusalKeepsBoard, PostPlaces, StaysSound}
+use Rattle.board.specs.Lanes.{mostLanes, emptyTally, plus, paymentsFit, tariffFits, fits, isLaneOf, grownLane, placed, tallySum}
+use Rattle.board.specs.Boards.{blank, lanesOf, indexOf, slotOf, ownOf, usedAfter, grownSlot, sumsAnswer, slotAnswer, postAnswer, boardWith, SoundBoard, RefusalKeepsBoard, PostPlaces, StaysSound, TariffsPassLast}
 
 pub refusal-keeps-board : RefusalKeepsBoard
 refusal-keeps-board b p h = refusal-keeps (postAnswer b p) (boardWith b p) b h
@@ -31,7 +32,7 @@ refusal-keeps-board b p h = refusal-keeps (postAnswer b p) (boardWith b p) b h
 -- the lane of a first payment
 first-grown : (p : Lane) → grownLane emptyTally p ≡ p
 first-grown p =
-    ap {B = Lane} (λ (t : Tally). record { issuer = p .issuer; tally = t }) (alike (omega arith) (omega arith))
+    ap {B = Lane} (λ (t : Tally). record { issuer = p .issuer; tally = t }) (alike (omega arith) (omega arith) (omega arith))
 
 -- storing the lane that was found, or a new lane if none was, is `placed`
 module _ (p : Lane) where
@@ -73,17 +74,37 @@ pub fit : (b : Board) (p : Lane) → (postAnswer b p ≡ Accepted) ↔ Fit b p
 unfolding slotAnswer
 fit b p =
     let s = slotOf b (p .issuer) in
-    let one = require (ltb (s .at) mostLanes) BoardFull issuerPlace in
-    let sums = fits (grownSlot s p .lane .tally) && fits (grownSlot s p .total) in
-    let two = then-accepts one (require sums BoardTotalPassed receivedPlace) in
+    let lane = grownSlot s p .lane .tally in
+    let total = grownSlot s p .total in
+    let two = then-accepts (require (ltb (s .at) mostLanes) BoardFull issuerPlace) (sumsAnswer lane total) in
     let first = require-accepts (ltb (s .at) mostLanes) BoardFull issuerPlace in
-    let second = require-accepts sums BoardTotalPassed receivedPlace in
-    let both = and-eq-true-iff (fits (grownSlot s p .lane .tally)) (fits (grownSlot s p .total)) in (
+    let sums = sums-accept lane total in (
       λ e.
-          let h = both .0 (second .0 (two .0 e .1)) in
+          let h = sums .0 (two .0 e .1) in
           record { free = ltb-true _ _ (first .0 (two .0 e .0)); own = h .0; low = h .1 },
-      λ f. two .1 (first .1 (lt-ltb _ _ (f .free)), second .1 (both .1 (f .own, f .low))),
+      λ f. two .1 (first .1 (lt-ltb _ _ (f .free)), sums .1 (f .own, f .low)),
     )
+
+pub tariffs-pass-last : TariffsPassLast
+unfolding slotAnswer sumsAnswer
+tariffs-pass-last b p =
+    let s = slotOf b (p .issuer) in
+    let lane = grownSlot s p .lane .tally in
+    let total = grownSlot s p .total in
+    let last = go (ltb (s .at) mostLanes) (paymentsFit lane && paymentsFit total) (tariffFits lane && tariffFits total) in
+    let both = and-eq-true-iff (paymentsFit lane) (paymentsFit total) in (
+      λ e. let h = last .0 e in let older = both .0 (h .1) in (ltb-true _ _ (h .0), older .0, older .1, h .2),
+      λ h. last .1 (lt-ltb _ _ (h .0), both .1 (h .1, h .2), h .3),
+    )
+  where
+    go : (t u v : Bool)
+        → ((require t BoardFull issuerPlace then require u BoardTotalPassed receivedPlace then require v BoardTotalPassed tariffPlace)
+        ≡ Refused BoardTotalPassed tariffPlace)
+        ↔ ((t ≡ true) × (u ≡ true) × (v ≡ false))
+    go true true false = (λ e. (refl, refl, refl), λ h. refl)
+    go true true true = (λ e. absurd (omega (arith, ap answerPlace e)), λ h. absurd (false≢true (sym (h .2))))
+    go true false v = (λ e. absurd (omega (arith, ap answerPlace e)), λ h. absurd (false≢true (h .1)))
+    go false u v = (λ e. absurd (omega (arith, ap answerPlace e)), λ h. absurd (false≢true (h .0)))
 
 -- at index k: the issuer's lane or the first free one
 module _ (b : Board) (p : Lane) (s : SoundBoard b) (k : ℕ) (is : k ≡ indexOf (p .issuer) (lanesOf b))
@@ -136,7 +157,7 @@ post-places b p s e = with-placed b p s (fit b p .0 e .free)
 
 pub stays-sound : StaysSound
 stays-sound = (
-  record { full = length-replicate mostLanes blank; few = omega arith; once = tt; total = refl; low = low-fits emptyTally (record { payments = omega arith; centavos = omega arith }) },
+  record { full = length-replicate mostLanes blank; few = omega arith; once = tt; total = refl; low = low-fits emptyTally (record { payments = omega arith; centavos = omega arith; tariff = omega arith }) },
   λ b p s. go b p s (postAnswer b p) refl,
 )
   where

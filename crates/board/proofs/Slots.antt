@@ -1,51 +1,73 @@
 -- Laws of a slot: its answer in the order of the refusals, and the board that it is put back to. Assumes nothing.
 use Prim.Native.Nat.{ℕ, _<_}
-use mathlib.Core.Bool.{Bool, true, false, _&&_}
+use mathlib.Core.Bool.{Bool, true, _&&_, and-eq-true-iff}
 use mathlib.Core.List.{List}
-use mathlib.Core.Path.{_≡_, refl, sym, ap, _∙_}
+use mathlib.Core.Logic.{_↔_}
+use mathlib.Core.Path.{_≡_, refl, ap, _∙_}
 use borrow.Author.Tests.{lt-ltb}
 use lib.ListN.{set}
 use lib.Seq.{set-getD}
-use Rattle.answer.specs.Refusals.{receivedPlace}
+use Rattle.answer.specs.Refusals.{receivedPlace, tariffPlace}
+use Rattle.answer.specs.declared.Reason.{Reason}
 use Rattle.answer.specs.declared.Reason.the-variants.{BoardTotalPassed}
 use Rattle.answer.specs.declared.Answer.{Answer}
 use Rattle.answer.specs.declared.Answer.the-variants.{Accepted, Refused}
 use Rattle.answer.specs.Orders.{require, ifAccepted}
+use Rattle.answer.proofs.Orders.{require-accepts, then-accepts}
 use Rattle.board.specs.declared.Tally.{Tally}
 use Rattle.board.specs.declared.Lane.{Lane}
 use Rattle.board.specs.declared.Board.{Board}
 use Rattle.board.specs.declared.Slot.{Slot}
 use Rattle.board.specs.declared.SlotResult.{SlotResult}
 use Rattle.board.specs.declared.PostResult.{PostResult}
-use Rattle.board.specs.Lanes.{mostLanes, plus, fits}
-use Rattle.board.specs.Boards.{blank, lanesOf, indexOf, slotAt, withSlot, ownOf, usedAfter, grownSlot, slotAnswer, slotResultOf, postResultOf}
+use Rattle.board.proofs.Tallies.{fits-both}
+use Rattle.board.specs.Lanes.{mostLanes, plus, paymentsFit, tariffFits, fits}
+use Rattle.board.specs.Boards.{blank, lanesOf, indexOf, slotAt, withSlot, ownOf, usedAfter, grownSlot, sumsAnswer, slotAnswer, slotResultOf, postResultOf}
 
--- within the board only the sums are left to check: of the lane with the payment, then of the total
-module _ (s : Slot) (p : Lane) (own : Tally) (free : s .at < mostLanes) (is : own ≡ ownOf s) where
-  sums-left : slotAnswer s p
-      ≡ require (fits (plus own (p .tally)) && fits (plus (s .total) (p .tally))) BoardTotalPassed receivedPlace
+-- sums that are accepted fit, the lane's and the total's, place by place
+pub sums-accept : (lane total : Tally)
+    → (sumsAnswer lane total ≡ Accepted) ↔ ((fits lane ≡ true) × (fits total ≡ true))
+unfolding sumsAnswer
+sums-accept lane total =
+    let older = both-fit (paymentsFit lane) (paymentsFit total) receivedPlace in
+    let tariffs = both-fit (tariffFits lane) (tariffFits total) tariffPlace in
+    let two =
+    then-accepts (require (paymentsFit lane && paymentsFit total) BoardTotalPassed receivedPlace)
+    (require (tariffFits lane && tariffFits total) BoardTotalPassed tariffPlace) in (
+      λ e.
+          let o = older .0 (two .0 e .0) in
+          let t = tariffs .0 (two .0 e .1) in
+          (fits-both lane .1 (o .0, t .0), fits-both total .1 (o .1, t .1)),
+      λ h.
+          let l = fits-both lane .0 (h .0) in
+          let t = fits-both total .0 (h .1) in
+          two .1 (older .1 (l .0, t .0), tariffs .1 (l .1, t .1)),
+    )
+  where
+    both-fit : (t u : Bool) (place : ℕ)
+        → (require (t && u) BoardTotalPassed place ≡ Accepted) ↔ ((t ≡ true) × (u ≡ true))
+    both-fit t u place =
+        let one = require-accepts (t && u) BoardTotalPassed place in
+        let both = and-eq-true-iff t u in
+        (λ e. both .0 (one .0 e), λ h. one .1 (both .1 h))
+
+-- within the board only the sums are left to check
+module _ (s : Slot) (p : Lane) (own : Tally) (free : s .at < mostLanes) (is : own ≡ ownOf s) {a : Answer}
+    (sums : a ≡ sumsAnswer (plus own (p .tally)) (plus (s .total) (p .tally))) where
+  result : record { answer = a; slot = ifAccepted a (grownSlot s p) s } ≡ slotResultOf s p
   unfolding slotAnswer
-  sums-left = rw (lt-ltb (s .at) mostLanes free, is)
+  result =
+      let answers : a ≡ slotAnswer s p = sums ∙ rw (lt-ltb (s .at) mostLanes free, is) in
+      rw answers
 
-  result : (t u : Bool) → fits (plus own (p .tally)) ≡ t → fits (plus (s .total) (p .tally)) ≡ u
-      → (a : Answer) → a ≡ require (t && u) BoardTotalPassed receivedPlace
-      → record { answer = a; slot = ifAccepted a (grownSlot s p) s } ≡ slotResultOf s p
-  result t u e f a g =
-      let h : a ≡ slotAnswer s p = g ∙ sym (sums-left ∙ rw (e, f)) in
-      rw h
+  pub passed : {why : Reason} {place : ℕ} → a ≡ Refused why place → record { answer = a; slot = s } ≡ slotResultOf s p
+  passed e = rw e (rw e at result)
 
-  pub own-passed : fits (plus own (p .tally)) ≡ false
-      → record { answer = Refused BoardTotalPassed receivedPlace; slot = s } ≡ slotResultOf s p
-  own-passed e = result false (fits (plus (s .total) (p .tally))) e refl (Refused BoardTotalPassed receivedPlace) refl
-
-  pub total-passed : fits (plus own (p .tally)) ≡ true → fits (plus (s .total) (p .tally)) ≡ false
-      → record { answer = Refused BoardTotalPassed receivedPlace; slot = s } ≡ slotResultOf s p
-  total-passed e f = result true false e f (Refused BoardTotalPassed receivedPlace) refl
-
-  pub within : {u : ℕ} {t v : Tally} → fits (plus own (p .tally)) ≡ true → fits (plus (s .total) (p .tally)) ≡ true
+  pub within : {u : ℕ} {t v : Tally} → a ≡ Accepted
       → t ≡ plus own (p .tally) → u ≡ usedAfter s → v ≡ plus (s .total) (p .tally)
-      → record { answer = Accepted; slot = record { at = s .at; lane = record { issuer = p .issuer; tally = t }; used = u; total = v } } ≡ slotResultOf s p
-  within e f t u v = rw (t, u, v, is) (result true true e f Accepted refl)
+      → record { answer = a; slot = record { at = s .at; lane = record { issuer = p .issuer; tally = t }; used = u; total = v } }
+      ≡ slotResultOf s p
+  within e t u v = rw (e, t, u, v, is) (rw e at result)
 
 -- the slot after a posting, put back: if the payment is refused, the board is as it was
 pub put-back : (b : Board) (p : Lane) (at : ℕ) (e : SlotResult) → at ≡ indexOf (p .issuer) (lanesOf b)

@@ -1,15 +1,15 @@
 -- The board (SPEC.md, "Board"): the index of an issuer's lane, and what posting one payment leaves. Assumes nothing.
 use Prim.Native.Nat.{ℕ, suc, _+_, _≤_, _<_}
-use mathlib.Core.Bool.{true, cond, _&&_}
+use mathlib.Core.Bool.{true, false, cond, _&&_}
 use mathlib.Core.List.{List, [], _∷_, _++_}
 use mathlib.Core.Logic.{_↔_, _⊎_}
 use mathlib.Core.Path.{_≡_}
 use lib.Dec.{ltb, leb}
 use lib.ListN.{length, getD, set, take, replicate}
-use Rattle.answer.specs.Refusals.{receivedPlace, issuerPlace}
+use Rattle.answer.specs.Refusals.{receivedPlace, tariffPlace, issuerPlace}
 use Rattle.answer.specs.declared.Reason.the-variants.{BoardFull, BoardTotalPassed}
 use Rattle.answer.specs.declared.Answer.{Answer}
-use Rattle.answer.specs.declared.Answer.the-variants.{Accepted}
+use Rattle.answer.specs.declared.Answer.the-variants.{Accepted, Refused}
 use Rattle.answer.specs.Orders.{require, _then_, ifAccepted}
 use Rattle.barcode.specs.declared.Issuer.{Issuer}
 use Rattle.board.specs.declared.Tally.{Tally}
@@ -18,8 +18,8 @@ use Rattle.board.specs.declared.Board.{Board}
 use Rattle.board.specs.declared.Slot.{Slot}
 use Rattle.board.specs.declared.SlotResult.{SlotResult}
 use Rattle.board.specs.declared.PostResult.{PostResult}
-use Rattle.board.specs.Lanes.{mostLanes, emptyTally, plus, fits, isLaneOf, grownLane, placed, lanesFrom}
-use Rattle.board.specs.Lanes.{tallySum, issuersOf, isAmong, Distinct}
+use Rattle.board.specs.Lanes.{mostLanes, emptyTally, plus, paymentsFit, tariffFits, fits, isLaneOf, grownLane}
+use Rattle.board.specs.Lanes.{placed, lanesFrom, tallySum, issuersOf, isAmong, Distinct}
 
 -- the array's entry where no lane is in use
 abbrev pub blank : Lane
@@ -61,11 +61,18 @@ abbrev pub grownSlot : Slot → Lane → Slot
 grownSlot s p =
     record { at = s .at; lane = grownLane (ownOf s) p; used = usedAfter s; total = plus (s .total) (p .tally) }
 
--- 17: a new issuer when all lanes are in use; 18: a number of the lane or of the total that would pass the limit
+-- 18: a number of the lane or of the total would pass the limit; payments or centavos at one place, tariffs behind them
+-- at another
+unfoldable pub sumsAnswer : Tally → Tally → Answer
+sumsAnswer lane total =
+    require (paymentsFit lane && paymentsFit total) BoardTotalPassed receivedPlace
+    then require (tariffFits lane && tariffFits total) BoardTotalPassed tariffPlace
+
+-- 17: a new issuer when all lanes are in use; 18
 unfoldable pub slotAnswer : Slot → Lane → Answer
 slotAnswer s p =
     require (ltb (s .at) mostLanes) BoardFull issuerPlace
-    then require (fits (grownSlot s p .lane .tally) && fits (grownSlot s p .total)) BoardTotalPassed receivedPlace
+    then sumsAnswer (grownSlot s p .lane .tally) (grownSlot s p .total)
 
 abbrev pub slotResultOf : Slot → Lane → SlotResult
 slotResultOf s p = record { answer = slotAnswer s p; slot = ifAccepted (slotAnswer s p) (grownSlot s p) s }
@@ -89,11 +96,13 @@ abbrev pub boardWithAll : Board → List Lane → Board
 boardWithAll b [] = b
 boardWithAll b (p ∷ ps) = boardWithAll (boardWith b p) ps
 
--- the answer to a payment after others, with no board: 17: more issuers than lanes; 18: a sum that would pass the limit
+-- the answer to a payment after others, with no board: 17: more issuers than lanes; 18: a sum that would pass the
+-- limit, of payments or centavos, then of tariffs
 abbrev pub answerAfter : List Lane → Lane → Answer
 answerAfter ps p =
     require (leb (length (lanesFrom (ps ++ (p ∷ [])))) mostLanes) BoardFull issuerPlace
-    then require (fits (tallySum (ps ++ (p ∷ [])))) BoardTotalPassed receivedPlace
+    then require (paymentsFit (tallySum (ps ++ (p ∷ [])))) BoardTotalPassed receivedPlace
+    then require (tariffFits (tallySum (ps ++ (p ∷ [])))) BoardTotalPassed tariffPlace
 
 -- what holds of every board that the methods return from a fresh one
 pub record SoundBoard (b : Board) : Type 0 where
@@ -104,7 +113,8 @@ pub record SoundBoard (b : Board) : Type 0 where
   pub low : fits (b .total) ≡ true
 
 -- Promises, of one payment: a refusal changes nothing, and an accepted payment is added to its lane; a sound board
--- stays sound, and accepts exactly if the issuer has a lane or one is free, and no total passes the limit.
+-- stays sound, and accepts exactly if the issuer has a lane or one is free, and no total passes the limit. Of any board,
+-- 18 points at the tariff exactly if there is a lane and only tariffs pass.
 
 abbrev pub RefusalKeepsBoard : Type 0
 RefusalKeepsBoard = (b : Board) (p : Lane) → (postResultOf b p .answer ≡ Accepted → ⊥) → postResultOf b p .board ≡ b
@@ -122,6 +132,14 @@ PostAccepts =
     → (postAnswer b p ≡ Accepted)
     ↔ (((isAmong (p .issuer) (issuersOf (lanesOf b)) ≡ true) ⊎ (b .used < mostLanes))
     × (fits (plus (b .total) (p .tally)) ≡ true))
+
+abbrev pub TariffsPassLast : Type 0
+TariffsPassLast =
+    (b : Board) (p : Lane)
+    → let s = slotOf b (p .issuer) in let lane = grownSlot s p .lane .tally in let total = grownSlot s p .total in
+    (postAnswer b p ≡ Refused BoardTotalPassed tariffPlace)
+    ↔ ((s .at < mostLanes) × (paymentsFit lane ≡ true) × (paymentsFit total ≡ true)
+    × ((tariffFits lane && tariffFits total) ≡ false))
 
 -- Promises, of a board that holds some payments: its answers follow from them alone. A fresh board takes payments
 -- exactly if they have at most 64 issuers and a sum within the limit; its lanes are then the payments grouped by

@@ -4,6 +4,7 @@ use mathlib.Core.Bool.{Bool, true, false, cond, _&&_}
 use mathlib.Core.List.{List, [], _∷_, _++_, map}
 use mathlib.Core.Path.{_≡_}
 use lib.Dec.{eqb, leb}
+use lib.ListN.{replicate}
 use Rattle.barcode.specs.declared.Issuer.{Issuer}
 use Rattle.board.specs.declared.Tally.{Tally}
 use Rattle.board.specs.declared.Lane.{Lane}
@@ -17,13 +18,26 @@ limit = 1_000_000_000_000_000_000
 
 -- no payments
 abbrev pub emptyTally : Tally
-emptyTally = record { payments = 0; centavos = 0 }
+emptyTally = record { payments = 0; centavos = 0; tariff = 0 }
 
 abbrev pub plus : Tally → Tally → Tally
-plus a b = record { payments = a .payments + b .payments; centavos = a .centavos + b .centavos }
+plus a b =
+    record {
+      payments = a .payments + b .payments;
+      centavos = a .centavos + b .centavos;
+      tariff = a .tariff + b .tariff;
+    }
+
+-- each number is within the limit: payments and centavos, for which 18 points at one place, and tariffs, which have
+-- another
+unfoldable pub paymentsFit : Tally → Bool
+paymentsFit t = leb (t .payments) limit && leb (t .centavos) limit
+
+unfoldable pub tariffFits : Tally → Bool
+tariffFits t = leb (t .tariff) limit
 
 unfoldable pub fits : Tally → Bool
-fits t = leb (t .payments) limit && leb (t .centavos) limit
+fits t = paymentsFit t && tariffFits t
 
 -- an issuer is the segment together with its number
 abbrev pub sameIssuer : Issuer → Issuer → Bool
@@ -32,9 +46,10 @@ sameIssuer i j = eqb (i .segment) (j .segment) && eqb (i .number) (j .number)
 abbrev pub isLaneOf : Issuer → Lane → Bool
 isLaneOf i l = sameIssuer (l .issuer) i
 
--- a payment of so many centavos is a lane of one
-abbrev pub laneOfOne : Issuer → ℕ → Lane
-laneOfOne i centavos = record { issuer = i; tally = record { payments = 1; centavos = centavos } }
+-- a payment of so many centavos, with this tariff, is a lane of one
+abbrev pub laneOfOne : Issuer → ℕ → ℕ → Lane
+laneOfOne i centavos tariff =
+    record { issuer = i; tally = record { payments = 1; centavos = centavos; tariff = tariff } }
 
 -- a payment's lane, with what its issuer had before
 abbrev pub grownLane : Tally → Lane → Lane
@@ -101,6 +116,9 @@ PaymentsAdd = Adds (λ t. t .payments)
 abbrev pub CentavosAdd : Type 0
 CentavosAdd = Adds (λ t. t .centavos)
 
+abbrev pub TariffsAdd : Type 0
+TariffsAdd = Adds (λ t. t .tariff)
+
 abbrev pub SumsAgree : Type 0
 SumsAgree = (w : Tally → ℕ) → Adds w → (ps : List Lane) → sumBy (each w) (lanesFrom ps) ≡ sumBy (each w) ps
 
@@ -111,12 +129,14 @@ OwnSumsAgree =
 abbrev pub SumIsKept : Type 0
 SumIsKept = (ps : List Lane) → tallySum (lanesFrom ps) ≡ tallySum ps
 
--- 4,294,967,296 centavos, where sums of 32 bits would wrap to 0
+-- past 4,294,967,295, where sums of 32 bits would wrap: two payments' centavos, and 430 of the largest tariff
 abbrev pub PastThirtyTwoBits : Type 0
 PastThirtyTwoBits =
     (i : Issuer)
-    → lanesFrom (laneOfOne i 4_294_967_295 ∷ laneOfOne i 1 ∷ [])
-    ≡ record { issuer = i; tally = record { payments = 2; centavos = 4_294_967_296 } } ∷ []
+    → (lanesFrom (laneOfOne i 4_294_967_295 0 ∷ laneOfOne i 1 0 ∷ [])
+    ≡ record { issuer = i; tally = record { payments = 2; centavos = 4_294_967_296; tariff = 0 } } ∷ [])
+    × (lanesFrom (replicate 430 (laneOfOne i 1 9_999_999))
+    ≡ record { issuer = i; tally = record { payments = 430; centavos = 430; tariff = 4_299_999_570 } } ∷ [])
 
 -- Promises, of the lanes: no issuer has two; they are in order of first appearance; a later payment is added to the
 -- lanes of those before it.

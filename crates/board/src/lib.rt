@@ -1,4 +1,4 @@
-// The board (SPEC.md, "Board"): a lane for each issuer with its payments and centavos, and the totals.
+// The board (SPEC.md, "Board"): a lane for each issuer with its payments, centavos and tariffs, and the totals.
 mod one_lane;
 mod searching;
 mod whole_board;
@@ -9,14 +9,16 @@ pub use searching::cache_index;
 pub use searching::lanes_in_use;
 pub use searching::search_range;
 
-// Payments and the centavos they received: of one payment, of a lane, or of the whole board.
+// Payments, the centavos they received and the centavos that the banks charge for them: of one payment, of a lane, or of
+// the whole board.
 #[repr(C)]
 pub struct Tally {
     pub payments: u64,
     pub centavos: u64,
+    pub tariff: u64,
 }
 
-// An issuer and its tally. A payment is a lane of one: its issuer, 1 and the centavos received.
+// An issuer and its tally. A payment is a lane of one: its issuer, 1, the centavos received and the tariff.
 #[repr(C)]
 pub struct Lane {
     pub issuer: Issuer,
@@ -60,7 +62,7 @@ pub struct SearchRange {
 // The entries of a cache of lane indices; see `cache_index`.
 pub const CACHE_LENGTH: usize = 256;
 
-// The most lanes of a board, and the most that any of its payments or centavos, totals included, may reach.
+// The most lanes of a board, and the most that any of its payments, centavos or tariffs, totals included, may reach.
 impl Board {
     pub const LANES: usize = 64;
 

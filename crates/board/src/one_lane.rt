@@ -2,8 +2,8 @@
 ghost use mathlib.Core.Path.{_≡_};
 ghost use Prim.Native.Nat.{_+_, _≤_, _<_};
 ghost use lib.Dec.{leb};
-ghost use Rattle.board.specs.Lanes.{limit, mostLanes, plus, fits, isLaneOf, laneOfOne};
-ghost use Rattle.board.specs.Boards.{ownOf, usedAfter, slotResultOf};
+ghost use Rattle.board.specs.Lanes.{limit, mostLanes, plus, paymentsFit, tariffFits, isLaneOf, laneOfOne};
+ghost use Rattle.board.specs.Boards.{ownOf, usedAfter, sumsAnswer, slotResultOf};
 use crate::Board;
 use crate::Lane;
 use crate::Slot;
@@ -24,9 +24,9 @@ fn has_room(sum: u64, more: u64) -> bool
 }
 
 impl Tally {
-    // Whether both sums stay within the limit.
+    // Whether the sums of payments and of centavos stay within the limit.
     fn has_room_for(self, more: Tally) -> bool
-        ensures { λ r. ⌜ r ≡ fits (plus self more) ⌝ }
+        ensures { λ r. ⌜ r ≡ paymentsFit (plus self more) ⌝ }
     {
         if has_room(self.payments, more.payments) {
             return has_room(self.centavos, more.centavos);
@@ -34,27 +34,37 @@ impl Tally {
         false
     }
 
+    // Whether the sum of tariffs does.
+    fn has_room_for_tariff(self, more: Tally) -> bool
+        ensures { λ r. ⌜ r ≡ tariffFits (plus self more) ⌝ }
+    {
+        has_room(self.tariff, more.tariff)
+    }
+
     fn plus(self, more: Tally) -> Tally
-        requires { ⌜ (self .payments + more .payments ≤ limit) × (self .centavos + more .centavos ≤ limit) ⌝ }
+        requires { ⌜ (self .payments + more .payments ≤ limit) × (self .centavos + more .centavos ≤ limit)
+            × (self .tariff + more .tariff ≤ limit) ⌝ }
         ensures { λ r. ⌜ r ≡ plus self more ⌝ }
     {
         Tally {
             payments: self.payments + more.payments,
             centavos: self.centavos + more.centavos,
+            tariff: self.tariff + more.tariff,
         }
     }
 }
 
 impl Lane {
     // A payment as a lane of one.
-    pub(crate) fn of_payment(issuer: Issuer, centavos: u64) -> Lane
-        ensures { λ r. ⌜ r ≡ laneOfOne issuer centavos ⌝ }
+    pub fn of_payment(issuer: Issuer, centavos: u64, tariff: u64) -> Lane
+        ensures { λ r. ⌜ r ≡ laneOfOne issuer centavos tariff ⌝ }
     {
         Lane {
             issuer,
             tally: Tally {
                 payments: 1,
                 centavos,
+                tariff,
             },
         }
     }
@@ -70,6 +80,26 @@ impl Lane {
     }
 }
 
+// 18 where a number of the lane or of the total, with `more` added, would pass the limit: for payments or centavos at the
+// place of the received centavos, behind them for tariffs at that of the tariff.
+fn check_sums(lane: Tally, total: Tally, more: Tally) -> Answer
+    ensures { λ r. ⌜ r ≡ sumsAnswer (plus lane more) (plus total more) ⌝ }
+{
+    if !lane.has_room_for(more) {
+        return Answer::Refused(Reason::BoardTotalPassed, answer::RECEIVED_PLACE);
+    }
+    if !total.has_room_for(more) {
+        return Answer::Refused(Reason::BoardTotalPassed, answer::RECEIVED_PLACE);
+    }
+    if !lane.has_room_for_tariff(more) {
+        return Answer::Refused(Reason::BoardTotalPassed, answer::TARIFF_PLACE);
+    }
+    if !total.has_room_for_tariff(more) {
+        return Answer::Refused(Reason::BoardTotalPassed, answer::TARIFF_PLACE);
+    }
+    Answer::Accepted
+}
+
 impl Slot {
     // The tally of the lane at the slot's index; zeros if the index is not in use.
     fn own_tally(self) -> Tally
@@ -82,6 +112,7 @@ impl Slot {
         Tally {
             payments: 0,
             centavos: 0,
+            tariff: 0,
         }
     }
 
@@ -110,21 +141,13 @@ impl Slot {
         }
         let own = self.own_tally();
         let total = self.total;
-        if !own.has_room_for(payment.tally) {
-            return SlotResult {
-                answer: Answer::Refused(Reason::BoardTotalPassed, answer::RECEIVED_PLACE),
-                slot: self,
-            };
-        }
-        if !total.has_room_for(payment.tally) {
-            return SlotResult {
-                answer: Answer::Refused(Reason::BoardTotalPassed, answer::RECEIVED_PLACE),
-                slot: self,
-            };
-        }
+        let answer = check_sums(own, total, payment.tally);
+        let Answer::Accepted = answer else {
+            return SlotResult { answer, slot: self };
+        };
         let issuer = payment.issuer;
         SlotResult {
-            answer: Answer::Accepted,
+            answer,
             slot: Slot {
                 at: self.at,
                 lane: Lane {

@@ -19,6 +19,7 @@ impl Board {
         let none = Tally {
             payments: 0,
             centavos: 0,
+            tariff: 0,
         };
         Board {
             lanes: [Lane {
@@ -35,8 +36,8 @@ impl Board {
 
     // Posts one payment to its issuer's lane, a new one if it has none: the board with the payment, or 17 (a new issuer
     // and no lane left) or 18 (a number of the lane or of the total would pass the limit) and the board as it was.
-    pub fn post(mut self, issuer: Issuer, centavos: u64) -> PostResult
-        ensures { λ r. ⌜ r ≡ postResultOf self (laneOfOne issuer centavos) ⌝ }
+    pub fn post(mut self, issuer: Issuer, centavos: u64, tariff: u64) -> PostResult
+        ensures { λ r. ⌜ r ≡ postResultOf self (laneOfOne issuer centavos tariff) ⌝ }
     {
         let at = self.lane_index(issuer);
         if Self::LANES <= at {
@@ -53,7 +54,7 @@ impl Board {
             used: self.used,
             total,
         };
-        let result = slot.post(Lane::of_payment(issuer, centavos));
+        let result = slot.post(Lane::of_payment(issuer, centavos, tariff));
         // A refused payment stores what was there.
         let after = result.slot;
         let lane = after.lane;

@@ -41,7 +41,7 @@ returns-2 : tie.Need-returns-2
 returns-2 c =
     let found = c .before .before .before .before .before .before .before .before in
     let a = found .before .args in
-    put-back (a .t1) (laneOfOne (a .issuer) (a .centavos)) _ _ (found .lane-index .ensures) (rw (c .before .before .before .before .of-payment .ensures) at (c .before .before .before .post .ensures))
+    put-back (a .t1) (laneOfOne (a .issuer) (a .centavos) (a .tariff)) _ _ (found .lane-index .ensures) (rw (c .before .before .before .before .of-payment .ensures) at (c .before .before .before .post .ensures))
 
 pub post-spec : {M : Type 1} → statement M
 post-spec =

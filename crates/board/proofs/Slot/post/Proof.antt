@@ -2,9 +2,9 @@
 use mathlib.Core.Path.{sym, _∙_}
 use native.Mathlib.Omega.{arith}
 use borrow.Author.Needs.{needs}
-use borrow.Author.Tests.{le-ltb, not-true, not-false}
+use borrow.Author.Tests.{le-ltb}
 use Rattle.board.proofs.Tallies.{low}
-use Rattle.board.proofs.Slots.{own-passed, total-passed, within}
+use Rattle.board.proofs.Slots.{sums-accept, passed, within}
 use Rattle.board.specs.Boards.{slotAnswer}
 use Rattle.board.specs.Lanes.{mostLanes}
 use Rattle.board.proofs.Slot.post.Statement.{statement}
@@ -19,50 +19,45 @@ returns c =
 own-tally-requires : tie.Need-own-tally-requires
 own-tally-requires c κs = search needs
 
-has-room-for-requires : tie.Need-has-room-for-requires
-has-room-for-requires c κs = search needs
+check-sums-requires : tie.Need-check-sums-requires
+check-sums-requires c κs = search needs
+
+enum-told : tie.Need-enum-told
+enum-told c = search needs
+
+enum-told-2 : tie.Need-enum-told-2
+enum-told-2 c = search needs
 
 returns-2 : tie.Need-returns-2
 returns-2 c =
-    let own = c .before .before .before in
+    let summed = c .before .before in
+    let own = summed .before .before in
     let a = own .before .before .before .args in
-    let passed = sym (c .before .has-room-for .ensures) ∙ not-true _ (c .if2 .taken) in
-    own-passed (a .self) (a .payment) _ (own .before .if1 .left) (own .own-tally .ensures) passed
-
-has-room-for-requires-2 : tie.Need-has-room-for-requires-2
-has-room-for-requires-2 c κs = search needs
-
-returns-3 : tie.Need-returns-3
-returns-3 c =
-    let fits = c .before .before in
-    let own = fits .before .before .before in
-    let a = own .before .before .before .args in
-    let lane = sym (fits .before .has-room-for .ensures) ∙ not-false _ (fits .if2 .left) in
-    let passed = sym (c .before .has-room-for2 .ensures) ∙ not-true _ (c .if3 .taken) in
-    total-passed (a .self) (a .payment) _ (own .before .if1 .left) (own .own-tally .ensures) lane passed
+    passed (a .self) (a .payment) _ (own .before .if1 .left) (own .own-tally .ensures) (summed .check-sums .ensures)
+    (c .enum-told2 .given .1)
 
 plus-requires : tie.Need-plus-requires
 plus-requires c κs =
-    let fits = low _ (sym (c .before .before .before .before .has-room-for .ensures) ∙ not-false _ (c .before .before .before .if2 .left)) in
-    (fits .payments, fits .centavos)
+    let told = c .before .before in
+    let fits = low _ (sums-accept _ _ .0 (sym (told .before .check-sums .ensures) ∙ c .before .enum-told .given .1) .0) in
+    (fits .payments, fits .centavos, fits .tariff)
 
 used-after-requires : tie.Need-used-after-requires
 used-after-requires c κs = search needs
 
 plus-requires-2 : tie.Need-plus-requires-2
 plus-requires-2 c κs =
-    let fits = low _ (sym (c .before .before .before .before .has-room-for2 .ensures) ∙ not-false _ (c .before .before .before .if3 .left)) in
-    (fits .payments, fits .centavos)
+    let told = c .before .before .before .before in
+    let fits = low _ (sums-accept _ _ .0 (sym (told .before .check-sums .ensures) ∙ c .before .before .before .enum-told .given .1) .1) in
+    (fits .payments, fits .centavos, fits .tariff)
 
-returns-4 : tie.Need-returns-4
-returns-4 c =
-    let all-fits = c .before .before .before .before in
-    let fits = all-fits .before .before in
-    let own = fits .before .before .before in
+returns-3 : tie.Need-returns-3
+returns-3 c =
+    let summed = c .before .before .before .before .before .before in
+    let own = summed .before .before in
     let a = own .before .before .before .args in
-    let lane = sym (fits .before .has-room-for .ensures) ∙ not-false _ (fits .if2 .left) in
-    let total = sym (all-fits .before .has-room-for2 .ensures) ∙ not-false _ (all-fits .if3 .left) in
-    within (a .self) (a .payment) _ (own .before .if1 .left) (own .own-tally .ensures) lane total
+    within (a .self) (a .payment) _ (own .before .if1 .left) (own .own-tally .ensures) (summed .check-sums .ensures)
+    (c .before .before .before .before .enum-told .given .1)
     (c .before .before .plus .ensures) (c .before .used-after .ensures) (c .plus2 .ensures)
 
 pub post-spec : {M : Type 1} → statement M
@@ -71,11 +66,11 @@ post-spec =
     (tie.spec
     returns
     own-tally-requires
-    has-room-for-requires
+    check-sums-requires
+    enum-told
+    enum-told-2
     returns-2
-    has-room-for-requires-2
-    returns-3
     plus-requires
     used-after-requires
     plus-requires-2
-    returns-4)
+    returns-3)
