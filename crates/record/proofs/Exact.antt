@@ -193,9 +193,10 @@ module _ (t : Terms) (rec : List ℕ) (n : length rec ≡ recordLength) where
         let l : length (take m (drop (81 + j) rec)) ≡ m = length-take-le m (drop (81 + j) rec) (omega (arith, length-drop (81 + j) rec)) in
         e ∙ low-of-digits (take m (drop (81 + j) rec)) (all-inner (isOf Digit) rec 81 27 j m (omega arith) (plain t rec .0 (looked .1) .2)) (omega arith)
 
-    pub pays-it : {i : Issuer} {c : ℕ} → i ≡ issuerOf (fieldBytes (rowAt barcodeRow) rec) → c ≡ lowNumberOf (fieldBytes (rowAt receivedRow) rec) → To i c ≡ paymentDueOf (decodedRecordUnder t rec)
+    pub pays-it : {i : Issuer} {c y : ℕ} → i ≡ issuerOf (fieldBytes (rowAt barcodeRow) rec) → c ≡ lowNumberOf (fieldBytes (rowAt receivedRow) rec)
+        → y ≡ lowNumberOf (fieldBytes (rowAt tariffRow) rec) → To i c y ≡ paymentDueOf (decodedRecordUnder t rec)
     unfolding rowAt table layoutOf
-    pays-it ei ec = rw (accepted, looked .0, ei, low 0 12 (omega arith) (omega arith) ec)
+    pays-it ei ec ey = rw (accepted, looked .0, ei, low 0 12 (omega arith) (omega arith) ec, low 12 7 (omega arith) (omega arith) ey)
 
     pub shows-it : {p c : Date} {f : Fields} {r y n : ℕ} → dateOf (fieldBytes (rowAt paidRow) rec) ≡ days.On p → dateOf (fieldBytes (rowAt creditedRow) rec) ≡ days.On c
         → f ≡ fieldsOf (t .agreed) (fieldBytes (rowAt barcodeRow) rec) → r ≡ lowNumberOf (fieldBytes (rowAt receivedRow) rec) → y ≡ lowNumberOf (fieldBytes (rowAt tariffRow) rec)
@@ -206,10 +207,10 @@ module _ (t : Terms) (rec : List ℕ) (n : length rec ≡ recordLength) where
 
 -- What is seen was accepted.
 
-pub paid-accepted : (t : Terms) (rec : List ℕ) {i : Issuer} {c : ℕ} → To i c ≡ paymentDueOf (decodedRecordUnder t rec) → Accepted ≡ recordAnswer t rec
-paid-accepted t rec {i} {c} e = go (recordAnswer t rec) e
+pub paid-accepted : (t : Terms) (rec : List ℕ) {i : Issuer} {c y : ℕ} → To i c y ≡ paymentDueOf (decodedRecordUnder t rec) → Accepted ≡ recordAnswer t rec
+paid-accepted t rec {i} {c} {y} e = go (recordAnswer t rec) e
   where
-    go : (a : Answer) → To i c ≡ paymentDueOf (shownUnlessRefused a (recordShown (t .agreed) (namedBy (getD rec 0 0)) rec)) → Accepted ≡ a
+    go : (a : Answer) → To i c y ≡ paymentDueOf (shownUnlessRefused a (recordShown (t .agreed) (namedBy (getD rec 0 0)) rec)) → Accepted ≡ a
     go Accepted e = refl
     go (Refused why place) e = let z : _≡_ {A = ℕ} 0 1 = cc in absurd (omega arith)
 

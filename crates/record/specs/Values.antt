@@ -96,10 +96,10 @@ answerOfRecord (decoded.Payment p) = answer.Accepted
 answerOfRecord (decoded.Trailer t) = answer.Accepted
 answerOfRecord (decoded.Refused why place) = answer.Refused why place
 
--- what a record pays: an accepted G its received centavos to its issuer, every other record nothing
+-- what a record pays: an accepted G its received centavos to its issuer, with its tariff; every other record nothing
 abbrev pub paymentDueOf : Decoded → PaymentDue
 paymentDueOf (decoded.Header h) = due.Nothing
-paymentDueOf (decoded.Payment p) = due.To (p .barcode .issuer) (p .received)
+paymentDueOf (decoded.Payment p) = due.To (p .barcode .issuer) (p .received) (p .tariff)
 paymentDueOf (decoded.Trailer t) = due.Nothing
 paymentDueOf (decoded.Refused why place) = due.Nothing
 

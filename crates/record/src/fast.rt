@@ -175,7 +175,7 @@ fn looks_like_payment(rec: &[u8], version: u64) -> bool
     is_coded(rec, version)
 }
 
-// The issuer and the centavos received of an accepted G; Nothing for every other record, of any length.
+// The issuer, the centavos received and the tariff of an accepted G; Nothing for every other record, of any length.
 pub(crate) fn accepted_payment(rec: &[u8], version: u64, agreed: &[u64]) -> PaymentDue
     ensures { λ r. ⌜ r ≡ paymentDueOf (decodedRecordUnder (told version (now (agreed .entry))) (now (rec .entry))) ⌝ }
 {
@@ -189,7 +189,11 @@ pub(crate) fn accepted_payment(rec: &[u8], version: u64, agreed: &[u64]) -> Paym
         return PaymentDue::Nothing;
     }
     match barcode::judged::accepted_issuer(parts::field_bytes(rec, g::BARCODE), agreed) {
-        MaybeIssuer::Is(issuer) => PaymentDue::To(issuer, parts::number_in(rec, g::RECEIVED)),
+        MaybeIssuer::Is(issuer) => PaymentDue::To(
+            issuer,
+            parts::number_in(rec, g::RECEIVED),
+            parts::number_in(rec, g::TARIFF),
+        ),
         MaybeIssuer::NoIssuer => PaymentDue::Nothing,
     }
 }

@@ -44,7 +44,7 @@ pub fn check(rec: &[u8], version: u64, agreed: &[u64]) -> Answer
     ensures { λ r. ⌜ r ≡ recordAnswer (told version (now (agreed .entry))) (now (rec .entry)) ⌝ }
 {
     match fast::accepted_payment(rec, version, agreed) {
-        PaymentDue::To(_, _) => Answer::Accepted,
+        PaymentDue::To(_, _, _) => Answer::Accepted,
         PaymentDue::Nothing => walk::check_in_order(rec, version, agreed),
     }
 }

@@ -42,9 +42,9 @@ pub struct Trailer {
     pub total: u64,
 }
 
-// To whom an accepted G pays, and the centavos received; Nothing for every other record, accepted or not.
+// To whom an accepted G pays, the centavos received and the tariff; Nothing for every other record, accepted or not.
 pub enum PaymentDue {
-    To(Issuer, u64),
+    To(Issuer, u64, u64),
     Nothing,
 }
 
@@ -79,7 +79,8 @@ pub fn decode(rec: &[u8], version: u64, agreed: &[u64]) -> Decoded
     }
 }
 
-// The issuer and the centavos received of an accepted G; Nothing for every other record and under a wrong list.
+// The issuer, the centavos received and the tariff of an accepted G; Nothing for every other record and under a wrong
+// list.
 pub fn accepted_payment(rec: &[u8], version: u64, agreed: &[u64]) -> PaymentDue
     ensures { λ r. ⌜ r ≡ paymentDueOf (decodedRecord (told version (now (agreed .entry))) (now (rec .entry))) ⌝ }
 {

@@ -40,24 +40,27 @@ enum-known-issuer c = search needs
 number-in-requires : tie.Need-number-in-requires
 number-in-requires c κs = search needs
 
+number-in-requires-2 : tie.Need-number-in-requires-2
+number-in-requires-2 c κs = search needs
+
 enum-told : tie.Need-enum-told
 enum-told c = search needs
 
 returns-4 : tie.Need-returns-4
 unfolding rowAt table layoutOf
 returns-4 c =
-    let paid = c .before .before .before .before in
+    let paid = c .before .before .before .before .before in
     let dated = paid .before .before in
     let looked = dated .before .before in
     let sized = looked .before .before in
     let rec = sized .before .before .before .args .rec .now in
     let agreed = sized .before .before .before .args .agreed .now in
     let part = fieldBytes (rowAt barcodeRow) rec in
-    let to = sym (c .before .before .issuer .given .1) ∙ paid .accepted-issuer .ensures ∙ ap (acceptedIssuer agreed) (paid .before .field-bytes .ensures) in
+    let to = sym (c .before .before .before .issuer .given .1) ∙ paid .accepted-issuer .ensures ∙ ap (acceptedIssuer agreed) (paid .before .field-bytes .ensures) in
     let looks = sym (looked .before .looks-like-payment .ensures) ∙ not-false _ (looked .if2 .left) in
     let dates = sym (dated .before .is-dated .ensures) ∙ not-false _ (dated .if3 .left) in
     let told = issuer-tells agreed part to in
-    pays-it _ rec (sized .if1 .left) looks dates (told .0) (told .1) (c .number-in .ensures)
+    pays-it _ rec (sized .if1 .left) looks dates (told .0) (told .1) (c .before .number-in .ensures) (c .number-in2 .ensures)
 
 returns-5 : tie.Need-returns-5
 unfolding rowAt table layoutOf
@@ -81,6 +84,7 @@ accepted-payment-spec =
     accepted-issuer-requires
     enum-known-issuer
     number-in-requires
+    number-in-requires-2
     enum-told
     returns-4
     returns-5)
