@@ -1,4 +1,4 @@
-// Searching a lane. `Board::lane_index` is the whole search, of a board passed by value, which copies 2 KB. Code that
+// Searching a lane. `Board::lane_index` is the whole search, of a board passed by value, which copies 2.5 KB. Code that
 // posts many payments keeps its board in a local and searches it there: it remembers in a cache where it found each
 // issuer last (`cache_index`), tries that lane first (`search_range`), and tests each index of the range until a lane
 // `is_of` the issuer; the index it ends at is the lane's, or the first free one. Both ways find the same index,

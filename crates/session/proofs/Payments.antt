@@ -81,15 +81,16 @@ module _ (agreed : List ℕ) (s : Session) (rec : List ℕ) {p : Payment} (is : 
         rw (is, posted-board (s .work) (laneOfPayment p) (put-back (s .work) (laneOfPayment p) at e found posted) accepted)
 
 -- what `accepted_payment` reads is a payment
-record PaidTo (d : Decoded) (i : Issuer) (x : ℕ) : Type 0 where
+record PaidTo (d : Decoded) (i : Issuer) (x y : ℕ) : Type 0 where
   shown : Payment
   is : d ≡ decoded.Payment shown
   to : shown .barcode .issuer ≡ i
   received : shown .received ≡ x
+  tariff : shown .tariff ≡ y
 
-paid-to : (d : Decoded) {i : Issuer} {x : ℕ} → paymentDueOf d ≡ due.To i x → PaidTo d i x
+paid-to : (d : Decoded) {i : Issuer} {x y : ℕ} → paymentDueOf d ≡ due.To i x y → PaidTo d i x y
 paid-to (decoded.Header h) e = let z : _≡_ {A = ℕ} 0 1 = cc in absurd (omega arith)
-paid-to (decoded.Payment p) e = record { shown = p; is = refl; to = cc; received = cc }
+paid-to (decoded.Payment p) e = record { shown = p; is = refl; to = cc; received = cc; tariff = cc }
 paid-to (decoded.Trailer t) e = let z : _≡_ {A = ℕ} 0 1 = cc in absurd (omega arith)
 paid-to (decoded.Refused why place) e = let z : _≡_ {A = ℕ} 0 1 = cc in absurd (omega arith)
 
@@ -97,11 +98,11 @@ paid-to (decoded.Refused why place) e = let z : _≡_ {A = ℕ} 0 1 = cc in absu
 pub next-is : (agreed : List ℕ) {opened more : Bool} {before : Progress} {bytes : List ℕ} {end : ℕ} → opened ≡ true
     → before .at + leastLeft more ≤ length bytes → end ≡ before .at + lengthOf (before .file .lined) → end ≤ length bytes
     → endAnswer true (before .file .lined) (take (end - before .at) (drop (before .at) bytes)) ≡ answer.Accepted
-    → {d : PaymentDue} {i : Issuer} {x : ℕ}
+    → {d : PaymentDue} {i : Issuer} {x y : ℕ}
     → d ≡ paymentDueOf (decodedRecordUnder (told (before .file .version) agreed) (take (before .at + recordLength - before .at) (drop (before .at) bytes)))
-    → d ≡ due.To i x
+    → d ≡ due.To i x y
     → {t : FileResult} → t ≡ fileResultOf (before .file) x → t .answer ≡ answer.Accepted → {l : Lane}
-    → l ≡ laneOfOne i x
+    → l ≡ laneOfOne i x y
     → Taken agreed opened more before bytes l (record { file = t .file; records = before .records + 1; at = end })
 next-is agreed {before = before} {bytes} {end} going enough ends inside ended read found {t} took fits paid =
     let own : before .at + recordLength - before .at ≡ recordLength = omega arith in
@@ -115,7 +116,7 @@ next-is agreed {before = before} {bytes} {end} going enough ends inside ended re
       shown = payment .shown;
       is = payment .is;
       ended = ended;
-      lane = paid ∙ rw (payment .to, payment .received);
+      lane = paid ∙ rw (payment .to, payment .received, payment .tariff);
       fits = sym (ap (λ (x : FileResult). x .answer) took′) ∙ fits;
       file = taken-file (before .file) (payment .shown .received) took′ fits;
       counts = refl;

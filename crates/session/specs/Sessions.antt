@@ -98,7 +98,7 @@ sessionExpects opened Other = false
 
 -- a G as a lane of one, and the figures that a Z shows
 abbrev pub laneOfPayment : Payment → Lane
-laneOfPayment p = laneOfOne (p .barcode .issuer) (p .received)
+laneOfPayment p = laneOfOne (p .barcode .issuer) (p .received) (p .tariff)
 
 abbrev pub figuresIn : Trailer → Figures
 figuresIn t = record { count = t .count; total = t .total }

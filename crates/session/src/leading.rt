@@ -7,19 +7,17 @@
 // a payment changes one more member of the session, so does the loop, and `run_judged` (running.rt) takes it over from
 // `LeadingPayments`. The proof that ties them is proofs/Payments.antt: by `payment-taken` and `payment-leaves`, a
 // payment posted here is accepted by `takeAnswer` and leaves the session that `take_judged` leaves, `nextSession`; by
-// `one-more` it is the next piece. What is slow and so avoided: a board by value is 2 KB, and each call that takes one
+// `one-more` it is the next piece. What is slow and so avoided: a board by value is 2.5 KB, and each call that takes one
 // copies it. So the loop itself reads and stores lanes, and the board's functions get numbers and one lane (board:
 // src/searching.rt, `Slot::post`).
 ghost use mathlib.Core.Path.{_≡_};
 ghost use Prim.Native.Nat.{_≤_};
 ghost use lib.ListN.{length};
-ghost use Rattle.board.specs.Lanes.{laneOfOne};
 ghost use Rattle.board.specs.Boards.{slotResultOf};
 ghost use Rattle.session.specs.LeadingPayments.{NextPaymentOf, LeadingPaymentsOf};
 use crate::Session;
 use crate::ends;
 use answer::Answer;
-use barcode::Issuer;
 use board::Board;
 use board::Lane;
 use board::Slot;
@@ -59,19 +57,6 @@ fn no_progress(file: File) -> Progress
     }
 }
 
-// A payment as a lane of one.
-fn payment_lane(issuer: Issuer, received: u64) -> Lane
-    ensures { λ r. ⌜ r ≡ laneOfOne issuer received ⌝ }
-{
-    Lane {
-        issuer,
-        tally: Tally {
-            payments: 1,
-            centavos: received,
-        },
-    }
-}
-
 // The next payment, if the file is open, its record is there whole and accepted, and the file takes it.
 fn next_payment(
     opened: bool,
@@ -96,7 +81,7 @@ fn next_payment(
         return MaybePayment::Other;
     };
     let due = judged::accepted_payment(&bytes[at..at + layout::LENGTH], file.version, agreed);
-    let PaymentDue::To(issuer, received) = due else {
+    let PaymentDue::To(issuer, received, tariff) = due else {
         return MaybePayment::Other;
     };
     let taken = file.take(received);
@@ -111,7 +96,7 @@ fn next_payment(
         records,
         at: end,
     };
-    MaybePayment::Is(payment_lane(issuer, received), next)
+    MaybePayment::Is(Lane::of_payment(issuer, received, tariff), next)
 }
 
 // A payment posted at an index of a board that has this lane there, so many lanes in use and this total.

@@ -47,7 +47,7 @@ pub struct RunResult {
 }
 
 // The limits of a session: the lanes of its board, the bytes of a record, the most payments and the most centavos of a
-// file, the most that the payments or the centavos of the board may reach, and the pairs of its memory.
+// file, the most that the payments, the centavos or the tariffs of the board may reach, and the pairs of its memory.
 #[repr(C)]
 pub struct Limits {
     pub lanes: usize,

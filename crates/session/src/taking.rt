@@ -61,14 +61,20 @@ impl Session {
 
     // Takes a payment into the open file and onto the working board: 15, 16, 17, 18, the answer to what follows the
     // record, or the session with it. The board is asked where the file refuses too: the first refusal counts.
-    fn take_payment(mut self, issuer: Issuer, received: u64, ending: Answer) -> TakeResult
-        ensures { λ r. ⌜ r ≡ paymentResult self (laneOfOne issuer received) ending ⌝ }
+    fn take_payment(
+        mut self,
+        issuer: Issuer,
+        received: u64,
+        tariff: u64,
+        ending: Answer,
+    ) -> TakeResult
+        ensures { λ r. ⌜ r ≡ paymentResult self (laneOfOne issuer received tariff) ending ⌝ }
     {
         let file = self.file;
         let taken = file.take(received);
         let taking = taken.answer;
         let work = self.work;
-        let posted = work.post(issuer, received);
+        let posted = work.post(issuer, received, tariff);
         let posting = posted.answer;
         let behind = answer::first_refusal(posting, ending);
         let a = answer::first_refusal(taking, behind);
@@ -128,7 +134,9 @@ impl Session {
                 let opening = opening::pair_numbered(rec, h.sequence);
                 self.take_header(h.version, ended, opening, ending)
             }
-            Decoded::Payment(p) => self.take_payment(p.barcode.issuer, p.received, ending),
+            Decoded::Payment(p) => {
+                self.take_payment(p.barcode.issuer, p.received, p.tariff, ending)
+            }
             Decoded::Trailer(t) => self.take_trailer(
                 Figures {
                     count: t.count,

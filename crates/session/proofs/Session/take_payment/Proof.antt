@@ -33,7 +33,7 @@ returns c =
     let taken = posted .before .before in
     let a = taken .before .before .args in
     took-refused _ _
-    (payment-answer (a .self) (laneOfOne (a .issuer) (a .received)) (a .ending) (taken .take .ensures) (posted .post .ensures) (chosen .before .first-refusal .ensures) (chosen .first-refusal2 .ensures))
+    (payment-answer (a .self) (laneOfOne (a .issuer) (a .received) (a .tariff)) (a .ending) (taken .take .ensures) (posted .post .ensures) (chosen .before .first-refusal .ensures) (chosen .first-refusal2 .ensures))
     (c .enum-told .given .1)
 
 returns-2 : tie.Need-returns-2
@@ -43,7 +43,7 @@ returns-2 c =
     let posted = chosen .before .before in
     let taken = posted .before .before in
     let a = taken .before .before .args in
-    let p = laneOfOne (a .issuer) (a .received) in
+    let p = laneOfOne (a .issuer) (a .received) (a .tariff) in
     let first = chosen .first-refusal2 .ensures in
     let second = chosen .before .first-refusal .ensures in
     let both = then-accepts (taken .take .result .answer) (chosen .before .first-refusal .result) .0 (sym first ∙ told) in

@@ -103,8 +103,8 @@ add-records c =
     let start = c .before .before .before .before .before .before .before .before .before .before .before .before .before .before .before .before .before .before .before .before .before in
     record { fits = omega (arith, start .pre .0) }
 
-payment-lane-requires : tie.Need-payment-lane-requires
-payment-lane-requires c κs = search needs
+of-payment-requires : tie.Need-of-payment-requires
+of-payment-requires c κs = search needs
 
 returns-6 : tie.Need-returns-6
 returns-6 c =
@@ -123,7 +123,7 @@ returns-6 c =
     (not-false _ (needed .before .if1 .left)) (omega (arith, least, needed .record-needs .ensures, enough .if2 .left, start .pre .1)) (omega (arith, size))
     (omega (arith, own, size, needed .record-needs .ensures, enough .if2 .left, start .pre .1)) (sym (checked .check-end .ensures) ∙ read .before .before .enum-told .given .1)
     (read .accepted-payment .ensures) (took .before .before .due .given .1)
-    (took .take .ensures) (c .before .before .before .enum-told4 .given .1) (c .payment-lane .ensures)
+    (took .take .ensures) (c .before .before .before .enum-told4 .given .1) (c .of-payment .ensures)
 
 pub next-payment-spec : {M : Type 1} → statement M
 next-payment-spec =
@@ -155,5 +155,5 @@ next-payment-spec =
     enum-told-5
     returns-5
     add-records
-    payment-lane-requires
+    of-payment-requires
     returns-6)
