@@ -17,7 +17,7 @@ use Rattle.board.specs.declared.Board.{Board}
 use Rattle.board.specs.Boards.{lanesOf}
 use Rattle.page.specs.Plain.{shown, plain}
 use Rattle.page.specs.Pages.{answerWord, placeWord, recordWord, filesWord, lanesWord, paymentsWord, centavosWord}
-use Rattle.page.specs.Pages.{laneWord, issuerWord, hyphen, newline, numberLine, issuerLine, tallyLines}
+use Rattle.page.specs.Pages.{tariffWord, laneWord, issuerWord, hyphen, newline, numberLine, issuerLine, tallyLines}
 use Rattle.page.specs.Pages.{laneLines, lanesLines, sumsLines, headLines, mostHead, mostLane}
 use Rattle.page.specs.Fits.{TallyIn64Bits, LaneIn64Bits, PageFits}
 use Rattle.page.specs.Pieces.{mostDigits, mostLine, mostIssuer, mostTally}
@@ -53,7 +53,10 @@ unfolding tallyLines
 tally-few t h =
     let payments = line-few paymentsWord (t .payments) (h .0) in
     let centavos = line-few centavosWord (t .centavos) (h .1) in
-    joins-few (numberLine paymentsWord (t .payments)) (numberLine centavosWord (t .centavos)) payments centavos
+    let tariff = line-few tariffWord (t .tariff) (h .2) in
+    let rest = numberLine centavosWord (t .centavos) ++ numberLine tariffWord (t .tariff) in
+    joins-few (numberLine paymentsWord (t .payments)) rest payments
+    (joins-few (numberLine centavosWord (t .centavos)) (numberLine tariffWord (t .tariff)) centavos tariff)
 
 lane-few : (k : ℕ) (l : Lane) → k ≤ largestNumber → LaneIn64Bits l → length (laneLines k l) ≤ mostLane
 unfolding laneLines

@@ -4,7 +4,7 @@ use Rattle.decimal.specs.Numbers.{digitsOf}
 use Rattle.board.specs.Boards.{ownOf, usedAfter}
 use Rattle.page.specs.Plain.{neededIn}
 use Rattle.page.specs.Pages.{numberLine, issuerLine, tallyLines, laneLines, headLines}
-use Rattle.page.specs.Samples.{WorkedPage, EmptyPage, IssuerLines, LargestNumber}
+use Rattle.page.specs.Samples.{WorkedPage, EmptyPage, IssuerLines, LargestNumber, LargestTally}
 
 pub worked-page : WorkedPage
 unfolding digitsOf ownOf usedAfter neededIn numberLine issuerLine tallyLines laneLines headLines
@@ -21,3 +21,7 @@ issuer-lines = refl
 pub largest-number : LargestNumber
 unfolding digitsOf neededIn
 largest-number = refl
+
+pub largest-tally : LargestTally
+unfolding digitsOf neededIn numberLine tallyLines
+largest-tally = refl

@@ -13,7 +13,8 @@ use Rattle.page.specs.Pages.{pageOf, pageLength}
 -- a board of the code has 64 lanes, and its numbers have 64 bits
 
 abbrev pub TallyIn64Bits : Tally → Type 0
-TallyIn64Bits t = (t .payments ≤ largestNumber) × (t .centavos ≤ largestNumber)
+TallyIn64Bits t =
+    (t .payments ≤ largestNumber) × (t .centavos ≤ largestNumber) × (t .tariff ≤ largestNumber)
 
 abbrev pub LaneIn64Bits : Lane → Type 0
 LaneIn64Bits l =

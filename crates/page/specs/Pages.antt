@@ -49,6 +49,10 @@ paymentsWord = 112 ∷ 97 ∷ 121 ∷ 109 ∷ 101 ∷ 110 ∷ 116 ∷ 115 ∷ 61
 abbrev pub centavosWord : List ℕ
 centavosWord = 99 ∷ 101 ∷ 110 ∷ 116 ∷ 97 ∷ 118 ∷ 111 ∷ 115 ∷ 61 ∷ []
 
+-- tariff=
+abbrev pub tariffWord : List ℕ
+tariffWord = 116 ∷ 97 ∷ 114 ∷ 105 ∷ 102 ∷ 102 ∷ 61 ∷ []
+
 -- lane=
 abbrev pub laneWord : List ℕ
 laneWord = 108 ∷ 97 ∷ 110 ∷ 101 ∷ 61 ∷ []
@@ -75,7 +79,9 @@ issuerLine i =
     issuerWord ++ (plain (i .segment) ++ (hyphen ++ (shown (widthOf (issuer (i .segment))) (i .number) ++ newline)))
 
 unfoldable pub tallyLines : Tally → List ℕ
-tallyLines t = numberLine paymentsWord (t .payments) ++ numberLine centavosWord (t .centavos)
+tallyLines t =
+    numberLine paymentsWord (t .payments)
+    ++ (numberLine centavosWord (t .centavos) ++ numberLine tariffWord (t .tariff))
 
 unfoldable pub laneLines : ℕ → Lane → List ℕ
 laneLines k l = numberLine laneWord k ++ (issuerLine (l .issuer) ++ tallyLines (l .tally))
@@ -103,13 +109,13 @@ pageOf number place records files b = headLines number place records files b ++ 
 
 -- The longest page, with every number of 20 digits and every lane in use.
 
--- seven lines: 50 bytes of words, then 20 digits and a newline each
+-- eight lines: 57 bytes of words, then 20 digits and a newline each
 abbrev pub mostHead : ℕ
-mostHead = 197
+mostHead = 225
 
--- four lines: 31 bytes of words and the hyphen, 5 numbers of 20 digits, 4 newlines
+-- five lines: 38 bytes of words and the hyphen, 6 numbers of 20 digits, 5 newlines
 abbrev pub mostLane : ℕ
-mostLane = 135
+mostLane = 163
 
 abbrev pub pageLength : ℕ
 pageLength = mostHead + mostLanes * mostLane

@@ -21,10 +21,10 @@ abbrev pub mostIssuer : ℕ
 mostIssuer = 49
 
 abbrev pub mostTally : ℕ
-mostTally = 60
+mostTally = 88
 
 abbrev pub mostSums : ℕ
-mostSums = 87
+mostSums = 115
 
 abbrev pub ShownFits : Type 0
 ShownFits = (w n : ℕ) → w ≤ mostDigits → n ≤ largestNumber → length (shown w n) ≤ mostDigits

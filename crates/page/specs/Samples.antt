@@ -1,4 +1,5 @@
--- Worked examples (SPEC.md, "Page"): the page of one payment, the empty page, issuers, a number. Assumes nothing.
+-- Worked examples (SPEC.md, "Page"): the page of one payment, the empty page, issuers, a number, a tally. Assumes
+-- nothing.
 use Prim.Native.Nat.{ℕ}
 use mathlib.Core.List.{List, [], _∷_, map}
 use mathlib.Core.Path.{_≡_}
@@ -6,7 +7,7 @@ use Rattle.barcode.specs.declared.Issuer.{Issuer}
 use Rattle.board.specs.Lanes.{laneOfOne}
 use Rattle.board.specs.Boards.{freshBoard, boardWith}
 use Rattle.page.specs.Plain.{plain}
-use Rattle.page.specs.Pages.{issuerLine, pageOf}
+use Rattle.page.specs.Pages.{issuerLine, tallyLines, pageOf}
 
 -- each line with its newline:
 --     answer=0
@@ -16,10 +17,12 @@ use Rattle.page.specs.Pages.{issuerLine, pageOf}
 --     lanes=1
 --     payments=1
 --     centavos=109
+--     tariff=0
 --     lane=1
 --     issuer=1-3659
 --     payments=1
 --     centavos=109
+--     tariff=0
 abbrev pub workedPage : List ℕ
 workedPage =
     97 ∷ 110 ∷ 115 ∷ 119 ∷ 101 ∷ 114 ∷ 61 ∷ 48 ∷ 10
@@ -29,16 +32,18 @@ workedPage =
     ∷ 108 ∷ 97 ∷ 110 ∷ 101 ∷ 115 ∷ 61 ∷ 49 ∷ 10
     ∷ 112 ∷ 97 ∷ 121 ∷ 109 ∷ 101 ∷ 110 ∷ 116 ∷ 115 ∷ 61 ∷ 49 ∷ 10
     ∷ 99 ∷ 101 ∷ 110 ∷ 116 ∷ 97 ∷ 118 ∷ 111 ∷ 115 ∷ 61 ∷ 49 ∷ 48 ∷ 57 ∷ 10
+    ∷ 116 ∷ 97 ∷ 114 ∷ 105 ∷ 102 ∷ 102 ∷ 61 ∷ 48 ∷ 10
     ∷ 108 ∷ 97 ∷ 110 ∷ 101 ∷ 61 ∷ 49 ∷ 10
     ∷ 105 ∷ 115 ∷ 115 ∷ 117 ∷ 101 ∷ 114 ∷ 61 ∷ 49 ∷ 45 ∷ 51 ∷ 54 ∷ 53 ∷ 57 ∷ 10
     ∷ 112 ∷ 97 ∷ 121 ∷ 109 ∷ 101 ∷ 110 ∷ 116 ∷ 115 ∷ 61 ∷ 49 ∷ 10
     ∷ 99 ∷ 101 ∷ 110 ∷ 116 ∷ 97 ∷ 118 ∷ 111 ∷ 115 ∷ 61 ∷ 49 ∷ 48 ∷ 57 ∷ 10
+    ∷ 116 ∷ 97 ∷ 114 ∷ 105 ∷ 102 ∷ 102 ∷ 61 ∷ 48 ∷ 10
     ∷ []
 
--- three records and one file, with one payment of 109 centavos to issuer 3659 of segment 1
+-- three records and one file, with one payment of 109 centavos and no tariff to issuer 3659 of segment 1
 abbrev pub WorkedPage : Type 0
 WorkedPage =
-    pageOf 0 0 3 1 (boardWith freshBoard (laneOfOne (record { segment = 1; number = 3659 }) 109)) ≡ workedPage
+    pageOf 0 0 3 1 (boardWith freshBoard (laneOfOne (record { segment = 1; number = 3659 }) 109 0)) ≡ workedPage
 
 --     answer=0
 --     place=0
@@ -47,6 +52,7 @@ WorkedPage =
 --     lanes=0
 --     payments=0
 --     centavos=0
+--     tariff=0
 abbrev pub emptyPage : List ℕ
 emptyPage =
     97 ∷ 110 ∷ 115 ∷ 119 ∷ 101 ∷ 114 ∷ 61 ∷ 48 ∷ 10
@@ -56,6 +62,7 @@ emptyPage =
     ∷ 108 ∷ 97 ∷ 110 ∷ 101 ∷ 115 ∷ 61 ∷ 48 ∷ 10
     ∷ 112 ∷ 97 ∷ 121 ∷ 109 ∷ 101 ∷ 110 ∷ 116 ∷ 115 ∷ 61 ∷ 48 ∷ 10
     ∷ 99 ∷ 101 ∷ 110 ∷ 116 ∷ 97 ∷ 118 ∷ 111 ∷ 115 ∷ 61 ∷ 48 ∷ 10
+    ∷ 116 ∷ 97 ∷ 114 ∷ 105 ∷ 102 ∷ 102 ∷ 61 ∷ 48 ∷ 10
     ∷ []
 
 -- an input with no records
@@ -86,3 +93,18 @@ abbrev pub LargestNumber : Type 0
 LargestNumber =
     plain 18446744073709551615
     ≡ 49 ∷ 56 ∷ 52 ∷ 52 ∷ 54 ∷ 55 ∷ 52 ∷ 52 ∷ 48 ∷ 55 ∷ 51 ∷ 55 ∷ 48 ∷ 57 ∷ 53 ∷ 53 ∷ 49 ∷ 54 ∷ 49 ∷ 53 ∷ []
+
+-- three of the largest numbers, each in its own line:
+--     payments=18446744073709551615
+--     centavos=18446744073709551614
+--     tariff=18446744073709551613
+abbrev pub LargestTally : Type 0
+LargestTally =
+    tallyLines (record { payments = 18446744073709551615; centavos = 18446744073709551614; tariff = 18446744073709551613 })
+    ≡ 112 ∷ 97 ∷ 121 ∷ 109 ∷ 101 ∷ 110 ∷ 116 ∷ 115 ∷ 61
+    ∷ 49 ∷ 56 ∷ 52 ∷ 52 ∷ 54 ∷ 55 ∷ 52 ∷ 52 ∷ 48 ∷ 55 ∷ 51 ∷ 55 ∷ 48 ∷ 57 ∷ 53 ∷ 53 ∷ 49 ∷ 54 ∷ 49 ∷ 53 ∷ 10
+    ∷ 99 ∷ 101 ∷ 110 ∷ 116 ∷ 97 ∷ 118 ∷ 111 ∷ 115 ∷ 61
+    ∷ 49 ∷ 56 ∷ 52 ∷ 52 ∷ 54 ∷ 55 ∷ 52 ∷ 52 ∷ 48 ∷ 55 ∷ 51 ∷ 55 ∷ 48 ∷ 57 ∷ 53 ∷ 53 ∷ 49 ∷ 54 ∷ 49 ∷ 52 ∷ 10
+    ∷ 116 ∷ 97 ∷ 114 ∷ 105 ∷ 102 ∷ 102 ∷ 61
+    ∷ 49 ∷ 56 ∷ 52 ∷ 52 ∷ 54 ∷ 55 ∷ 52 ∷ 52 ∷ 48 ∷ 55 ∷ 51 ∷ 55 ∷ 48 ∷ 57 ∷ 53 ∷ 53 ∷ 49 ∷ 54 ∷ 49 ∷ 51 ∷ 10
+    ∷ []

@@ -18,7 +18,7 @@ use board::Lane;
 use board::Tally;
 
 // The length of the buffer that a page is written into, which is that of the longest page.
-pub const PAGE: usize = 8837;
+pub const PAGE: usize = 10657;
 
 // `length` is how many bytes of the buffer are the page; 0 if the answer is a refusal.
 pub struct PrintResult {
@@ -93,7 +93,8 @@ fn put_tally(tally: Tally, out: &mut [u8], at: usize) -> usize
     ensures { λ r. ⌜ Wrote mostTally at (tallyLines tally) (now (out .entry)) r (now (out .exit)) ⌝ }
 {
     let next = put_line(b"payments=", tally.payments, out, at);
-    put_line(b"centavos=", tally.centavos, out, next)
+    let next = put_line(b"centavos=", tally.centavos, out, next);
+    put_line(b"tariff=", tally.tariff, out, next)
 }
 
 fn put_lane(number: u64, lane: Lane, out: &mut [u8], at: usize) -> usize
