@@ -4,7 +4,7 @@ use std::io::{self, Read, Write};
 use std::mem;
 
 use crate::refusal::{answer, Refusal};
-use crate::session::{Board, Lane, Session};
+use crate::session::{Board, Lane, Session, Tally};
 
 /// How many bytes are read at a time, at most. Any number would do.
 const PIECE: usize = 1 << 19;
@@ -18,13 +18,11 @@ pub fn page(number: u64, place: u64, records: u64, files: u64, board: &Board) ->
     line(&mut text, "record", records);
     line(&mut text, "files", files);
     line(&mut text, "lanes", lanes.len() as u64);
-    line(&mut text, "payments", board.payments);
-    line(&mut text, "centavos", board.centavos);
+    tally_lines(&mut text, board.totals());
     for (i, lane) in lanes.iter().enumerate() {
         line(&mut text, "lane", i as u64 + 1);
         issuer_line(&mut text, lane);
-        line(&mut text, "payments", lane.payments);
-        line(&mut text, "centavos", lane.centavos);
+        tally_lines(&mut text, lane.tally());
     }
     text
 }
@@ -42,6 +40,13 @@ fn issuer_line(text: &mut Vec<u8>, lane: &Lane) {
         "issuer={}-{:0width$}",
         lane.issuer.segment, lane.issuer.number
     );
+}
+
+/// The three numbers of a lane or of the totals.
+fn tally_lines(text: &mut Vec<u8>, tally: Tally) {
+    line(text, "payments", tally.payments);
+    line(text, "centavos", tally.centavos);
+    line(text, "tariff", tally.tariff);
 }
 
 /// A session that takes an input piece by piece, with the counts that the page has. Pieces may be of any length: the

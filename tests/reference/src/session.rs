@@ -3,6 +3,7 @@
 mod board;
 mod memory;
 
+pub(crate) use board::Tally;
 pub use board::{Board, Lane, LANES, MOST_BOARD_TOTAL};
 pub use memory::{following, Memory, Pair, LAST_NUMBER, PAIRS};
 
@@ -92,8 +93,9 @@ impl Session {
     }
 
     /// Takes one record, in a lined file with its line end. Order: 25; 1, 9; for G 10 at 80 if the version, in an
-    /// arbitrary state, is neither 4 nor 6; the fields; then for A 26, 27, for Z 13, 14, and for G 15, 16, 17, 18; last
-    /// 22. A refusal changes nothing. The list is not kept: the next record may come with another one.
+    /// arbitrary state, is neither 4 nor 6; the fields; then for A 26, 27, for Z 13, 14, and for G 15, 16, 17, 18 at
+    /// 82, 18 at 94; last 22. A refusal changes nothing. The list is not kept: the next record may come with another
+    /// one.
     pub fn take(&mut self, record: &[u8], agreed: &[u64]) -> Result<(), Refusal> {
         agreed::check(agreed)?;
         self.take_one(record, agreed)
@@ -224,13 +226,12 @@ impl Session {
         Ok(())
     }
 
-    /// Adds a payment, and what follows it, to the open file: 15, 16, 17, 18, 22.
+    /// Adds a payment, and what follows it, to the open file: 15, 16, 17, 18 at 82, 18 at 94, 22.
     #[inline(always)]
     fn post(&mut self, payment: &Payment, end: &[u8]) -> Result<(), Refusal> {
         check_payment_count(self.taken)?;
         let total = file_sum(self.total, payment.received)?;
-        let issuer = payment.barcode.issuer();
-        let posting = self.working.posting(issuer, payment.received)?;
+        let posting = self.working.posting(payment)?;
         self.check_end(end)?;
         self.working.post(posting);
         self.total = total;

@@ -6,7 +6,7 @@ use std::collections::BTreeMap;
 
 use common::memories::{arbitrary_memory, arbitrary_opening, assert_rest_kept};
 use common::naive::{NaiveFile, NaiveSession};
-use common::{any_list, followed, g, numbered, with_bytes, z};
+use common::{any_list, followed, g_tariff, numbered, with_bytes, z};
 use reference::random::Random;
 use reference::session::following;
 use reference::{answer, days, Board, Issuer, Lane, Pair, Session};
@@ -53,6 +53,7 @@ fn arbitrary_board(random: &mut Random, few: &[Issuer]) -> Board {
         },
         payments: small_or_edge(random),
         centavos: small_or_edge(random),
+        tariff: small_or_edge(random),
         ..Board::new()
     };
     for lane in &mut board.lanes {
@@ -64,6 +65,7 @@ fn arbitrary_board(random: &mut Random, few: &[Issuer]) -> Board {
             },
             payments: small_or_edge(random),
             centavos: small_or_edge(random),
+            tariff: small_or_edge(random),
         };
     }
     board
@@ -113,7 +115,7 @@ fn any_record(random: &mut Random, session: &Session, few: &[Issuer], pairs: &[P
         _ => {
             let issuer = few[random.index(few.len())];
             let code = days::barcode_of(random, issuer).unwrap();
-            let payment = g(&code, random.number(12));
+            let payment = g_tariff(&code, random.number(12), random.number(7));
             match random.below(4) {
                 0 => with_bytes(payment, 117, &[random.one_of(b"06789:`fghij")]),
                 1 => with_bytes(payment, 141, &[random.one_of(b"034567")]),
@@ -169,6 +171,14 @@ fn rare(before: &Session, record: &[u8], number: u64) -> Option<&'static str> {
     }
 }
 
+/// What is counted of an answer: its number, and of 18, which has two places, the place too.
+fn counted(answer: (u64, usize)) -> (u64, usize) {
+    match answer {
+        (18, place) => (18, place),
+        (number, _) => (number, 0),
+    }
+}
+
 #[test]
 fn arbitrary_sessions_against_the_naive_one() {
     let mut random = Random::new(64);
@@ -192,11 +202,13 @@ fn arbitrary_sessions_against_the_naive_one() {
             Err(_) => assert_eq!(session, before),
         }
         let number = answer(&outcome).0;
-        *seen.entry(number).or_insert(0) += 1;
+        *seen.entry(counted(answer(&outcome))).or_insert(0) += 1;
         *rares.entry(rare(&before, &record, number)).or_insert(0) += 1;
     }
-    for number in [0, 1, 9, 10, 11, 12, 13, 14, 15, 16, 17, 18, 22, 25, 26, 27] {
-        assert!(seen.get(&number) > Some(&100), "{number} of {seen:?}");
+    let numbers = [0, 1, 9, 10, 11, 12, 13, 14, 15, 16, 17, 22, 25, 26, 27];
+    let sums = [(18, 82), (18, 94)];
+    for wanted in numbers.map(|number| (number, 0)).into_iter().chain(sums) {
+        assert!(seen.get(&wanted) > Some(&100), "{wanted:?} of {seen:?}");
     }
     for wanted in RARE {
         assert!(rares.get(&Some(wanted)) > Some(&30), "{rares:?}");

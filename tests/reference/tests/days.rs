@@ -66,6 +66,10 @@ fn days_with_0_to_70_issuers() {
                 session.board().centavos,
                 lanes.iter().map(|lane| lane.centavos).sum::<u64>()
             );
+            assert_eq!(
+                session.board().tariff,
+                lanes.iter().map(|lane| lane.tariff).sum::<u64>()
+            );
         }
     }
 }

@@ -149,6 +149,7 @@ fn all_other_checks_come_before_the_line_end() {
     };
     let full = with(&|session| session.working.used = 64);
     let heavy = with(&|session| session.working.centavos = 1_000_000_000_000_000_000);
+    let dear = with(&|session| session.working.tariff = 1_000_000_000_000_000_000);
     let many = with(&|session| session.taken = 999_997);
     let rich = with(&|session| session.total = 99_999_999_999_999_999);
     let strange = with(&|session| session.version = 77);
@@ -169,6 +170,7 @@ fn all_other_checks_come_before_the_line_end() {
         (rich, good, 16, 82),
         (full, other, 17, 53),
         (heavy, good, 18, 82),
+        (dear, good, 18, 94),
         (strange, good, 10, 80),
     ] {
         assert_refused(&mut session, &lined(&record), number, place);

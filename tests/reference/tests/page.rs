@@ -29,17 +29,19 @@ fn records_of_the_open_file_count() {
             "lanes=1",
             "payments=1",
             "centavos=109",
+            "tariff=150",
             "lane=1",
             "issuer=1-3659",
             "payments=1",
             "centavos=109",
+            "tariff=150",
         ],
     );
 }
 
 #[test]
 fn an_open_file() {
-    let zeros = ["lanes=0", "payments=0", "centavos=0"];
+    let zeros = ["lanes=0", "payments=0", "centavos=0", "tariff=0"];
     let good = g(&p4_code(), 109);
     let open = ["answer=19", "place=0", "record=2", "files=0"];
     assert_page(&[a(), good].concat(), &[&open[..], &zeros[..]].concat());
@@ -60,6 +62,7 @@ fn an_empty_input() {
             "lanes=0",
             "payments=0",
             "centavos=0",
+            "tariff=0",
         ],
     );
 }
@@ -71,10 +74,12 @@ fn line_ends() {
         "lanes=1",
         "payments=1",
         "centavos=109",
+        "tariff=150",
         "lane=1",
         "issuer=1-3659",
         "payments=1",
         "centavos=109",
+        "tariff=150",
     ];
     let input = [&good.concat()[..], b"\n"].concat();
     let head = ["answer=1", "place=0", "record=3", "files=1"];
@@ -83,7 +88,7 @@ fn line_ends() {
     let input = lined_all(&good);
     let head = ["answer=0", "place=0", "record=3", "files=1"];
     assert_page(&input, &[&head[..], &lane[..]].concat());
-    let none = ["lanes=0", "payments=0", "centavos=0"];
+    let none = ["lanes=0", "payments=0", "centavos=0", "tariff=0"];
     let head = ["answer=22", "place=151", "record=2", "files=0"];
     assert_page(&input[..455], &[&head[..], &none[..]].concat());
     // After each record but the header.
@@ -109,14 +114,17 @@ fn issuers_keep_their_zeros() {
             "lanes=2",
             "payments=2",
             "centavos=7",
+            "tariff=300",
             "lane=1",
             "issuer=6-00000012",
             "payments=1",
             "centavos=7",
+            "tariff=150",
             "lane=2",
             "issuer=1-0012",
             "payments=1",
             "centavos=0",
+            "tariff=150",
         ],
     );
 }
@@ -125,7 +133,7 @@ fn issuers_keep_their_zeros() {
 fn number_and_place_may_be_any_numbers() {
     for (number, place) in [(0, 7), (20, 0), (22, 151), (u64::MAX, u64::MAX)] {
         let text = String::from_utf8(page::page(number, place, 1, 2, &Board::new())).unwrap();
-        let rest = "record=1\nfiles=2\nlanes=0\npayments=0\ncentavos=0\n";
+        let rest = "record=1\nfiles=2\nlanes=0\npayments=0\ncentavos=0\ntariff=0\n";
         assert_eq!(text, format!("answer={number}\nplace={place}\n{rest}"));
     }
 }
@@ -144,10 +152,12 @@ fn the_page_of_two_versions() {
             "lanes=1",
             "payments=1",
             "centavos=5",
+            "tariff=150",
             "lane=1",
             "issuer=1-3659",
             "payments=1",
             "centavos=5",
+            "tariff=150",
         ],
     );
 }
@@ -171,14 +181,17 @@ fn the_page_of_17_pairs() {
             "lanes=2",
             "payments=16",
             "centavos=1720",
+            "tariff=2400",
             "lane=1",
             "issuer=1-3659",
             "payments=8",
             "centavos=856",
+            "tariff=1200",
             "lane=2",
             "issuer=2-0007",
             "payments=8",
             "centavos=864",
+            "tariff=1200",
         ],
     );
 }
@@ -201,24 +214,25 @@ fn arbitrary_boards() {
     ];
     let mut board = Board::new();
     board.used = issuers.len();
-    let mut expected =
-        "answer=0\nplace=0\nrecord=0\nfiles=0\nlanes=7\npayments=0\ncentavos=0\n".to_string();
+    let head = "answer=0\nplace=0\nrecord=0\nfiles=0\nlanes=7\n";
+    let mut expected = format!("{head}payments=0\ncentavos=0\ntariff=0\n");
     for (i, (segment, number, text)) in issuers.into_iter().enumerate() {
         board.lanes[i] = Lane {
             issuer: Issuer { segment, number },
             payments: u64::MAX,
             centavos: 0,
+            tariff: 0,
         };
-        let lane = i + 1;
-        expected +=
-            &format!("lane={lane}\nissuer={text}\npayments=18446744073709551615\ncentavos=0\n");
+        expected += &format!("lane={}\nissuer={text}\n", i + 1);
+        expected += "payments=18446744073709551615\ncentavos=0\ntariff=0\n";
     }
     let printed = |board: &Board| String::from_utf8(page::page(0, 0, 0, 0, board)).unwrap();
     assert_eq!(printed(&board), expected);
     // The lanes in use are the first `used` of the 64.
     board.used = 0;
-    assert!(printed(&board).ends_with("lanes=0\npayments=0\ncentavos=0\n"));
+    assert!(printed(&board).ends_with("lanes=0\npayments=0\ncentavos=0\ntariff=0\n"));
     board.used = usize::MAX;
     assert!(printed(&board).contains("\nlanes=64\n"));
-    assert!(printed(&board).ends_with("lane=64\nissuer=0-0000\npayments=0\ncentavos=0\n"));
+    let last = "lane=64\nissuer=0-0000\npayments=0\ncentavos=0\ntariff=0\n";
+    assert!(printed(&board).ends_with(last));
 }

@@ -6,7 +6,7 @@ use std::fs::File;
 use std::io::{self, Read, Write};
 use std::process::{Command, Output, Stdio};
 
-use common::{a, a_of, code_for, g, naive, p4_code, z};
+use common::{a, a_of, code_for, g_tariff, naive, p4_code, z};
 use reference::days::{self, Form};
 use reference::page::{page_of, read_page};
 use reference::random::Random;
@@ -20,14 +20,17 @@ files=1
 lanes=1
 payments=1
 centavos=109
+tariff=0
 lane=1
 issuer=1-3659
 payments=1
 centavos=109
+tariff=0
 ";
 
+/// The worked input, whose payment has tariff 0.
 fn sample() -> Vec<u8> {
-    [a(), g(&p4_code(), 109), z(3, 109)].concat()
+    [a(), g_tariff(&p4_code(), 109, 0), z(3, 109)].concat()
 }
 
 fn run(input: &[u8]) -> Output {
@@ -46,6 +49,7 @@ fn run(input: &[u8]) -> Output {
 
 #[test]
 fn the_sample_page() {
+    assert_eq!(&sample()[231..250], b"0000000001090000000");
     assert_eq!(&sample()[300..324], b"Z00000300000000000000109");
     assert_eq!(page_of(&sample()), SAMPLE.as_bytes());
     let output = run(&sample());
@@ -77,7 +81,7 @@ fn the_program_prints_the_page_of_any_input() {
         );
         assert!(output.status.success());
     }
-    let zeros = "record=0\nfiles=0\nlanes=0\npayments=0\ncentavos=0\n";
+    let zeros = "record=0\nfiles=0\nlanes=0\npayments=0\ncentavos=0\ntariff=0\n";
     assert_eq!(
         run(b"").stdout,
         format!("answer=0\nplace=0\n{zeros}").as_bytes()
@@ -92,7 +96,7 @@ fn the_program_prints_the_page_of_any_input() {
 #[test]
 fn many_pieces() {
     let mut input = a().to_vec();
-    let payment = g(&code_for(6, 7), 2);
+    let payment = g_tariff(&code_for(6, 7), 2, 3);
     for _ in 0..10_000 {
         input.extend_from_slice(&payment);
     }
@@ -101,8 +105,8 @@ fn many_pieces() {
     input.extend_from_slice(&a_of(2));
     input.extend_from_slice(&payment);
     let text = |input: &[u8]| String::from_utf8(run(input).stdout).unwrap();
-    let lane = "lane=1\nissuer=6-00000007\npayments=10000\ncentavos=20000\n";
-    let board = format!("lanes=1\npayments=10000\ncentavos=20000\n{lane}");
+    let sums = "payments=10000\ncentavos=20000\ntariff=30000\n";
+    let board = format!("lanes=1\n{sums}lane=1\nissuer=6-00000007\n{sums}");
     assert_eq!(
         text(&good),
         format!("answer=0\nplace=0\nrecord=10002\nfiles=1\n{board}")
@@ -171,7 +175,7 @@ fn pieces_do_not_matter() {
 fn it_stops_at_the_first_refusal() {
     // An endless input.
     let page = read_page(io::repeat(b'x')).unwrap();
-    let zeros = "record=0\nfiles=0\nlanes=0\npayments=0\ncentavos=0\n";
+    let zeros = "record=0\nfiles=0\nlanes=0\npayments=0\ncentavos=0\ntariff=0\n";
     assert_eq!(
         String::from_utf8(page).unwrap(),
         format!("answer=9\nplace=1\n{zeros}")

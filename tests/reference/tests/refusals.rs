@@ -114,6 +114,8 @@ fn each_number_with_its_place() {
     assert_seen(take(session(0, 0, full), &good), 17, 53);
     let heavy = |board: &mut Board| board.centavos = 1_000_000_000_000_000_000;
     assert_seen(take(session(0, 0, heavy), &good), 18, 82);
+    let dear = |board: &mut Board| board.tariff = 1_000_000_000_000_000_000;
+    assert_seen(take(session(0, 0, dear), &good), 18, 94);
     assert_seen(session(0, 0, none).finish(), 19, 0);
     let in_lines = Session {
         lined: true,

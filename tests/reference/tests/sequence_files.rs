@@ -88,8 +88,8 @@ fn a_day_loaded_twice() {
 
 #[test]
 fn the_page_of_a_file_loaded_twice() {
-    let lane = "lane=1\nissuer=1-3659\npayments=1\ncentavos=5\n";
-    let board = format!("lanes=1\npayments=1\ncentavos=5\n{lane}");
+    let sums = "payments=1\ncentavos=5\ntariff=150\n";
+    let board = format!("lanes=1\n{sums}lane=1\nissuer=1-3659\n{sums}");
     let twice = [file(a_of(41)), file(a_of(41))].concat();
     let expected = format!("answer=26\nplace=74\nrecord=3\nfiles=1\n{board}");
     assert_eq!(String::from_utf8(page_of(&twice)).unwrap(), expected);

@@ -187,6 +187,7 @@ fn arbitrary_sessions() {
         issuer: barcode::decode(&code, &[]).unwrap().issuer(),
         payments: 0,
         centavos: 0,
+        tariff: 0,
     };
     assert_answer(crowded.take(&g(&code, 1), &[]), 0, 0);
     assert_eq!(crowded.working.used, usize::MAX);
@@ -249,6 +250,7 @@ fn issuers_differ_by_segment() {
     }
     let lanes = session.board().in_use();
     assert_eq!(lanes.len(), 2);
-    assert_eq!((lanes[0].payments, lanes[0].centavos), (2, 5));
-    assert_eq!((lanes[1].payments, lanes[1].centavos), (1, 2));
+    let numbers = |lane: &Lane| (lane.payments, lane.centavos, lane.tariff);
+    assert_eq!(numbers(&lanes[0]), (2, 5, 300));
+    assert_eq!(numbers(&lanes[1]), (1, 2, 150));
 }

@@ -45,6 +45,7 @@ impl Form {
 pub struct Posted {
     pub issuer: Issuer,
     pub received: u64,
+    pub tariff: u64,
 }
 
 /// A day: its consecutive records, and the payments of each file.
@@ -63,11 +64,13 @@ impl Day {
                 Some(lane) => {
                     lane.payments = lane.payments.saturating_add(1);
                     lane.centavos = lane.centavos.saturating_add(posted.received);
+                    lane.tariff = lane.tariff.saturating_add(posted.tariff);
                 }
                 None => lanes.push(Lane {
                     issuer: posted.issuer,
                     payments: 1,
                     centavos: posted.received,
+                    tariff: posted.tariff,
                 }),
             }
         }
@@ -155,14 +158,14 @@ fn file(
         let code = barcode_under(random, issuer, agreed)?;
         let fields = payment_fields(random, &code, writer.version);
         let received = random.number(AMOUNT_DIGITS);
-        writer.payment(
-            &fields,
+        let tariff = random.number(7);
+        let record = new_record(&mut day.bytes, room);
+        writer.payment(&fields, received, tariff, agreed, record)?;
+        payments.push(Posted {
+            issuer,
             received,
-            random.number(7),
-            agreed,
-            new_record(&mut day.bytes, room),
-        )?;
-        payments.push(Posted { issuer, received });
+            tariff,
+        });
     }
     writer.trailer(new_record(&mut day.bytes, room))?;
     day.files.push(payments);

@@ -72,12 +72,17 @@ pub fn memory_of_a() -> Memory {
     memory
 }
 
-/// A payment of a barcode, spelled out. Its codes are of both versions.
+/// A payment of a barcode with tariff 150, spelled out. Its codes are of both versions.
 pub fn g(code: &[u8; 44], received: u64) -> [u8; 150] {
+    g_tariff(code, received, 150)
+}
+
+/// The same payment with this tariff.
+pub fn g_tariff(code: &[u8; 44], received: u64, tariff: u64) -> [u8; 150] {
     let code = String::from_utf8(code.to_vec()).expect("digits");
     let text = format!(
-        "G{:<20}{DATE}{DATE}{code}{received:012}{:07}{:08}{:<8}a{:<23}2{:9}",
-        "ACCOUNT", 150, 1, "BRANCH", "AUTHENTICATION", ""
+        "G{:<20}{DATE}{DATE}{code}{received:012}{tariff:07}{:08}{:<8}a{:<23}2{:9}",
+        "ACCOUNT", 1, "BRANCH", "AUTHENTICATION", ""
     );
     text.as_bytes().try_into().expect("150 bytes")
 }

@@ -3,14 +3,15 @@
 use super::{list, number, record, Answer, History, NaiveFile, Outcome};
 use reference::{answer, Board, Lane, RunResult, Session};
 
-/// A lane: segment, number, payments, centavos.
-pub type NaiveLane = (u128, u128, u128, u128);
+/// A lane: segment, number, payments, centavos, tariff.
+pub type NaiveLane = (u128, u128, u128, u128, u128);
 
 #[derive(Clone, Debug, Default, PartialEq, Eq)]
 pub struct NaiveBoard {
     pub lanes: Vec<NaiveLane>,
     pub payments: u128,
     pub centavos: u128,
+    pub tariff: u128,
 }
 
 impl NaiveBoard {
@@ -21,13 +22,47 @@ impl NaiveBoard {
                 u128::from(lane.issuer.number),
                 u128::from(lane.payments),
                 u128::from(lane.centavos),
+                u128::from(lane.tariff),
             )
         };
         NaiveBoard {
             lanes: board.lanes.iter().take(board.used).map(lane).collect(),
             payments: u128::from(board.payments),
             centavos: u128::from(board.centavos),
+            tariff: u128::from(board.tariff),
         }
+    }
+
+    /// Adds one payment of an issuer: segment, number. The sums are looked at when all of them are made.
+    fn post(&mut self, issuer: (u128, u128), received: u128, tariff: u128) -> Outcome<()> {
+        let is_its = |lane: &NaiveLane| (lane.0, lane.1) == issuer;
+        if !self.lanes.iter().any(is_its) {
+            self.lanes.push((issuer.0, issuer.1, 0, 0, 0));
+        }
+        if self.lanes.len() > 64 {
+            return Err((17, 53));
+        }
+        let i = self.lanes.iter().position(is_its).expect("just put there");
+        let lane = &mut self.lanes[i];
+        lane.2 += 1;
+        lane.3 += received;
+        lane.4 += tariff;
+        self.payments += 1;
+        self.centavos += received;
+        self.tariff += tariff;
+        for (sum, place) in [
+            (self.payments, 82),
+            (lane.2, 82),
+            (self.centavos, 82),
+            (lane.3, 82),
+            (self.tariff, 94),
+            (lane.4, 94),
+        ] {
+            if sum > E18 {
+                return Err((18, place));
+            }
+        }
+        Ok(())
     }
 }
 
@@ -146,29 +181,8 @@ impl NaiveSession {
         if self.total > 99_999_999_999_999_999 {
             return Err((16, 82));
         }
-        let lanes = &mut self.working.lanes;
-        if !lanes
-            .iter()
-            .any(|lane| (lane.0, lane.1) == (segment, issuer))
-        {
-            lanes.push((segment, issuer, 0, 0));
-        }
-        if lanes.len() > 64 {
-            return Err((17, 53));
-        }
-        let found = lanes
-            .iter_mut()
-            .find(|lane| (lane.0, lane.1) == (segment, issuer));
-        let lane = found.expect("just put there");
-        lane.2 += 1;
-        lane.3 += received;
-        self.working.payments += 1;
-        self.working.centavos += received;
-        let sums = [lane.2, lane.3, self.working.payments, self.working.centavos];
-        if sums.iter().any(|sum| *sum > E18) {
-            return Err((18, 82));
-        }
-        Ok(())
+        let tariff = number(&bytes[93..100]);
+        self.working.post((segment, issuer), received, tariff)
     }
 }
 
@@ -241,27 +255,22 @@ pub fn page(input: &[u8]) -> String {
     if answer.0 == 0 && session.open {
         answer = (19, 0);
     }
-    let NaiveBoard {
-        lanes,
-        payments,
-        centavos,
-    } = session.shown;
     let mut text = format!(
         "answer={}\nplace={}\nrecord={records}\nfiles={files}\n",
         answer.0, answer.1
     );
-    text += &format!(
-        "lanes={}\npayments={payments}\ncentavos={centavos}\n",
-        lanes.len()
-    );
-    for (i, (segment, number, payments, centavos)) in lanes.iter().enumerate() {
-        let issuer = if *segment == 6 {
-            format!("{number:08}")
-        } else {
-            format!("{number:04}")
-        };
-        text += &format!("lane={}\nissuer={segment}-{issuer}\n", i + 1);
-        text += &format!("payments={payments}\ncentavos={centavos}\n");
+    let board = session.shown;
+    text += &format!("lanes={}\n", board.lanes.len());
+    text += &tally(board.payments, board.centavos, board.tariff);
+    for (i, lane) in board.lanes.iter().enumerate() {
+        let (segment, number, payments, centavos, tariff) = *lane;
+        let width = if segment == 6 { 8 } else { 4 };
+        text += &format!("lane={}\nissuer={segment}-{number:0width$}\n", i + 1);
+        text += &tally(payments, centavos, tariff);
     }
     text
+}
+
+fn tally(payments: u128, centavos: u128, tariff: u128) -> String {
+    format!("payments={payments}\ncentavos={centavos}\ntariff={tariff}\n")
 }
