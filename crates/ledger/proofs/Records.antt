@@ -1,21 +1,19 @@
 -- What the ledger reads off payment records is what the session and the board make of them. Assumes nothing.
-use Prim.Native.Nat.{ℕ, _+_}
-use mathlib.Core.Bool.{Bool, _&&_}
+use Prim.Native.Nat.{ℕ, _+_, _*_, _≤_, _<_}
 use mathlib.Core.List.{List, [], _∷_, _++_, append-assoc}
-use mathlib.Core.Path.{_≡_, refl, sym, ap, ap₂, _∙_}
+use mathlib.Core.Path.{_≡_, refl, sym, ap, _∙_}
 use native.Mathlib.Omega.{arith}
-use lib.Dec.{leb}
-use lib.ListN.{length, length-map}
-use Rattle.answer.specs.Refusals.{receivedPlace, issuerPlace}
-use Rattle.answer.specs.declared.Reason.the-variants.{BoardFull, BoardTotalPassed}
-use Rattle.answer.specs.Orders.{require, _then_}
+use native.Mathlib.Nat.{pow-le-pow-right, lt-of-lt-of-le}
+use lib.Dec.{lit<}
+use lib.ListN.{length, take, drop, length-map, length-take}
+use Rattle.decimal.proofs.Numbers.{number-fits}
 use Rattle.barcode.specs.declared.Issuer.{Issuer}
-use Rattle.board.specs.declared.Tally.{Tally}
+use Rattle.layout.specs.Layouts.{layoutOf, rowAt, table}
 use Rattle.board.specs.declared.Lane.{Lane}
-use Rattle.board.specs.Lanes.{mostLanes, limit, fits, lanesFrom, tallySum, sumBy, each, issuersOf, isAmong, appearing}
+use Rattle.board.specs.Lanes.{paymentsFit, tariffFits, lanesFrom, tallySum, sumBy, each, issuersOf, isAmong, appearing}
 use Rattle.board.proofs.Tallies.{alike}
-use Rattle.board.proofs.Lanes.{payments-add, centavos-add, sum-read, in-order-of-appearance}
-use Rattle.ledger.specs.Ledgers.{Filed, paymentRecords, laneOfRecord, lanesOfRecords, receivedBy, receivedIn, isSeen, issuersNamed}
+use Rattle.board.proofs.Lanes.{payments-add, centavos-add, tariffs-add, sum-read, in-order-of-appearance}
+use Rattle.ledger.specs.Ledgers.{Filed, paymentRecords, laneOfRecord, lanesOfRecords, receivedBy, receivedIn, tariffOf, tariffIn, isSeen, issuersNamed}
 use Rattle.ledger.specs.Records.{LaneIsTheSessions, EqualIsTheBoards, IssuersAreTheLanes, LimitsAreTheBoards}
 
 -- Its lanes are the session's, its issuers the board's.
@@ -49,11 +47,27 @@ pub lanes-sum : (recs : List (List ℕ)) → sumBy (each (λ t. t .centavos)) (l
 lanes-sum [] = refl
 lanes-sum (rec ∷ recs) = omega (arith, lanes-sum recs)
 
+pub lanes-tariff : (recs : List (List ℕ)) → sumBy (each (λ t. t .tariff)) (lanesOfRecords recs) ≡ tariffIn recs
+lanes-tariff [] = refl
+lanes-tariff (rec ∷ recs) = omega (arith, lanes-tariff recs)
+
 pub lanes-tally : (recs : List (List ℕ))
-    → tallySum (lanesOfRecords recs) ≡ record { payments = length recs; centavos = receivedIn recs }
+    → tallySum (lanesOfRecords recs) ≡ record { payments = length recs; centavos = receivedIn recs; tariff = tariffIn recs }
 lanes-tally recs =
     alike (sum-read (λ t. t .payments) payments-add (lanesOfRecords recs) ∙ lanes-count recs)
     (sum-read (λ t. t .centavos) centavos-add (lanesOfRecords recs) ∙ lanes-sum recs)
+    (sum-read (λ t. t .tariff) tariffs-add (lanesOfRecords recs) ∙ lanes-tariff recs)
+
+-- a tariff has seven digits, so its sum is far below the limit
+tariff-small : (rec : List ℕ) → tariffOf rec < 10_000_000
+unfolding rowAt table layoutOf
+tariff-small rec =
+    let few : length (take 7 (drop 93 rec)) ≤ 7 = omega (arith, length-take 7 (drop 93 rec)) in
+    lt-of-lt-of-le (number-fits (take 7 (drop 93 rec))) (pow-le-pow-right (lit< tt) few)
+
+pub tariffs-small : (recs : List (List ℕ)) → tariffIn recs ≤ length recs * 10_000_000
+tariffs-small [] = omega arith
+tariffs-small (rec ∷ recs) = let h = tariff-small rec in omega (arith, tariffs-small recs)
 
 -- 17 and 18.
 
@@ -68,17 +82,11 @@ few-issuers recs =
     let as-many : length (issuersOf lanes) ≡ length lanes = simp length-map in
     sym as-many ∙ ap length (issuers-are-the-lanes recs)
 
-sums-fit : (recs : List (List ℕ))
-    → fits (tallySum (lanesOfRecords recs)) ≡ (leb (length recs) limit && leb (receivedIn recs) limit)
-unfolding fits
-sums-fit recs = ap (λ (t : Tally). leb (t .payments) limit && leb (t .centavos) limit) (lanes-tally recs)
-
 pub limits-are-the-boards : LimitsAreTheBoards
+unfolding paymentsFit tariffFits
 limits-are-the-boards recs rec =
     let all = recs ++ (rec ∷ []) in
-    rw (← lanes-joined recs rec)
-    (ap₂ (λ (t u : Bool). require t BoardFull issuerPlace then require u BoardTotalPassed receivedPlace)
-    (ap (λ (n : ℕ). leb n mostLanes) (few-issuers all)) (sums-fit all))
+    rw (← lanes-joined recs rec, few-issuers all, lanes-tally all)
 
 -- More of them.
 

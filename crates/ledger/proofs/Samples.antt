@@ -12,18 +12,22 @@ use Rattle.kinds.specs.Kinds.{isVersionText, isService, dateAnswer, isCapture, 
 use Rattle.record.specs.Records.{fieldAnswer, recordAnswer}
 use Rattle.file.specs.Files.{fileAnswer, figuresAnswer}
 use Rattle.file.specs.Forms.{hasLineEnd, fitsLength, endAnswer}
-use Rattle.board.specs.Lanes.{fits}
-use Rattle.board.specs.Boards.{ownOf, usedAfter, slotAnswer}
+use Rattle.board.specs.Lanes.{paymentsFit, tariffFits}
+use Rattle.board.specs.Boards.{ownOf, usedAfter, sumsAnswer, slotAnswer}
 use Rattle.pairs.specs.Pairs.{nextNumber, isSamePair, memoryWith}
 use Rattle.ledger.specs.Samples.{samples, Hold}
 use Rattle.ledger.specs.NumberSamples.{NumbersHold}
+use Rattle.ledger.specs.TariffSamples.{TariffsHold}
 
-both : Hold samples × NumbersHold
-unfolding recordAnswer versionAnswer listAnswer freeAnswer isAgreed keyOf isIssuer fieldAnswer kindAnswer isVersionText isService dateAnswer isCapture isForm namedBy layoutOf table rowAt hasLineEnd fitsLength endAnswer figuresAnswer fileAnswer fits ownOf usedAfter slotAnswer nextNumber isSamePair memoryWith firstThreeAnswer generalRight termOf addedBy digitOfRemainder dateOf isDate daysIn isLeap digitsOf valueOf isOf
-both = (refl, refl)
+all : Hold samples × NumbersHold × TariffsHold
+unfolding recordAnswer versionAnswer listAnswer freeAnswer isAgreed keyOf isIssuer fieldAnswer kindAnswer isVersionText isService dateAnswer isCapture isForm namedBy layoutOf table rowAt hasLineEnd fitsLength endAnswer figuresAnswer fileAnswer paymentsFit tariffFits ownOf usedAfter sumsAnswer slotAnswer nextNumber isSamePair memoryWith firstThreeAnswer generalRight termOf addedBy digitOfRemainder dateOf isDate daysIn isLeap digitsOf valueOf isOf
+all = (refl, refl, refl)
 
 pub samples-hold : Hold samples
-samples-hold = both .0
+samples-hold = all .0
 
 pub numbers-hold : NumbersHold
-numbers-hold = both .1
+numbers-hold = all .1
+
+pub tariffs-hold : TariffsHold
+tariffs-hold = all .2

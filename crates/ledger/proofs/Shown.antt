@@ -7,18 +7,18 @@ use native.Mathlib.Omega.{arith}
 use borrow.Author.Tests.{eq-eqb}
 use lib.ListN.{length}
 use Rattle.answer.specs.Orders.{Each}
-use Rattle.answer.proofs.Orders.{each-both}
+use Rattle.answer.proofs.Orders.{each-map}
 use Rattle.answer.proofs.Tests.{split}
 use Rattle.barcode.specs.declared.Issuer.{Issuer}
 use Rattle.board.specs.declared.Tally.{Tally}
 use Rattle.board.specs.declared.Lane.{Lane}
-use Rattle.board.specs.Lanes.{sameIssuer, isLaneOf, lanesFrom, sumBy, only, issuersOf, isAmong, Distinct}
+use Rattle.board.specs.Lanes.{sameIssuer, isLaneOf, lanesFrom, sumBy, Adds, each, only, issuersOf, isAmong, Distinct}
 use Rattle.board.proofs.Tallies.{low, alike}
-use Rattle.board.proofs.Lanes.{same-is, payments-add, centavos-add, sum-read, sums-agree, own-sums-agree, no-issuer-twice}
+use Rattle.board.proofs.Lanes.{same-is, payments-add, centavos-add, tariffs-add, sum-read, sums-agree, own-sums-agree, no-issuer-twice}
 use Rattle.board.proofs.Posting.{length-lanes}
-use Rattle.ledger.specs.Ledgers.{laneOfRecord, lanesOfRecords, receivedIn, ofIssuer}
+use Rattle.ledger.specs.Ledgers.{laneOfRecord, lanesOfRecords, ofIssuer}
 use Rattle.ledger.specs.Promises.{reached, shownLanes, acceptedRecords, LanesAreThePayments, LanesInOrder, EachLaneIsExact, SumsAreTheRecords, TotalsAreTheRecords, NoIssuerHasTwoLanes, WithinLimits}
-use Rattle.ledger.proofs.Records.{issuers-are-the-lanes, lanes-count, lanes-sum}
+use Rattle.ledger.proofs.Records.{issuers-are-the-lanes, lanes-count, lanes-sum, lanes-tariff}
 use Rattle.ledger.proofs.Agreement.{session-agrees}
 
 pub lanes-are-the-payments : LanesAreThePayments
@@ -38,7 +38,9 @@ pub sums-are-the-records : SumsAreTheRecords
 sums-are-the-records steps =
     let recs = acceptedRecords steps in
     rw (lanes-are-the-payments steps)
-    (sums-agree (λ t. t .payments) payments-add (lanesOfRecords recs) ∙ lanes-count recs, sums-agree (λ t. t .centavos) centavos-add (lanesOfRecords recs) ∙ lanes-sum recs)
+    (sums-agree (λ t. t .payments) payments-add (lanesOfRecords recs) ∙ lanes-count recs,
+    sums-agree (λ t. t .centavos) centavos-add (lanesOfRecords recs) ∙ lanes-sum recs,
+    sums-agree (λ t. t .tariff) tariffs-add (lanesOfRecords recs) ∙ lanes-tariff recs)
 
 pub totals-are-the-records : TotalsAreTheRecords
 totals-are-the-records steps =
@@ -47,12 +49,13 @@ totals-are-the-records steps =
     alike
     (ap (λ (t : Tally). t .payments) sum ∙ sum-read (λ t. t .payments) payments-add (shownLanes steps) ∙ sums .0)
     (ap (λ (t : Tally). t .centavos) sum ∙ sum-read (λ t. t .centavos) centavos-add (shownLanes steps) ∙ sums .1)
+    (ap (λ (t : Tally). t .tariff) sum ∙ sum-read (λ t. t .tariff) tariffs-add (shownLanes steps) ∙ sums .2)
 
 pub within-limits : WithinLimits
 within-limits steps =
     let sound = session-agrees steps .soundShown in
     let totals = low (reached steps .shown .total) (sound .low) in
-    (omega (arith, length-lanes (reached steps .shown) sound, sound .few), totals .payments, totals .centavos)
+    (omega (arith, length-lanes (reached steps .shown) sound, sound .few), totals .payments, totals .centavos, totals .tariff)
 
 -- Each lane.
 
@@ -71,58 +74,53 @@ neither true u e = absurd (false≢true (sym e))
 neither false u e = (refl, e)
 
 -- if no issuer has two lanes, an issuer's sum is what its lane shows
-module _ (w : Tally → ℕ) where
-  not-there : (i : Issuer) (ls : List Lane) → isAmong i (issuersOf ls) ≡ false → sumBy (only i w) ls ≡ 0
-  not-there i [] e = refl
-  not-there i (l ∷ ls) e =
-      let n = neither (sameIssuer (l .issuer) i) (isAmong i (issuersOf ls)) e in
-      rw (n .0) (omega (arith, not-there i ls (n .1)))
+not-there : (w : Tally → ℕ) (i : Issuer) (ls : List Lane) → isAmong i (issuersOf ls) ≡ false → sumBy (only i w) ls ≡ 0
+not-there w i [] e = refl
+not-there w i (l ∷ ls) e =
+    let n = neither (sameIssuer (l .issuer) i) (isAmong i (issuersOf ls)) e in
+    rw (n .0) (omega (arith, not-there w i ls (n .1)))
 
-  behind-lane : (l : Lane) (ls ms : List Lane) → isAmong (l .issuer) (issuersOf ms) ≡ false
-      → Each (λ (m : Lane). sumBy (only (m .issuer) w) ls ≡ w (m .tally)) ms
-      → Each (λ (m : Lane). sumBy (only (m .issuer) w) (l ∷ ls) ≡ w (m .tally)) ms
-  behind-lane l ls [] e h = tt
-  behind-lane l ls (m ∷ ms) e h =
-      let n = neither (sameIssuer (m .issuer) (l .issuer)) (isAmong (l .issuer) (issuersOf ms)) e in
-      (rw (differ (m .issuer) (l .issuer) (n .0)) (omega (arith, h .0)), behind-lane l ls ms (n .1) (h .1))
+behind-lane : (l : Lane) (ls ms : List Lane) → isAmong (l .issuer) (issuersOf ms) ≡ false
+    → Each (λ (m : Lane). (w : Tally → ℕ) → sumBy (only (m .issuer) w) ls ≡ w (m .tally)) ms
+    → Each (λ (m : Lane). (w : Tally → ℕ) → sumBy (only (m .issuer) w) (l ∷ ls) ≡ w (m .tally)) ms
+behind-lane l ls [] e h = tt
+behind-lane l ls (m ∷ ms) e h =
+    let n = neither (sameIssuer (m .issuer) (l .issuer)) (isAmong (l .issuer) (issuersOf ms)) e in
+    (λ w. rw (differ (m .issuer) (l .issuer) (n .0)) (omega (arith, h .0 w)), behind-lane l ls ms (n .1) (h .1))
 
-  own-lanes : (ls : List Lane) → Distinct (issuersOf ls)
-      → Each (λ (l : Lane). sumBy (only (l .issuer) w) ls ≡ w (l .tally)) ls
-  own-lanes [] h = tt
-  own-lanes (l ∷ ls) h = (
-    rw (same-self (l .issuer)) (omega (arith, not-there (l .issuer) ls (h .0))),
-    behind-lane l ls ls (h .0) (own-lanes ls (h .1)),
-  )
+own-lanes : (ls : List Lane) → Distinct (issuersOf ls)
+    → Each (λ (l : Lane). (w : Tally → ℕ) → sumBy (only (l .issuer) w) ls ≡ w (l .tally)) ls
+own-lanes [] h = tt
+own-lanes (l ∷ ls) h = (
+  λ w. rw (same-self (l .issuer)) (omega (arith, not-there w (l .issuer) ls (h .0))),
+  behind-lane l ls ls (h .0) (own-lanes ls (h .1)),
+)
 
-own-count : (i : Issuer) (recs : List (List ℕ))
-    → sumBy (only i (λ t. t .payments)) (lanesOfRecords recs) ≡ length (ofIssuer i recs)
-own-count i [] = refl
-own-count i (rec ∷ recs) =
-    split (λ (own : List (List ℕ)). sumBy (only i (λ t. t .payments)) (lanesOfRecords (rec ∷ recs)) ≡ length own)
+-- an issuer's sum over records is that over its own records
+own-sum : (w : Tally → ℕ) (i : Issuer) (recs : List (List ℕ))
+    → sumBy (only i w) (lanesOfRecords recs) ≡ sumBy (each w) (lanesOfRecords (ofIssuer i recs))
+own-sum w i [] = refl
+own-sum w i (rec ∷ recs) =
+    split
+    (λ (own : List (List ℕ)). sumBy (only i w) (lanesOfRecords (rec ∷ recs)) ≡ sumBy (each w) (lanesOfRecords own))
     (isLaneOf i (laneOfRecord rec))
-    (λ t. rw t (omega (arith, own-count i recs)))
-    (λ t. rw t (omega (arith, own-count i recs)))
-
-own-received : (i : Issuer) (recs : List (List ℕ))
-    → sumBy (only i (λ t. t .centavos)) (lanesOfRecords recs) ≡ receivedIn (ofIssuer i recs)
-own-received i [] = refl
-own-received i (rec ∷ recs) =
-    split (λ (own : List (List ℕ)). sumBy (only i (λ t. t .centavos)) (lanesOfRecords (rec ∷ recs)) ≡ receivedIn own)
-    (isLaneOf i (laneOfRecord rec))
-    (λ t. rw t (omega (arith, own-received i recs)))
-    (λ t. rw t (omega (arith, own-received i recs)))
+    (λ t. rw t (omega (arith, own-sum w i recs)))
+    (λ t. rw t (omega (arith, own-sum w i recs)))
 
 pub each-lane-is-exact : EachLaneIsExact
 each-lane-is-exact steps =
     let recs = acceptedRecords steps in
     let lanes = lanesFrom (lanesOfRecords recs) in
-    let once = no-issuer-twice (lanesOfRecords recs) in
+    let own : (l : Lane) → ((w : Tally → ℕ) → sumBy (only (l .issuer) w) lanes ≡ w (l .tally))
+    → (w : Tally → ℕ) → Adds w → w (l .tally) ≡ sumBy (each w) (lanesOfRecords (ofIssuer (l .issuer) recs)) =
+    λ l h w adds.
+    sym (h w) ∙ own-sums-agree w adds (l .issuer) (lanesOfRecords recs) ∙ own-sum w (l .issuer) recs in
     rw (lanes-are-the-payments steps)
-    (each-both
-    (λ l p q. (
-      sym p ∙ own-sums-agree (λ t. t .payments) payments-add (l .issuer) (lanesOfRecords recs)
-          ∙ own-count (l .issuer) recs,
-      sym q ∙ own-sums-agree (λ t. t .centavos) centavos-add (l .issuer) (lanesOfRecords recs)
-          ∙ own-received (l .issuer) recs,
+    (each-map
+    (λ l h.
+    let its = ofIssuer (l .issuer) recs in (
+      own l h (λ t. t .payments) payments-add ∙ lanes-count its,
+      own l h (λ t. t .centavos) centavos-add ∙ lanes-sum its,
+      own l h (λ t. t .tariff) tariffs-add ∙ lanes-tariff its,
     ))
-    lanes (own-lanes (λ t. t .payments) lanes once) (own-lanes (λ t. t .centavos) lanes once))
+    lanes (own-lanes lanes (no-issuer-twice (lanesOfRecords recs))))

@@ -37,7 +37,7 @@ use Rattle.session.specs.Sessions.{freshSession, closedAt, openedAt, sessionWor
 use Rattle.ledger.specs.Ledgers.{laneOfRecord, lanesOfRecords, receivedBy, receivedIn, headerTerms, Step, taking}
 use Rattle.ledger.specs.Promises.{sessionAfter, answersOf}
 use Rattle.ledger.specs.WholeFiles.{IsRight, Whole, allInForm, fileOf, receivedEach, TrueFigures, AllAccepted, HeadersAskTheMemory, FileAccepted, FilePosted, FreshSessionAccepts, FreshSessionShows}
-use Rattle.ledger.proofs.Records.{lanes-tally}
+use Rattle.ledger.proofs.Records.{lanes-tally, tariffs-small}
 
 -- a header and a trailer are right under any terms
 pub right-under-any-terms : (t u : Terms) (r : Record) (rec : List ℕ) → isPayment (Is r) ≡ false → IsRight t r rec → IsRight u r rec
@@ -217,7 +217,8 @@ fresh-session-accepts agreed lined a recs z whole =
           (omega (arith, count, within .0), omega (arith, total, within .1), board .0 (t .2) .0, t .3),
       λ t.
           let fit =
-          low-fits (tallySum (lanesOfRecords recs)) (rw (lanes-tally recs) (record { payments = omega (arith, t .0); centavos = omega (arith, t .1) })) in
+          low-fits (tallySum (lanesOfRecords recs))
+          (rw (lanes-tally recs) (record { payments = omega (arith, t .0); centavos = omega (arith, t .1); tariff = omega (arith, t .0, tariffs-small recs) })) in
           all .1 (refl, file .1 (omega (arith, count, t .0), omega (arith, total, t .1)), board .1 (t .2, fit), t .3),
     )
 

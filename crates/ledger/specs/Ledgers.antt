@@ -7,7 +7,7 @@ use mathlib.Core.List.{List, [], _∷_, _++_, map}
 use mathlib.Core.Option.{Option, none, some}
 use lib.Dec.{eqb, ltb, leb}
 use lib.ListN.{length, getD}
-use Rattle.answer.specs.Refusals.{receivedPlace, issuerPlace, sequencePlace, agreementPlace}
+use Rattle.answer.specs.Refusals.{receivedPlace, tariffPlace, issuerPlace, sequencePlace, agreementPlace}
 use Rattle.answer.specs.declared.Reason.the-variants.{WrongLength, NotExpected, CountDiffers, TotalDiffers, FileFull}
 use Rattle.answer.specs.declared.Reason.the-variants.{FileTotalPassed, BoardFull, BoardTotalPassed, NotFollowing}
 use Rattle.answer.specs.declared.Reason.the-variants.{PairsFull}
@@ -20,7 +20,7 @@ use Rattle.barcode.specs.Agreed.{listAnswer}
 use Rattle.layout.specs.declared.MaybeRecord.{MaybeRecord}
 use Rattle.layout.specs.declared.MaybeRecord.the-variants.{Is, Other}
 use Rattle.layout.specs.declared.Record.the-variants.{Header, Payment, Trailer}
-use Rattle.layout.specs.Layouts.{namedBy, rowAt, agreementRow, bankRow, sequenceRow, barcodeRow, receivedRow}
+use Rattle.layout.specs.Layouts.{namedBy, rowAt, agreementRow, bankRow, sequenceRow, barcodeRow, receivedRow, tariffRow}
 use Rattle.record.specs.Records.{fieldBytes, recordAnswer}
 use Rattle.kinds.specs.Kinds.{same}
 use Rattle.kinds.specs.Terms.{Terms, told}
@@ -64,25 +64,35 @@ abbrev pub openRecords : Option Opened → List (List ℕ)
 openRecords none = []
 openRecords (some f) = f .payments
 
--- the issuer that a payment record names, in its barcode, and the centavos that it received
+-- the issuer that a payment record names, in its barcode, the centavos that it received, and its tariff
 abbrev pub issuerNamed : List ℕ → Issuer
 issuerNamed rec = issuerOf (fieldBytes (rowAt barcodeRow) rec)
 
 abbrev pub receivedBy : List ℕ → ℕ
 receivedBy rec = numberIn receivedRow rec
 
+abbrev pub tariffOf : List ℕ → ℕ
+tariffOf rec = numberIn tariffRow rec
+
 -- each payment record as a lane of one
 abbrev pub laneOfRecord : List ℕ → Lane
 laneOfRecord rec =
-    record { issuer = issuerNamed rec; tally = record { payments = 1; centavos = receivedBy rec } }
+    record {
+      issuer = issuerNamed rec;
+      tally = record { payments = 1; centavos = receivedBy rec; tariff = tariffOf rec };
+    }
 
 abbrev pub lanesOfRecords : List (List ℕ) → List Lane
 lanesOfRecords recs = map laneOfRecord recs
 
--- what they received
+-- what they received, and their tariffs
 abbrev pub receivedIn : List (List ℕ) → ℕ
 receivedIn [] = 0
 receivedIn (rec ∷ recs) = receivedBy rec + receivedIn recs
+
+abbrev pub tariffIn : List (List ℕ) → ℕ
+tariffIn [] = 0
+tariffIn (rec ∷ recs) = tariffOf rec + tariffIn recs
 
 -- two issuers are the same if their segments and their numbers are
 abbrev pub equalIssuers : Issuer → Issuer → Bool
@@ -162,11 +172,13 @@ ledgerExpects (some f) (Is Payment) = true
 ledgerExpects (some f) (Is Trailer) = true
 ledgerExpects (some f) Other = false
 
--- 17: these payments name more issuers than a board has lanes; 18: their number or what they received passes the limit
+-- 17: these payments name more issuers than a board has lanes; 18: their number or what they received passes the limit,
+-- and then, at its own place, their tariffs do
 abbrev pub limitsAnswer : List (List ℕ) → Answer
 limitsAnswer recs =
     require (leb (length (issuersNamed [] recs)) mostLanes) BoardFull issuerPlace
     then require (leb (length recs) limit && leb (receivedIn recs) limit) BoardTotalPassed receivedPlace
+    then require (leb (tariffIn recs) limit) BoardTotalPassed tariffPlace
 
 -- a G: 15, 16 from the open file's payments; 17, 18 from those of all accepted files, the open one and it
 abbrev pub paymentStateAnswer : List Filed → Opened → List ℕ → Answer

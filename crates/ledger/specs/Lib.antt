@@ -9,3 +9,4 @@ pub mod WrittenFiles
 pub mod Calls
 pub mod Samples
 pub mod NumberSamples
+pub mod TariffSamples

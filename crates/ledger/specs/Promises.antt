@@ -1,15 +1,15 @@
 -- The session against the ledger (SPEC.md, "Sessions" and "Board"; demand 2). Assumes nothing.
-use Prim.Native.Nat.{ℕ, _+_, _≤_}
-use mathlib.Core.Bool.{true, false}
+use Prim.Native.Nat.{ℕ, _+_, _≤_, _<_}
+use mathlib.Core.Bool.{true, false, _&&_}
 use mathlib.Core.List.{List, [], _∷_, _++_}
 use mathlib.Core.Logic.{_↔_}
 use mathlib.Core.Option.{Option, none, some}
 use mathlib.Core.Path.{_≡_}
 use lib.ListN.{length, getD}
-use Rattle.answer.specs.declared.Reason.the-variants.{FixedDiffers}
+use Rattle.answer.specs.declared.Reason.the-variants.{FixedDiffers, BoardTotalPassed}
 use Rattle.answer.specs.declared.Answer.{Answer}
 use Rattle.answer.specs.declared.Answer.the-variants.{Accepted, Refused}
-use Rattle.answer.specs.Refusals.{answerNumber, answerPlace}
+use Rattle.answer.specs.Refusals.{answerNumber, answerPlace, tariffPlace}
 use Rattle.answer.specs.Orders.{Each}
 use Rattle.layout.specs.declared.MaybeRecord.the-variants.{Is}
 use Rattle.layout.specs.declared.Record.the-variants.{Payment, Trailer}
@@ -18,19 +18,20 @@ use Rattle.barcode.specs.Agreed.{RightList}
 use Rattle.kinds.specs.Terms.{isVersion}
 use Rattle.record.specs.Records.{recordCheck}
 use Rattle.record.specs.Values.{trailerShown}
-use Rattle.file.specs.Files.{noFile}
+use Rattle.file.specs.Files.{noFile, fileAnswer}
 use Rattle.file.specs.Forms.{inForm, bodyOf, fitsLength}
 use Rattle.board.specs.declared.Lane.{Lane}
-use Rattle.board.specs.Lanes.{mostLanes, limit, lanesFrom, sumBy, each, issuersOf, Distinct}
-use Rattle.board.specs.Boards.{lanesOf, SoundBoard}
+use Rattle.board.specs.Lanes.{mostLanes, limit, paymentsFit, tariffFits, lanesFrom, sumBy, each, issuersOf, Distinct}
+use Rattle.board.specs.Boards.{lanesOf, slotOf, grownSlot, SoundBoard}
 use Rattle.pairs.specs.declared.Pair.{Pair}
 use Rattle.pairs.specs.Pairs.{mostPairs, rememberedFor, remembering, noPair, pairsOf, memoryWith, SoundMemory}
 use Rattle.pairs.specs.Pairs.{hasRoomFor}
 use Rattle.session.specs.declared.Session.{Session}
-use Rattle.session.specs.Sessions.{freshSession, pairIn, takeOf, abandonOf, finishOf}
+use Rattle.session.specs.Sessions.{freshSession, pairIn, sessionTerms, takeOf, abandonOf, finishOf}
 use Rattle.ledger.specs.Ledgers.{Opened, Filed, Ledger, freshLedger, headersOf, paymentRecords, openRecords}
-use Rattle.ledger.specs.Ledgers.{lanesOfRecords, isOpen, isOpenLined}
-use Rattle.ledger.specs.Ledgers.{receivedIn, ofIssuer, issuersNamed, ledgerCheck, Step, taking, abandoning}
+use Rattle.ledger.specs.Ledgers.{receivedBy, laneOfRecord, lanesOfRecords, isOpen, isOpenLined}
+use Rattle.ledger.specs.Ledgers.{receivedIn, tariffIn, ofIssuer, issuersNamed, ledgerCheck, Step, taking}
+use Rattle.ledger.specs.Ledgers.{abandoning}
 use Rattle.ledger.specs.Ledgers.{headerTerms, openVersion, ledgerAfter, ledgerAnswers}
 
 -- The same steps through a session.
@@ -120,14 +121,15 @@ abbrev pub LanesInOrder : Type 0
 LanesInOrder =
     (steps : List Step) → issuersOf (shownLanes steps) ≡ issuersNamed [] (acceptedRecords steps)
 
--- each lane shows exactly the payments of its issuer: their number and the centavos received, at full size
+-- each lane shows exactly the payments of its issuer: their number, the centavos received and the tariffs, at full size
 abbrev pub EachLaneIsExact : Type 0
 EachLaneIsExact =
     (steps : List Step)
     → Each
     (λ (l : Lane).
     (l .tally .payments ≡ length (ofIssuer (l .issuer) (acceptedRecords steps)))
-    × (l .tally .centavos ≡ receivedIn (ofIssuer (l .issuer) (acceptedRecords steps))))
+    × (l .tally .centavos ≡ receivedIn (ofIssuer (l .issuer) (acceptedRecords steps)))
+    × (l .tally .tariff ≡ tariffIn (ofIssuer (l .issuer) (acceptedRecords steps))))
     (shownLanes steps)
 
 -- the sums over the lanes, and the board's totals, are the sums over the payment records of all accepted files
@@ -136,12 +138,14 @@ SumsAreTheRecords =
     (steps : List Step)
     → (sumBy (each (λ t. t .payments)) (shownLanes steps) ≡ length (acceptedRecords steps))
     × (sumBy (each (λ t. t .centavos)) (shownLanes steps) ≡ receivedIn (acceptedRecords steps))
+    × (sumBy (each (λ t. t .tariff)) (shownLanes steps) ≡ tariffIn (acceptedRecords steps))
 
 abbrev pub TotalsAreTheRecords : Type 0
 TotalsAreTheRecords =
     (steps : List Step)
-    → reached steps .shown .total
-    ≡ record { payments = length (acceptedRecords steps); centavos = receivedIn (acceptedRecords steps) }
+    → let recs = acceptedRecords steps in
+    reached steps .shown .total
+    ≡ record { payments = length recs; centavos = receivedIn recs; tariff = tariffIn recs }
 
 abbrev pub NoIssuerHasTwoLanes : Type 0
 NoIssuerHasTwoLanes = (steps : List Step) → Distinct (issuersOf (shownLanes steps))
@@ -150,7 +154,7 @@ abbrev pub WithinLimits : Type 0
 WithinLimits =
     (steps : List Step)
     → (length (shownLanes steps) ≤ mostLanes) × (reached steps .shown .total .payments ≤ limit)
-    × (reached steps .shown .total .centavos ≤ limit)
+    × (reached steps .shown .total .centavos ≤ limit) × (reached steps .shown .total .tariff ≤ limit)
 
 -- in an open file and under a right list, a Z with right fields is accepted exactly if its count and total are the true
 -- ones and CR and LF are all that follows it in a lined file, nothing in a bare one
@@ -181,6 +185,19 @@ PaymentsTakenUnderAVersion =
     → isVersion (s .file .version) ≡ false → fitsLength true (s .file .lined) rec ≡ true
     → namedBy (getD rec 0 0) ≡ Is Payment
     → takeOf agreed s rec .answer ≡ Refused FixedDiffers (rowAt versionRow .first)
+
+-- a G that is right in itself, in an open file: 18 points at its tariff exactly if the file takes it, there is a lane
+-- for its issuer, payments and centavos fit with it, and the tariffs of its lane or of the total do not; whatever
+-- follows it
+abbrev pub TariffsAreAskedLast : Type 0
+TariffsAreAskedLast =
+    (agreed : List ℕ) (s : Session) (rec : List ℕ) → s .opened ≡ true → fitsLength true (s .file .lined) rec ≡ true
+    → namedBy (getD rec 0 0) ≡ Is Payment → recordCheck (sessionTerms agreed s) (bodyOf rec) ≡ Accepted
+    → let p = laneOfRecord (bodyOf rec) in let slot = slotOf (s .work) (p .issuer) in
+    let lane = grownSlot slot p .lane .tally in let total = grownSlot slot p .total in
+    (takeOf agreed s rec .answer ≡ Refused BoardTotalPassed tariffPlace)
+    ↔ ((fileAnswer (s .file) (receivedBy (bodyOf rec)) ≡ Accepted) × (slot .at < mostLanes)
+    × (paymentsFit lane ≡ true) × (paymentsFit total ≡ true) × ((tariffFits lane && tariffFits total) ≡ false))
 
 -- a refused record changes nothing
 abbrev pub RefusalKeepsSession : Type 0

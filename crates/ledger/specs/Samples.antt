@@ -46,15 +46,15 @@ code = digitsOf 44 81770000000_01093659970_41131079703_00143370831
 abbrev pub sampleIssuer : Issuer
 sampleIssuer = record { segment = 1; number = 3659 }
 
-abbrev pub paymentWith : List ℕ → ℕ → ℕ → ℕ → List ℕ
-paymentWith barcode received capture form =
+abbrev pub paymentWith : List ℕ → ℕ → ℕ → ℕ → ℕ → List ℕ
+paymentWith barcode received tariff capture form =
     71 ∷ blanks 20
-    ++ (digitsOf 8 20230102 ++ (digitsOf 8 20230103 ++ (barcode ++ (digitsOf 12 received ++ (digitsOf 7 0
+    ++ (digitsOf 8 20230102 ++ (digitsOf 8 20230103 ++ (barcode ++ (digitsOf 12 received ++ (digitsOf 7 tariff
     ++ (digitsOf 8 1 ++ (blanks 8 ++ (capture ∷ blanks 23 ++ (form ∷ blanks 9)))))))))
 
--- capture `1` and payment form `1`
+-- without tariff, capture `1` and payment form `1`
 abbrev pub paymentBy : List ℕ → ℕ → List ℕ
-paymentBy barcode received = paymentWith barcode received 49 49
+paymentBy barcode received = paymentWith barcode received 0 49 49
 
 abbrev pub payment : ℕ → List ℕ
 payment received = paymentBy code received
@@ -97,7 +97,7 @@ outcomeOf steps =
       total = reached steps .shown .total;
     }
 
--- nothing is shown, or one lane of P4's issuer
+-- nothing is shown, or one lane of P4's issuer; the tally of payments without tariff
 abbrev pub nothing : List Answered → Answered → Outcome
 nothing answers finish = record { answers = answers; finish = finish; lanes = []; total = emptyTally }
 
@@ -106,7 +106,7 @@ oneLane answers t =
     record { answers = answers; finish = accepted; lanes = record { issuer = sampleIssuer; tally = t } ∷ []; total = t }
 
 abbrev pub tally : ℕ → ℕ → Tally
-tally payments centavos = record { payments = payments; centavos = centavos }
+tally payments centavos = record { payments = payments; centavos = centavos; tariff = 0 }
 
 -- a record taken under the empty list
 abbrev pub plain : List ℕ → Step
@@ -200,7 +200,7 @@ crowded =
 
 -- a payment of 1 centavo with these two codes, as bytes
 abbrev pub coded : ℕ → ℕ → Step
-coded capture form = plain (paymentWith code 1 capture form)
+coded capture form = plain (paymentWith code 1 0 capture form)
 
 -- each header decides for its own file. In a 06 file captures `7`, `9` and `i` and forms `4` and `6` are known, `j` and
 -- form `7` are not, and an A of version 04, refused there, changes nothing. A 06 file that is abandoned leaves no

@@ -23,7 +23,7 @@ use Rattle.board.specs.Boards.{postAnswers, boardWithAll}
 use Rattle.session.specs.declared.Session.{Session}
 use Rattle.pairs.specs.Pairs.{memoryAnswer, memoryWith}
 use Rattle.session.specs.Sessions.{freshSession, closedAt, openedAt, pairIn, takeResult, takeOf}
-use Rattle.ledger.specs.Ledgers.{Filed, lanesOfRecords, receivedBy, receivedIn, headerTerms, Step, taking}
+use Rattle.ledger.specs.Ledgers.{Filed, lanesOfRecords, receivedBy, receivedIn, tariffIn, headerTerms, Step, taking}
 use Rattle.ledger.specs.Promises.{sessionAfter, answersOf, reached, ledgerOf, shownLanes}
 
 -- a record of this kind that is accepted by itself, under these terms
@@ -115,7 +115,8 @@ FreshSessionShows =
     → let file = fileOf agreed lined a recs z in
     AllAccepted (answersOf freshSession file)
     → (shownLanes file ≡ lanesFrom (lanesOfRecords recs))
-    × (reached file .shown .total ≡ record { payments = length recs; centavos = receivedIn recs })
+    × (reached file .shown .total
+    ≡ record { payments = length recs; centavos = receivedIn recs; tariff = tariffIn recs })
     × (reached file .opened ≡ false)
 
 -- an accepted file of a ledger: whole under the empty list, since what is accepted under any list is, within a file's

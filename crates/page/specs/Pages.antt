@@ -107,7 +107,7 @@ headLines number place records files b =
 abbrev pub pageOf : ℕ → ℕ → ℕ → ℕ → Board → List ℕ
 pageOf number place records files b = headLines number place records files b ++ lanesLines 1 (lanesOf b)
 
--- The longest page, with every number of 20 digits and every lane in use.
+-- The room of a page: every number has 20 digits, and every lane is in use.
 
 -- eight lines: 57 bytes of words, then 20 digits and a newline each
 abbrev pub mostHead : ℕ
@@ -120,8 +120,8 @@ mostLane = 163
 abbrev pub pageLength : ℕ
 pageLength = mostHead + mostLanes * mostLane
 
--- Printing: a buffer that is not exactly as long as the longest page is refused and stays as it was. Else it holds the
--- page, and behind it the bytes that it had.
+-- Printing: a buffer that is not exactly as long as this room is refused and stays as it was. Else it holds the page,
+-- and behind it the bytes that it had.
 
 abbrev pub bufferAnswer : List ℕ → Answer
 bufferAnswer old = require (eqb (length old) pageLength) WrongLength 0

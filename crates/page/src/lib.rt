@@ -17,7 +17,7 @@ use board::Board;
 use board::Lane;
 use board::Tally;
 
-// The length of the buffer that a page is written into, which is that of the longest page.
+// The length of the buffer that a page is written into: that of a page whose numbers all have 20 digits, of 64 lanes.
 pub const PAGE: usize = 10657;
 
 // `length` is how many bytes of the buffer are the page; 0 if the answer is a refusal.
