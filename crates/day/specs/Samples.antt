@@ -1,5 +1,5 @@
--- The worked input (SPEC.md, "Samples"), from its bytes to the bytes printed; without its Z, with line ends, twice, and
--- behind a refusal. Assumes nothing.
+-- The worked input (SPEC.md, "Samples"), from its bytes to the bytes printed; without its Z, with line ends, twice, with
+-- a tariff, and behind a refusal. Assumes nothing.
 use Prim.Native.Nat.{ℕ}
 use mathlib.Core.Bool.{true}
 use mathlib.Core.List.{List, [], _∷_, _++_}
@@ -10,6 +10,7 @@ use Rattle.board.specs.Boards.{freshBoard}
 use Rattle.page.specs.Pages.{pageOf}
 use Rattle.page.specs.Samples.{workedPage}
 use Rattle.ledger.specs.Samples.{headerOf, header, payment, trailer}
+use Rattle.ledger.specs.TariffSamples.{charged}
 use Rattle.ledger.specs.WholeFiles.{allInForm}
 use Rattle.session.specs.Runs.{bytesOf}
 use Rattle.day.specs.Inputs.{dayOfInput, pageOfInput}
@@ -42,7 +43,8 @@ LinedInput =
     × (pageOfInput (take 455 (linedInput 1)) ≡ pageOf 22 151 2 0 freshBoard)
     × (dayOfInput (workedInput ++ linedInput 2) .files ≡ 2)
     × (dayOfInput (workedInput ++ linedInput 2) .session .shown .used ≡ 1)
-    × (dayOfInput (workedInput ++ linedInput 2) .session .shown .total ≡ record { payments = 2; centavos = 218 })
+    × (dayOfInput (workedInput ++ linedInput 2) .session .shown .total
+    ≡ record { payments = 2; centavos = 218; tariff = 0 })
 
 -- two lines of a page, each with its newline: answer=26 and place=74
 abbrev pub refusedLines : List ℕ
@@ -55,6 +57,17 @@ refusedLines =
 -- page's: its three records, its file and its lane are shown once.
 abbrev pub TwiceInput : Type 0
 TwiceInput = pageOfInput (workedInput ++ workedInput) ≡ refusedLines ++ drop 17 workedPage
+
+-- a line of a page: tariff=135
+abbrev pub tariffLine : List ℕ
+tariffLine = 116 ∷ 97 ∷ 114 ∷ 105 ∷ 102 ∷ 102 ∷ 61 ∷ 49 ∷ 51 ∷ 53 ∷ 10 ∷ []
+
+-- Promise: with a tariff of 135 centavos in its G, the worked page has this line for its total and for its lane, in the
+-- places of tariff=0, and all else as it was.
+abbrev pub ChargedInput : Type 0
+ChargedInput =
+    pageOfInput (header ++ (charged 109 135 ++ trailer 3 109))
+    ≡ take 66 workedPage ++ (tariffLine ++ (take 45 (drop 75 workedPage) ++ tariffLine))
 
 -- Promise: a lone Z is refused 9 at place 1, and the worked input behind it is not taken.
 abbrev pub RefusedInput : Type 0

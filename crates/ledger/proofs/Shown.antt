@@ -37,10 +37,11 @@ no-issuer-has-two-lanes steps =
 pub sums-are-the-records : SumsAreTheRecords
 sums-are-the-records steps =
     let recs = acceptedRecords steps in
-    rw (lanes-are-the-payments steps)
-    (sums-agree (λ t. t .payments) payments-add (lanesOfRecords recs) ∙ lanes-count recs,
-    sums-agree (λ t. t .centavos) centavos-add (lanesOfRecords recs) ∙ lanes-sum recs,
-    sums-agree (λ t. t .tariff) tariffs-add (lanesOfRecords recs) ∙ lanes-tariff recs)
+    rw (lanes-are-the-payments steps) (
+      sums-agree (λ t. t .payments) payments-add (lanesOfRecords recs) ∙ lanes-count recs,
+      sums-agree (λ t. t .centavos) centavos-add (lanesOfRecords recs) ∙ lanes-sum recs,
+      sums-agree (λ t. t .tariff) tariffs-add (lanesOfRecords recs) ∙ lanes-tariff recs,
+    )
 
 pub totals-are-the-records : TotalsAreTheRecords
 totals-are-the-records steps =

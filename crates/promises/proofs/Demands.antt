@@ -48,7 +48,7 @@ use Rattle.ledger.proofs.Agreement.{session-agrees, answers-are-the-ledgers, ne
 use Rattle.ledger.proofs.Sessions.{true-trailers-only, only-trailers-show, nothing-shows-before, trailers-show-all}
 use Rattle.ledger.proofs.Sessions.{only-trailers-remember, trailers-remember}
 use Rattle.ledger.proofs.Sessions.{abandon-keeps-board, abandon-keeps-memory, abandon-drops-file, abandon-nothing}
-use Rattle.ledger.proofs.Sessions.{finish-answers, finish-keeps-session, payments-taken-under-a-version}
+use Rattle.ledger.proofs.Sessions.{finish-answers, finish-keeps-session, payments-taken-under-a-version, tariffs-are-asked-last}
 use Rattle.ledger.proofs.Shown.{lanes-are-the-payments, lanes-in-order, each-lane-is-exact, no-issuer-has-two-lanes}
 use Rattle.ledger.proofs.Shown.{sums-are-the-records, totals-are-the-records, within-limits}
 use Rattle.session.proofs.Feeding.{run-is-its-takes, wrong-list-takes-nothing, run-leaves-few}
@@ -65,7 +65,7 @@ use Rattle.ledger.proofs.WholeFiles.{headers-ask-the-memory, file-accepted, fil
 use Rattle.ledger.proofs.AcceptedFiles.{accepted-file-is-whole}
 use Rattle.ledger.proofs.WrittenFiles.{closed-file-is-whole, closed-file-is-accepted, fields-write-the-file}
 use Rattle.day.proofs.Inputs.{buffers-print-one-page}
-use Rattle.day.proofs.Samples.{worked-input, open-input, lined-input, twice-input, refused-input}
+use Rattle.day.proofs.Samples.{worked-input, open-input, lined-input, twice-input, charged-input, refused-input}
 use Rattle.promises.specs.Demands.{Demand1, Demand2, Demand3, Promised}
 use Rattle.promises.proofs.Calls.{calls-make-one-file, open-writers-have-a-version}
 use Rattle.promises.proofs.OneOutcome.{one-outcome}
@@ -91,6 +91,7 @@ demand-1 =
       boxes = first-refuses;
       behindBoxes = only-seven-behind-boxes;
       bytes = each-refuses;
+      tariffs = tariffs-are-asked-last;
       keeps = refusals-change-nothing;
       finishing = finish-keeps-session;
       memory = (only-trailers-remember, trailers-remember, abandon-keeps-memory);
@@ -193,5 +194,5 @@ promised =
       second = demand-2;
       third = demand-3;
       p1ToP12 = samples-hold;
-      program = (buffers-print-one-page, worked-input, open-input, lined-input, twice-input, refused-input);
+      program = (buffers-print-one-page, worked-input, open-input, lined-input, twice-input, charged-input, refused-input);
     }

@@ -21,8 +21,8 @@ use Rattle.kinds.specs.Kinds.{isVersionText, isService, dateAnswer, isCapture, 
 use Rattle.record.specs.Records.{fieldAnswer, recordAnswer}
 use Rattle.file.specs.Files.{fileAnswer, figuresAnswer}
 use Rattle.file.specs.Forms.{hasLineEnd, fitsLength, endAnswer}
-use Rattle.board.specs.Lanes.{fits}
-use Rattle.board.specs.Boards.{ownOf, usedAfter, slotAnswer}
+use Rattle.board.specs.Lanes.{paymentsFit, tariffFits}
+use Rattle.board.specs.Boards.{ownOf, usedAfter, sumsAnswer, slotAnswer}
 use Rattle.typos.specs.Typos.{Passes, InOneBox, boxRemainder, codeRemainder, BothMove, NoCheck}
 use Rattle.typos.proofs.OneTen.{one-changed-digit-is-refused}
 use Rattle.typos.proofs.Exchange.{exchange-of-neighbours}
@@ -46,7 +46,7 @@ each-row {A} {B} f g (x ∷ xs) p = (ap (headOr (f x)) p, each-row f g xs (ap re
 
 all-rows : map (λ (row : Row). outcomeOf (row .question)) samples ≡ map (λ (row : Row). row .outcome) samples
 unfolding recordAnswer versionAnswer listAnswer freeAnswer isAgreed keyOf isIssuer fieldAnswer kindAnswer isVersionText isService dateAnswer isCapture isForm namedBy layoutOf table rowAt
-    hasLineEnd fitsLength endAnswer figuresAnswer fileAnswer fits ownOf usedAfter slotAnswer firstThreeAnswer generalRight boxRight
+    hasLineEnd fitsLength endAnswer figuresAnswer fileAnswer paymentsFit tariffFits ownOf usedAfter sumsAnswer slotAnswer firstThreeAnswer generalRight boxRight
     termOf addedBy digitOfRemainder dateOf isDate daysIn isLeap digitsOf valueOf isOf
 all-rows = refl
 

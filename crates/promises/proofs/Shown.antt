@@ -8,7 +8,7 @@ use Rattle.promises.specs.Shown.{RefusalsPointAtPlaces, RecordsShowTheir
 
 pub refusals-point-at-places : RefusalsPointAtPlaces
 unfolding rowAt table layoutOf versionAnswer
-refusals-point-at-places = (refl, refl, refl, refl, λ version none. rw none, refl, refl, refl, (refl, refl, refl), (refl, refl, refl))
+refusals-point-at-places = (refl, refl, refl, refl, refl, λ version none. rw none, refl, refl, refl, (refl, refl, refl), (refl, refl, refl))
 
 pub records-show-their-places : RecordsShowTheirPlaces
 unfolding rowAt table layoutOf

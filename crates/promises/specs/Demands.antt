@@ -47,7 +47,7 @@ use Rattle.ledger.specs.Promises.{OnlyTrailersShow, NothingShowsBefore, Trailer
 use Rattle.ledger.specs.Promises.{OnlyTrailersRemember, TrailersRemember}
 use Rattle.ledger.specs.Promises.{AbandonKeepsBoard, AbandonKeepsMemory, AbandonDropsFile, AbandonNothing}
 use Rattle.ledger.specs.Promises.{FinishAnswers, FinishKeepsSession}
-use Rattle.ledger.specs.Promises.{OpenFilesHaveAVersion, PaymentsTakenUnderAVersion}
+use Rattle.ledger.specs.Promises.{OpenFilesHaveAVersion, PaymentsTakenUnderAVersion, TariffsAreAskedLast}
 use Rattle.session.specs.Runs.{RunIsItsTakes, WrongListTakesNothing, RunLeavesFew, FeedingIsOneRun}
 use Rattle.ledger.specs.Forms.{FormsAgree, OnlyEndedRecords}
 use Rattle.ledger.specs.Runs.{RunIsTheLedgers, FileBytesRun, PiecesAreTheRecords}
@@ -59,7 +59,7 @@ use Rattle.ledger.specs.Numbers.{LastNumberIsRemembered, PairsInOrder, NumbersF
 use Rattle.ledger.specs.Numbers.{FileAgainIsRefused, FileTwiceIsRefused}
 use Rattle.ledger.specs.WrittenFiles.{ClosedFileIsWhole, ClosedFileIsAccepted, ClosedFileBytesRun, FieldsWriteTheFile}
 use Rattle.day.specs.Inputs.{BuffersPrintOnePage}
-use Rattle.day.specs.Samples.{WorkedInput, OpenInput, LinedInput, TwiceInput, RefusedInput}
+use Rattle.day.specs.Samples.{WorkedInput, OpenInput, LinedInput, TwiceInput, ChargedInput, RefusedInput}
 use Rattle.promises.specs.Calls.{CallsMakeOneFile, OpenWritersHaveAVersion}
 use Rattle.promises.specs.OneOutcome.{OneOutcome}
 use Rattle.promises.specs.Refusals.{RefusalsChangeNothing}
@@ -89,6 +89,8 @@ pub record Demand1 : Type 2 where
   pub boxes : FirstRefuses Stretch
   pub behindBoxes : OnlySevenBehindBoxes
   pub bytes : EachRefuses
+  -- of 18's two places that of the tariff is last
+  pub tariffs : TariffsAreAskedLast
   -- "and then the session, the board and the buffers we lent are what they were"
   pub keeps : RefusalsChangeNothing
   pub finishing : FinishKeepsSession
@@ -189,4 +191,4 @@ pub record Promised : Type 2 where
   pub p1ToP12 : Hold samples
   -- `quadro` prints `pageOfInput` of the input's bytes, in whatever buffers they come; inputs and their pages.
   -- That a day of the program that is over is the day of the bytes it read is `OverIsTheInputs`, in its own crate.
-  pub program : BuffersPrintOnePage × WorkedInput × OpenInput × LinedInput × TwiceInput × RefusedInput
+  pub program : BuffersPrintOnePage × WorkedInput × OpenInput × LinedInput × TwiceInput × ChargedInput × RefusedInput

@@ -140,6 +140,7 @@ pub record BoardOutcomes : Type 2 where
   pub «board·lanes_in_use» : One board.«lanes_in_use».ended (λ M. board.«lanes_in_use».clauses)
   pub board·cache_index : One board.cache_index.ended (λ M. board.cache_index.clauses)
   pub board·search_range : One board.search_range.ended (λ M. board.search_range.clauses)
+  pub board·Lane·of_payment : One board.Lane.of_payment.ended (λ M. board.Lane.of_payment.clauses)
   pub board·Lane·is_of : One board.Lane.is_of.ended (λ M. board.Lane.is_of.clauses)
   pub board·Slot·post : One board.Slot.post.ended (λ M. board.Slot.post.clauses)
   pub board·Board·new : One board.Board.new.ended (λ M. board.Board.new.clauses)

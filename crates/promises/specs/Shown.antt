@@ -5,7 +5,7 @@ use mathlib.Core.List.{List, []}
 use mathlib.Core.Path.{_≡_}
 use Rattle.answer.specs.declared.Reason.the-variants.{FixedDiffers}
 use Rattle.answer.specs.declared.Answer.the-variants.{Refused}
-use Rattle.answer.specs.Refusals.{receivedPlace, issuerPlace, sequencePlace, agreementPlace}
+use Rattle.answer.specs.Refusals.{receivedPlace, tariffPlace, issuerPlace, sequencePlace, agreementPlace}
 use Rattle.decimal.specs.Numbers.{numberOf}
 use Rattle.decimal.specs.Places.{places}
 use Rattle.calendar.specs.declared.Date.{Date}
@@ -16,7 +16,8 @@ use Rattle.line.specs.Lines.{inLine}
 use Rattle.file.specs.Files.{countPlace, totalPlace}
 use Rattle.file.specs.Forms.{endPlace}
 use Rattle.layout.specs.declared.Record.the-variants.{Payment}
-use Rattle.layout.specs.Layouts.{rowAt, agreementRow, sequenceRow, receivedRow, barcodeRow, countRow, totalRow}
+use Rattle.layout.specs.Layouts.{rowAt, agreementRow, sequenceRow, receivedRow, tariffRow, barcodeRow, countRow}
+use Rattle.layout.specs.Layouts.{totalRow}
 use Rattle.kinds.specs.Terms.{isVersion, versionAnswer}
 use Rattle.record.specs.Values.{dayOf, headerShown, paymentShown, trailerShown}
 use Rattle.session.specs.Sessions.{pairIn}
@@ -33,16 +34,17 @@ abbrev pub FreeFieldAt : ℕ → ℕ → ℕ → ℕ → Type 0
 FreeFieldAt segment code line rec =
     (free segment .first ≡ code) × (inLine code ≡ line) × (rowAt barcodeRow .first - 1 + code ≡ rec)
 
--- Promise: refusals 13 and 14 point at the count and the total of a Z, 16 and 18 at the received centavos of a G, and
--- 17 at the issuer, place 16 of its barcode; 10 of a G that is told a number other than 4 and 6 points at place 80, an
--- A's version; 22 at place 151, right behind the record; 26 and 27 at the sequence number and the agreement of an A; 11
--- of an agreed issuer at the first place of its free field, 20 in a barcode, 21 in a line and 57 in a G, in segment 6
--- 24, 26 and 61.
+-- Promise: refusals 13 and 14 point at the count and the total of a Z, 16 and 18 at the received centavos of a G, 18 for
+-- tariffs at its tariff, and 17 at the issuer, place 16 of its barcode; 10 of a G that is told a number other than 4 and
+-- 6 points at place 80, an A's version; 22 at place 151, right behind the record; 26 and 27 at the sequence number and
+-- the agreement of an A; 11 of an agreed issuer at the first place of its free field, 20 in a barcode, 21 in a line and
+-- 57 in a G, in segment 6 24, 26 and 61.
 abbrev pub RefusalsPointAtPlaces : Type 0
 RefusalsPointAtPlaces =
     (countPlace ≡ rowAt countRow .first)
     × (totalPlace ≡ rowAt totalRow .first)
     × (receivedPlace ≡ rowAt receivedRow .first)
+    × (tariffPlace ≡ rowAt tariffRow .first)
     × (issuerPlace ≡ rowAt barcodeRow .first - 1 + 16)
     × ((version : ℕ) → isVersion version ≡ false → versionAnswer version Payment ≡ Refused FixedDiffers 80)
     × (endPlace ≡ 151)
