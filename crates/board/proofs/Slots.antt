@@ -1,10 +1,11 @@
 -- Laws of a slot: its answer in the order of the refusals, and the board that it is put back to. Assumes nothing.
 use Prim.Native.Nat.{ℕ, _<_}
-use mathlib.Core.Bool.{Bool, true, _&&_, and-eq-true-iff}
+use mathlib.Core.Bool.{Bool, true, false, _&&_, and-eq-true-iff}
 use mathlib.Core.List.{List}
 use mathlib.Core.Logic.{_↔_}
 use mathlib.Core.Path.{_≡_, refl, ap, _∙_}
 use borrow.Author.Tests.{lt-ltb}
+use lib.Dec.{leb}
 use lib.ListN.{set}
 use lib.Seq.{set-getD}
 use Rattle.answer.specs.Refusals.{receivedPlace, tariffPlace}
@@ -12,7 +13,7 @@ use Rattle.answer.specs.declared.Reason.{Reason}
 use Rattle.answer.specs.declared.Reason.the-variants.{BoardTotalPassed}
 use Rattle.answer.specs.declared.Answer.{Answer}
 use Rattle.answer.specs.declared.Answer.the-variants.{Accepted, Refused}
-use Rattle.answer.specs.Orders.{require, ifAccepted}
+use Rattle.answer.specs.Orders.{require, _then_, ifAccepted}
 use Rattle.answer.proofs.Orders.{require-accepts, then-accepts}
 use Rattle.board.specs.declared.Tally.{Tally}
 use Rattle.board.specs.declared.Lane.{Lane}
@@ -21,8 +22,28 @@ use Rattle.board.specs.declared.Slot.{Slot}
 use Rattle.board.specs.declared.SlotResult.{SlotResult}
 use Rattle.board.specs.declared.PostResult.{PostResult}
 use Rattle.board.proofs.Tallies.{fits-both}
-use Rattle.board.specs.Lanes.{mostLanes, plus, paymentsFit, tariffFits, fits}
+use Rattle.board.specs.Lanes.{mostLanes, limit, plus, paymentsFit, tariffFits, fits}
 use Rattle.board.specs.Boards.{blank, lanesOf, indexOf, slotAt, withSlot, ownOf, usedAfter, grownSlot, sumsAnswer, slotAnswer, slotResultOf, postResultOf}
+
+-- number by number, of the lane and of the total at once: the first pair that passes decides
+pub sums-in-turn : (lane total : Tally)
+    → sumsAnswer lane total
+    ≡ require (leb (lane .payments) limit && leb (total .payments) limit) BoardTotalPassed receivedPlace
+    then require (leb (lane .centavos) limit && leb (total .centavos) limit) BoardTotalPassed receivedPlace
+    then require (leb (lane .tariff) limit && leb (total .tariff) limit) BoardTotalPassed tariffPlace
+unfolding sumsAnswer paymentsFit tariffFits
+sums-in-turn lane total =
+    go (leb (lane .payments) limit) (leb (lane .centavos) limit) (leb (total .payments) limit) (leb (total .centavos) limit)
+    (require (leb (lane .tariff) limit && leb (total .tariff) limit) BoardTotalPassed tariffPlace)
+  where
+    go : (p c q d : Bool) (tariffs : Answer)
+        → require ((p && c) && (q && d)) BoardTotalPassed receivedPlace then tariffs
+        ≡ require (p && q) BoardTotalPassed receivedPlace then require (c && d) BoardTotalPassed receivedPlace then tariffs
+    go true true true d tariffs = refl
+    go true true false d tariffs = refl
+    go true false true d tariffs = refl
+    go true false false d tariffs = refl
+    go false c q d tariffs = refl
 
 -- sums that are accepted fit, the lane's and the total's, place by place
 pub sums-accept : (lane total : Tally)

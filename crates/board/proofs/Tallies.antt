@@ -10,12 +10,12 @@ use Rattle.board.specs.declared.Tally.{Tally}
 use Rattle.board.specs.Lanes.{limit, emptyTally, plus, paymentsFit, tariffFits, fits}
 
 -- a number is at most what is left of the limit exactly if the sum is within it
-pub room : (sum more : ℕ) → sum ≤ limit → leb more (limit - sum) ≡ leb (sum + more) limit
-room sum more h = go (leb more (limit - sum)) refl
+pub room : (sum more : ℕ) → more ≤ limit → leb sum (limit - more) ≡ leb (sum + more) limit
+room sum more h = go (leb sum (limit - more)) refl
   where
-    go : (t : Bool) → leb more (limit - sum) ≡ t → t ≡ leb (sum + more) limit
-    go true e = let k = leb-true more (limit - sum) e in sym (le-leb (sum + more) limit (omega arith))
-    go false e = let k = leb-false more (limit - sum) e in sym (lt-leb (sum + more) limit (omega arith))
+    go : (t : Bool) → leb sum (limit - more) ≡ t → t ≡ leb (sum + more) limit
+    go true e = let k = leb-true sum (limit - more) e in sym (le-leb (sum + more) limit (omega arith))
+    go false e = let k = leb-false sum (limit - more) e in sym (lt-leb (sum + more) limit (omega arith))
 
 -- a tally that fits, number by number
 pub record Low (t : Tally) : Type 0 where

@@ -1,8 +1,9 @@
 // One lane: sums within the limit, and a payment posted to a slot.
+ghost use mathlib.Core.Bool.{_&&_};
 ghost use mathlib.Core.Path.{_≡_};
 ghost use Prim.Native.Nat.{_+_, _≤_, _<_};
 ghost use lib.Dec.{leb};
-ghost use Rattle.board.specs.Lanes.{limit, mostLanes, plus, paymentsFit, tariffFits, isLaneOf, laneOfOne};
+ghost use Rattle.board.specs.Lanes.{limit, mostLanes, plus, isLaneOf, laneOfOne};
 ghost use Rattle.board.specs.Boards.{ownOf, usedAfter, sumsAnswer, slotResultOf};
 use crate::Board;
 use crate::Lane;
@@ -13,34 +14,19 @@ use answer::Answer;
 use answer::Reason;
 use barcode::Issuer;
 
-// Whether a sum stays within the limit. The sum itself is not made: it might not fit 64 bits.
-fn has_room(sum: u64, more: u64) -> bool
-    ensures { λ r. ⌜ r ≡ leb (sum + more) limit ⌝ }
+// Whether two sums stay within the limit when `more` is added to each. The sums themselves are not made: they might not
+// fit 64 bits.
+fn have_room(lane: u64, total: u64, more: u64) -> bool
+    ensures { λ r. ⌜ r ≡ (leb (lane + more) limit && leb (total + more) limit) ⌝ }
 {
-    if Board::TOTAL < sum {
+    if Board::TOTAL < more {
         return false;
     }
-    more <= Board::TOTAL - sum
+    let most = Board::TOTAL - more;
+    lane <= most && total <= most
 }
 
 impl Tally {
-    // Whether the sums of payments and of centavos stay within the limit.
-    fn has_room_for(self, more: Tally) -> bool
-        ensures { λ r. ⌜ r ≡ paymentsFit (plus self more) ⌝ }
-    {
-        if has_room(self.payments, more.payments) {
-            return has_room(self.centavos, more.centavos);
-        }
-        false
-    }
-
-    // Whether the sum of tariffs does.
-    fn has_room_for_tariff(self, more: Tally) -> bool
-        ensures { λ r. ⌜ r ≡ tariffFits (plus self more) ⌝ }
-    {
-        has_room(self.tariff, more.tariff)
-    }
-
     fn plus(self, more: Tally) -> Tally
         requires { ⌜ (self .payments + more .payments ≤ limit) × (self .centavos + more .centavos ≤ limit)
             × (self .tariff + more .tariff ≤ limit) ⌝ }
@@ -85,16 +71,13 @@ impl Lane {
 fn check_sums(lane: Tally, total: Tally, more: Tally) -> Answer
     ensures { λ r. ⌜ r ≡ sumsAnswer (plus lane more) (plus total more) ⌝ }
 {
-    if !lane.has_room_for(more) {
+    if !have_room(lane.payments, total.payments, more.payments) {
         return Answer::Refused(Reason::BoardTotalPassed, answer::RECEIVED_PLACE);
     }
-    if !total.has_room_for(more) {
+    if !have_room(lane.centavos, total.centavos, more.centavos) {
         return Answer::Refused(Reason::BoardTotalPassed, answer::RECEIVED_PLACE);
     }
-    if !lane.has_room_for_tariff(more) {
-        return Answer::Refused(Reason::BoardTotalPassed, answer::TARIFF_PLACE);
-    }
-    if !total.has_room_for_tariff(more) {
+    if !have_room(lane.tariff, total.tariff, more.tariff) {
         return Answer::Refused(Reason::BoardTotalPassed, answer::TARIFF_PLACE);
     }
     Answer::Accepted
