@@ -120,6 +120,13 @@ static uint64_t record(void)
     return sum;
 }
 
+/* The three numbers of the total of the board shown. */
+static uint64_t sum_of_board(const hollytrot_session *session)
+{
+    hollytrot_tally total = session->shown.total;
+    return total.payments + total.centavos + total.tariff;
+}
+
 static uint64_t take(void)
 {
     hollytrot_take_result result;
@@ -128,7 +135,7 @@ static uint64_t take(void)
         result = hollytrot_session_take(result.session, day + i * step, step, NONE);
         check_accepted(result.answer);
     }
-    return result.session.shown.total.centavos;
+    return sum_of_board(&result.session);
 }
 
 static uint64_t run_under(size_t agreed_length)
@@ -136,7 +143,7 @@ static uint64_t run_under(size_t agreed_length)
     hollytrot_run_result result =
         hollytrot_session_run(hollytrot_session_new(), day, records * step, false, agreed, agreed_length);
     check_accepted(result.answer);
-    return result.session.shown.total.centavos;
+    return sum_of_board(&result.session);
 }
 
 static uint64_t run(void) { return run_under(0); }

@@ -1,8 +1,8 @@
 /* Hollytrot, the engine of a premium collector, for C.
  *
  * Collection barcodes (44 digits), typed lines (48 digits), return files of 150-byte A, G and Z records, and the
- * board of each insurer's payments and centavos. The rules are those of docs/SPEC.md and are not repeated here: each
- * part below names its section.
+ * board of each insurer's payments, centavos and tariffs. The rules are those of docs/SPEC.md and are not repeated
+ * here: each part below names its section.
  *
  * Every function accepts every input. A bad line, record or call gets one refusal, a number and a place, and leaves the
  * session, the writer and your buffers unchanged. Only hollytrot_session_run, which takes many records, keeps those
@@ -34,7 +34,7 @@ extern "C" {
 #endif
 
 /* The version of this header and of its library. */
-#define HOLLYTROT_VERSION "0.6.0"
+#define HOLLYTROT_VERSION "0.7.0"
 
 /* The lengths that buffers must have, exactly ("Limits"). */
 #define HOLLYTROT_BARCODE 44
@@ -43,7 +43,7 @@ extern "C" {
 #define HOLLYTROT_LINED 152 /* a record with CR and LF behind it */
 #define HOLLYTROT_HEADER_FIELDS 80
 #define HOLLYTROT_PAYMENT_FIELDS 121
-#define HOLLYTROT_PAGE 8837
+#define HOLLYTROT_PAGE 10657
 /* How many lanes a board has. */
 #define HOLLYTROT_LANES 64
 /* How many pairs of a bank and an agreement a session remembers. */
@@ -79,7 +79,8 @@ enum {
     HOLLYTROT_FILE_FULL = 15,          /* a payment after 999,997 in the same file */
     HOLLYTROT_FILE_TOTAL_PASSED = 16,  /* the file's total would pass 99,999,999,999,999,999 centavos */
     HOLLYTROT_BOARD_FULL = 17,         /* a new issuer when all 64 lanes are in use */
-    HOLLYTROT_BOARD_TOTAL_PASSED = 18, /* a total of the board would pass 10^18 */
+    HOLLYTROT_BOARD_TOTAL_PASSED = 18, /* a total of the board would pass 10^18: at 82, */
+                                       /* or at 94 if only tariffs would pass it */
     HOLLYTROT_FILE_OPEN = 19,          /* the end of the input while a file is open */
     /* 20 is retired and is not used again */
     HOLLYTROT_TOO_WIDE = 21,           /* a number is too wide for its field */
@@ -349,10 +350,11 @@ hollytrot_write_result hollytrot_writer_trailer(hollytrot_writer writer, uint8_t
 
 /* The board ("Board"): at most 64 lanes, in the order in which issuers first appeared. */
 
-/* The sums of a lane, or of a board. */
+/* The sums of a lane, or of a board: its payments, the centavos they received, and the banks' tariffs, in centavos. */
 typedef struct hollytrot_tally {
     uint64_t payments;
     uint64_t centavos;
+    uint64_t tariff;
 } hollytrot_tally;
 
 /* An issuer and its sums. */
@@ -384,7 +386,7 @@ typedef struct hollytrot_memory {
     size_t used;
 } hollytrot_memory;
 
-/* Sessions ("Sessions"): a value of some 5 KB that you keep. Each call returns the next session, which is equal to the
+/* Sessions ("Sessions"): a value of some 6 KB that you keep. Each call returns the next session, which is equal to the
  * given one if the call is refused; after a run it is the one after the accepted records. */
 
 /* The board shown, which has accepted files only; the working board, which has the open file's payments too; whether a
@@ -424,8 +426,8 @@ typedef struct hollytrot_run_result {
 } hollytrot_run_result;
 
 /* The limits of every session ("Limits"): the lanes of its board, the bytes of a record, the most payments and the most
- * centavos of a file, the most that the payments or the centavos of its board may reach, and the pairs that it
- * remembers. */
+ * centavos of a file, the most that the payments, the centavos or the tariffs of its board may reach, and the pairs
+ * that it remembers. */
 typedef struct hollytrot_limits {
     size_t lanes;
     size_t record_length;

@@ -7,17 +7,21 @@ use crate::{Agreed, Issuer, Pair, Refusal};
 pub const LANES: usize = 64;
 
 /// The length of the page's buffer; no page is longer.
-const PAGE: usize = 8837;
+const PAGE: usize = 10657;
 
 /// The sums of a lane, or of a board.
 #[repr(C)]
 #[derive(Clone, Copy, Debug, PartialEq, Eq, Hash)]
 pub struct Tally {
+    /// How many payments.
     pub payments: u64,
+    /// The centavos they received.
     pub centavos: u64,
+    /// The banks' tariffs for them, in centavos: places 94 to 100 of their records.
+    pub tariff: u64,
 }
 
-/// An issuer's payments and the centavos received.
+/// An issuer and its sums.
 #[repr(C)]
 #[derive(Clone, Copy, Debug, PartialEq, Eq, Hash)]
 pub struct Lane {
@@ -64,7 +68,8 @@ pub struct Limits {
     pub payments: u64,
     /// The most centavos of a file.
     pub file_total: u64,
-    /// The most that the payments or the centavos of a board may reach.
+    /// The most that the payments, the centavos or the tariffs of a board may reach. Past it a payment is refused 18,
+    /// at 82 or, if only tariffs would pass it, at 94.
     pub board_total: u64,
     /// The most pairs of a bank and an agreement that a session remembers.
     pub pairs: usize,

@@ -6,7 +6,7 @@ use common::{code, header_numbered, payment_of, refused, HEADER, ISSUER, NONE};
 use hollytrot::record::{self, Row};
 use hollytrot::{
     barcode, check_digit, line, page, Agreed, Date, Fields, Issuer, Modulus, Reason, Record,
-    Session, Version, Writer, LANES, PAIRS, RECORD,
+    Session, Tally, Version, Writer, LANES, PAIRS, RECORD,
 };
 
 const P4: &[u8] = b"817700000000010936599702411310797039001433708318";
@@ -101,6 +101,8 @@ fn a_file_written_and_taken() {
         .expect("a good payment");
     let wide = writer.payment(&payment_of(&code()), 1_000_000_000_000, 0, &NONE);
     assert_eq!(wide, Err(refused(Reason::TooWide, 82)));
+    let wide = writer.payment(&payment_of(&code()), 0, 10_000_000, &NONE);
+    assert_eq!(wide, Err(refused(Reason::TooWide, 94)));
     let z = writer.trailer().expect("an open file");
     assert_eq!(writer.trailer(), Err(refused(Reason::NotExpected, 1)));
 
@@ -159,11 +161,13 @@ fn a_file_written_and_taken() {
         (Ok(()), 1, 1)
     );
     let lane = session.board().lane(ISSUER).expect("its lane");
-    assert_eq!(
-        (lane.tally.payments, lane.tally.centavos),
-        (1, 4_294_967_296)
-    );
-    assert_eq!(session.board().total(), lane.tally);
+    let tally = Tally {
+        payments: 1,
+        centavos: 4_294_967_296,
+        tariff: 789,
+    };
+    assert_eq!(lane.tally, tally);
+    assert_eq!(session.board().total(), tally);
 
     let next = Writer::new().header(&header_numbered(4322));
     session
@@ -171,8 +175,9 @@ fn a_file_written_and_taken() {
         .expect("another file");
     session.abandon();
     assert_eq!(session.finish(), Ok(()));
-    let text = "answer=0\nplace=0\nrecord=3\nfiles=1\nlanes=1\npayments=1\ncentavos=4294967296\n\
-                lane=1\nissuer=6-12345678\npayments=1\ncentavos=4294967296\n";
+    let text = "answer=0\nplace=0\nrecord=3\nfiles=1\n\
+                lanes=1\npayments=1\ncentavos=4294967296\ntariff=789\n\
+                lane=1\nissuer=6-12345678\npayments=1\ncentavos=4294967296\ntariff=789\n";
     assert_eq!(page(Ok(()), 3, 1, session.board()), text.as_bytes());
     let text = page(
         Err(refused(Reason::TotalDiffers, 8)),

@@ -47,37 +47,38 @@ SIZE(hollytrot_writer, 40);
 AT(hollytrot_writer, file, 8);
 SIZE(hollytrot_write_result, 56);
 AT(hollytrot_write_result, writer, 16);
-SIZE(hollytrot_tally, 16);
+SIZE(hollytrot_tally, 24);
 AT(hollytrot_tally, centavos, 8);
-SIZE(hollytrot_lane, 32);
+AT(hollytrot_tally, tariff, 16);
+SIZE(hollytrot_lane, 40);
 AT(hollytrot_lane, tally, 16);
-SIZE(hollytrot_board, 2072);
-AT(hollytrot_board, used, 2048);
-AT(hollytrot_board, total, 2056);
+SIZE(hollytrot_board, 2592);
+AT(hollytrot_board, used, 2560);
+AT(hollytrot_board, total, 2568);
 SIZE(hollytrot_pair, 32);
 AT(hollytrot_pair, agreement, 3);
 AT(hollytrot_pair, sequence, 24);
 SIZE(hollytrot_memory, 520);
 AT(hollytrot_memory, used, 512);
-SIZE(hollytrot_session, 4736);
-AT(hollytrot_session, work, 2072);
-AT(hollytrot_session, opened, 4144);
-AT(hollytrot_session, file, 4152);
-AT(hollytrot_session, opening, 4184);
-AT(hollytrot_session, memory, 4216);
+SIZE(hollytrot_session, 5776);
+AT(hollytrot_session, work, 2592);
+AT(hollytrot_session, opened, 5184);
+AT(hollytrot_session, file, 5192);
+AT(hollytrot_session, opening, 5224);
+AT(hollytrot_session, memory, 5256);
 SIZE(hollytrot_limits, 48);
 AT(hollytrot_limits, record_length, 8);
 AT(hollytrot_limits, payments, 16);
 AT(hollytrot_limits, file_total, 24);
 AT(hollytrot_limits, board_total, 32);
 AT(hollytrot_limits, pairs, 40);
-SIZE(hollytrot_take_result, 4752);
+SIZE(hollytrot_take_result, 5792);
 AT(hollytrot_take_result, session, 16);
-SIZE(hollytrot_run_result, 4776);
+SIZE(hollytrot_run_result, 5816);
 AT(hollytrot_run_result, session, 16);
-AT(hollytrot_run_result, records, 4752);
-AT(hollytrot_run_result, files, 4760);
-AT(hollytrot_run_result, bytes, 4768);
+AT(hollytrot_run_result, records, 5792);
+AT(hollytrot_run_result, files, 5800);
+AT(hollytrot_run_result, bytes, 5808);
 SIZE(hollytrot_page_result, 24);
 AT(hollytrot_page_result, length, 16);
 
@@ -363,10 +364,12 @@ static hollytrot_board numbered_board(uint64_t from)
         board.lanes[i].issuer.number = from + 10 * i + 1;
         board.lanes[i].tally.payments = from + 10 * i + 2;
         board.lanes[i].tally.centavos = from + 10 * i + 3;
+        board.lanes[i].tally.tariff = from + 10 * i + 4;
     }
     board.used = 3;
-    board.total.payments = from + 4;
-    board.total.centavos = from + 5;
+    board.total.payments = from + 5;
+    board.total.centavos = from + 6;
+    board.total.tariff = from + 7;
     return board;
 }
 
@@ -420,6 +423,9 @@ static void same_session(int line, const hollytrot_session *found, const hollytr
     same_memory(line, &found->memory, &wanted->memory);
 }
 
+/* The most that a sum of a board may reach. */
+#define MOST 1000000000000000000
+
 /* The limits of the library are those of the header and of SPEC.md, "Limits". */
 static void limits(void)
 {
@@ -428,7 +434,7 @@ static void limits(void)
     SAME(limits.record_length, HOLLYTROT_RECORD);
     SAME(limits.payments, 999997);
     SAME(limits.file_total, 99999999999999999);
-    SAME(limits.board_total, 1000000000000000000);
+    SAME(limits.board_total, MOST);
     SAME(limits.pairs, HOLLYTROT_PAIRS);
 }
 
@@ -438,6 +444,22 @@ static hollytrot_session open_session(uint64_t taken)
     hollytrot_session session = {numbered_board(100000), numbered_board(200000), true, {taken, 1000, 6, false},
                                  numbered_pair(50), numbered_memory(5)};
     session.work.lanes[1].issuer = (hollytrot_issuer){6, 12345678};
+    return session;
+}
+
+/* The sums with the G. */
+static hollytrot_tally tally_with(hollytrot_tally tally)
+{
+    return (hollytrot_tally){tally.payments + 1, tally.centavos + 123456, tally.tariff + 789};
+}
+
+/* The session after the G, if it is accepted into the second lane. */
+static hollytrot_session session_with(hollytrot_session session)
+{
+    session.work.lanes[1].tally = tally_with(session.work.lanes[1].tally);
+    session.work.total = tally_with(session.work.total);
+    session.file.taken += 1;
+    session.file.total += 123456;
     return session;
 }
 
@@ -452,12 +474,7 @@ static void sessions(void)
     same_bytes(__LINE__, &board, &session.shown, sizeof board);
 
     /* a payment */
-    hollytrot_session after = session;
-    after.work.lanes[1].tally.payments += 1;
-    after.work.lanes[1].tally.centavos += 123456;
-    after.work.total.payments += 1;
-    after.work.total.centavos += 123456;
-    after.file = (hollytrot_file){9, 124456, 6, false};
+    hollytrot_session after = session_with(session);
     result = hollytrot_session_take(session, g, 150, NONE);
     same_answer(result.answer, 0, 0);
     same_session(__LINE__, &result.session, &after);
@@ -480,6 +497,70 @@ static void sessions(void)
     after = hollytrot_session_take(after, a, 150, NONE).session;
     SAME(after.file.version, 6);
     SAME(after.file.lined, false);
+}
+
+/* The G in this session: `after` is the session after it. */
+static void payment_in(const hollytrot_session *session, uint64_t number, size_t place, const hollytrot_session *after)
+{
+    hollytrot_take_result taken = hollytrot_session_take(*session, g, 150, NONE);
+    same_answer(taken.answer, number, place);
+    same_session(__LINE__, &taken.session, after);
+    hollytrot_run_result run = hollytrot_session_run(*session, g, 150, false, NONE);
+    same_answer(run.answer, number, place);
+    same_session(__LINE__, &run.session, after);
+}
+
+/* The largest sums that the G can be added to: each is then 10^18. */
+static const hollytrot_tally room = {MOST - 1, MOST - 123456, MOST - 789};
+
+/* The G in sessions whose working board has room for it in some of the six sums of its lane and of the total; each of
+ * the others is 1 too large, or the largest number of 64 bits. The place is 94 only if there is room in the four that
+ * are not tariffs. */
+static void totals(void)
+{
+    for (unsigned passed = 0; passed < 1 << 6; passed++) {
+        for (int largest = 0; largest < 2; largest++) {
+            hollytrot_session session = open_session(8), after;
+            hollytrot_tally *lane = &session.work.lanes[1].tally, *total = &session.work.total;
+            uint64_t *sums[] = {&lane->tariff, &total->tariff,
+                                &lane->payments, &total->payments, &lane->centavos, &total->centavos};
+            *lane = *total = room;
+            for (size_t i = 0; i < 6; i++)
+                if (passed >> i & 1)
+                    *sums[i] = largest ? UINT64_MAX : *sums[i] + 1;
+            after = passed == 0 ? session_with(session) : session;
+            payment_in(&session, passed == 0 ? 0 : 18, passed == 0 ? 0 : passed < 4 ? 94 : 82, &after);
+        }
+    }
+}
+
+/* 18 at 94 for an issuer's first payment, before 22 and behind 17. */
+static void tariff_totals(void)
+{
+    hollytrot_session session = open_session(8), after;
+    session.work.total.tariff = room.tariff + 1;
+    payment_in(&session, HOLLYTROT_BOARD_TOTAL_PASSED, 94, &session);
+    session.file.lined = true;
+    payment_in(&session, HOLLYTROT_BOARD_TOTAL_PASSED, 94, &session);
+    session.work.total.tariff = room.tariff;
+    payment_in(&session, HOLLYTROT_NO_LINE_END, 151, &session);
+
+    /* what is in a lane that is not in use does not count */
+    session = open_session(8);
+    session.work.used = 1;
+    session.work.lanes[1].tally.tariff = UINT64_MAX;
+    session.work.total.tariff = room.tariff + 1;
+    payment_in(&session, HOLLYTROT_BOARD_TOTAL_PASSED, 94, &session);
+    session.work.total.tariff = room.tariff;
+    after = session_with(session);
+    after.work.used = 2;
+    after.work.lanes[1].tally = tally_with((hollytrot_tally){0, 0, 0});
+    payment_in(&session, 0, 0, &after);
+
+    session.work.used = HOLLYTROT_LANES;
+    session.work.lanes[1].issuer.number += 1;
+    session.work.total.tariff = UINT64_MAX;
+    payment_in(&session, HOLLYTROT_BOARD_FULL, 53, &session);
 }
 
 /* The pair of the A, whose own number is 4321. */
@@ -632,6 +713,9 @@ static void runs(void)
     SAME(run.session.file.taken, 10);
     SAME(run.session.file.total, 247912);
     SAME(run.session.work.lanes[1].tally.payments, session.work.lanes[1].tally.payments + 2);
+    SAME(run.session.work.lanes[1].tally.tariff, session.work.lanes[1].tally.tariff + 2 * 789);
+    SAME(run.session.work.total.tariff, session.work.total.tariff + 2 * 789);
+    SAME(run.session.shown.total.tariff, session.shown.total.tariff);
     /* the right trailer closes the file, and the board shown is then the working board */
     session = open_session(7);
     memcpy(three + 150, z, 150);
@@ -642,6 +726,8 @@ static void runs(void)
     SAME(run.session.opened, false);
     SAME(run.session.file.version, 0);
     SAME(run.session.shown.lanes[1].tally.centavos, session.work.lanes[1].tally.centavos + 123456);
+    SAME(run.session.shown.lanes[1].tally.tariff, session.work.lanes[1].tally.tariff + 789);
+    SAME(run.session.shown.total.tariff, session.work.total.tariff + 789);
     /* if more may follow, the last 150 bytes are left */
     run = hollytrot_session_run(session, three, 300, true, NONE);
     same_answer(run.answer, 0, 0);
@@ -817,10 +903,10 @@ static void agreed_issuers(void)
 static void pages(void)
 {
     static uint8_t page[HOLLYTROT_PAGE];
-    const char wanted[] = "answer=14\nplace=8\nrecord=11\nfiles=12\nlanes=3\npayments=54\ncentavos=55\n"
-                          "lane=1\nissuer=50-0051\npayments=52\ncentavos=53\n"
-                          "lane=2\nissuer=60-0061\npayments=62\ncentavos=63\n"
-                          "lane=3\nissuer=70-0071\npayments=72\ncentavos=73\n";
+    const char wanted[] = "answer=14\nplace=8\nrecord=11\nfiles=12\nlanes=3\npayments=55\ncentavos=56\ntariff=57\n"
+                          "lane=1\nissuer=50-0051\npayments=52\ncentavos=53\ntariff=54\n"
+                          "lane=2\nissuer=60-0061\npayments=62\ncentavos=63\ntariff=64\n"
+                          "lane=3\nissuer=70-0071\npayments=72\ncentavos=73\ntariff=74\n";
     size_t length = sizeof wanted - 1;
     hollytrot_board board = numbered_board(50);
     hollytrot_page_result result = hollytrot_page((hollytrot_answer){14, 8}, 11, 12, board, page, HOLLYTROT_PAGE);
@@ -837,6 +923,16 @@ static void pages(void)
     result = hollytrot_page(answer, 11, 12, board, page, HOLLYTROT_PAGE - 1);
     same_answer(result.answer, 1, 0);
     SAME(result.length, 0);
+    /* tariffs of more than 32 bits, behind the centavos of the total and of the last lane */
+    const char total[] = "centavos=56\ntariff=18446744073709551615\nlane=1\n";
+    const char last[] = "centavos=73\ntariff=4294967296\n";
+    board.total.tariff = UINT64_MAX;
+    board.lanes[2].tally.tariff = 1ull << 32;
+    length += 18 + 8;
+    result = hollytrot_page((hollytrot_answer){14, 8}, 11, 12, board, page, HOLLYTROT_PAGE);
+    SAME(result.length, length);
+    same_bytes(__LINE__, page + 57, total, sizeof total - 1);
+    same_bytes(__LINE__, page + length - (sizeof last - 1), last, sizeof last - 1);
 }
 
 int main(void)
@@ -851,6 +947,8 @@ int main(void)
     versions();
     limits();
     sessions();
+    totals();
+    tariff_totals();
     headers();
     trailers();
     lined_sessions();

@@ -9,7 +9,7 @@
 
 #define FILL 0xA5
 #define GUARD 64
-#define MOST_OUT 9000
+#define MOST_OUT 11000
 #define MOST_AGREED 255
 
 /* The frame of requests, and the frame of replies. */

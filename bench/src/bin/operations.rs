@@ -92,11 +92,17 @@ fn inputs(day: Vec<u8>) -> Result<Inputs, Refusal> {
     Ok(inputs)
 }
 
-/// The centavos that a run over the day receives.
+/// The three totals of the board shown.
+fn sum_of_board(session: &Session) -> u64 {
+    let board = session.board();
+    board.payments + board.centavos + board.tariff
+}
+
+/// The totals after a run over the day.
 fn run(day: &[u8], agreed: &[u64]) -> Result<u64, Refusal> {
     let mut session = Session::new();
     session.run(black_box(day), false, agreed).answer?;
-    Ok(session.board().centavos)
+    Ok(sum_of_board(&session))
 }
 
 fn round(name: &str, inputs: &mut Inputs) -> Result<u64, Box<dyn Error>> {
@@ -129,7 +135,7 @@ fn round(name: &str, inputs: &mut Inputs) -> Result<u64, Box<dyn Error>> {
             for record in inputs.day.chunks(inputs.step) {
                 session.take(black_box(record), &[])?;
             }
-            sum += session.board().centavos;
+            sum += sum_of_board(&session);
         }
         "run" => sum += run(&inputs.day, &[])?,
         "run-64-agreed" => sum += run(&inputs.day, &inputs.agreed)?,

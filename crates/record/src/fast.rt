@@ -189,11 +189,11 @@ pub(crate) fn accepted_payment(rec: &[u8], version: u64, agreed: &[u64]) -> Paym
         return PaymentDue::Nothing;
     }
     match barcode::judged::accepted_issuer(parts::field_bytes(rec, g::BARCODE), agreed) {
-        MaybeIssuer::Is(issuer) => PaymentDue::To(
-            issuer,
-            parts::number_in(rec, g::RECEIVED),
-            parts::number_in(rec, g::TARIFF),
-        ),
+        MaybeIssuer::Is(issuer) => {
+            let received = parts::number_in(rec, g::RECEIVED);
+            let tariff = parts::number_in(rec, g::TARIFF);
+            PaymentDue::To(issuer, received, tariff)
+        }
         MaybeIssuer::NoIssuer => PaymentDue::Nothing,
     }
 }

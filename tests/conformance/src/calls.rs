@@ -1,13 +1,15 @@
 //! Each call goes to the engine as a request, and to the reference program, whose outcome is the expected reply.
 
+pub mod cases;
+mod counts;
 mod states;
-
-use std::collections::{BTreeMap, BTreeSet};
 
 use reference::{agreed, barcode, line, records, Date, Issuer, Modulus, Refusal, Session, Writer};
 
 use crate::engine::{Batch, Engine};
 use crate::wire;
+
+pub use counts::Counts;
 
 /// A batch is sent when it has this many bytes of requests and replies.
 const BATCH: usize = 1 << 18;
@@ -16,7 +18,10 @@ const BATCH: usize = 1 << 18;
 const FILL: u8 = 0xA5;
 
 /// The length of the page's buffer.
-pub const PAGE: usize = 8837;
+pub const PAGE: usize = 10657;
+
+/// The length of the largest buffer that `serve.c` lends for a page.
+pub const MOST_PAGE: usize = 11_000;
 
 /// The rows of a record that are compared: those of the table, and two past it.
 const ROWS: [usize; 30] = {
@@ -29,10 +34,8 @@ const ROWS: [usize; 30] = {
     rows
 };
 
-/// The letters of requests whose reply starts with an answer.
-const ANSWERED: &[u8] = b"blrjcutRehgzp";
-
-/// Those of them that have a list of agreed issuers, and the places where they may be refused for a missing due date.
+/// The letters of requests that have an answer and a list of agreed issuers, and the places where they may be refused
+/// for a missing due date.
 pub const LISTED: [(u8, &[u64]); 9] = [
     (b'b', &[20, 24]),
     (b'l', &[21, 26]),
@@ -44,38 +47,6 @@ pub const LISTED: [(u8, &[u64]); 9] = [
     (b'R', &[57, 61]),
     (b'g', &[57, 61]),
 ];
-
-/// How many inputs were compared, how often each number was answered, and which answers, a number and a place, requests
-/// of each letter had.
-#[derive(Clone, Default)]
-pub struct Counts {
-    pub inputs: u64,
-    pub answers: BTreeMap<u64, u64>,
-    pub by_letter: BTreeSet<(u8, [u64; 2])>,
-}
-
-impl Counts {
-    /// Counts the answers that a batch expects.
-    fn count(&mut self, batch: &Batch) {
-        for &(request, reply) in &batch.starts {
-            let letter = batch.requests[request];
-            if ANSWERED.contains(&letter) {
-                let number = wire::number_at(&batch.expected, reply);
-                let place = wire::number_at(&batch.expected, reply + 8);
-                *self.answers.entry(number).or_insert(0) += 1;
-                self.by_letter.insert((letter, [number, place]));
-            }
-        }
-    }
-
-    pub fn add(&mut self, more: &Counts) {
-        self.inputs += more.inputs;
-        for (&number, &count) in &more.answers {
-            *self.answers.entry(number).or_insert(0) += count;
-        }
-        self.by_letter.extend(&more.by_letter);
-    }
-}
 
 /// A conversion of bytes into an output buffer.
 #[derive(Clone, Copy)]

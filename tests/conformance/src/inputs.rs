@@ -6,13 +6,10 @@ mod rest;
 use reference::records::LENGTH;
 use reference::Session;
 
-use crate::calls::{Calls, Conversion, PAGE};
+use crate::calls::{Calls, Conversion, MOST_PAGE, PAGE};
 use crate::lines;
 
 pub use rest::Rest;
-
-/// The length of the largest buffer for a page.
-const MOST_PAGE: usize = 9000;
 
 /// How many bytes a cut of runs has.
 pub const CUT: usize = 3;

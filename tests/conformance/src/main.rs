@@ -8,14 +8,18 @@ use std::sync::Mutex;
 use std::thread;
 use std::time::Instant;
 
+use conformance::calls::cases::Case;
 use conformance::calls::{Calls, Counts, LISTED};
 use conformance::families::{Family, ALL};
 use reference::random::Random;
-use reference::records::{A_AGREEMENT, A_SEQUENCE, TABLE};
-use reference::Reason::{self, NotFollowing, PairsFull};
+use reference::records::{A_AGREEMENT, A_SEQUENCE, G_RECEIVED, G_TARIFF, TABLE};
+use reference::Reason::{self, BoardTotal, NotFollowing, PairsFull};
 
 /// Fewer inputs than this are a failure.
 const LEAST_INPUTS: u64 = 5_000_000;
+
+/// Fewer payments than this in a case at the limit of tariffs, taken alone or in runs, are a failure.
+const LEAST_OF_CASE: u64 = 100;
 
 /// A number of the environment, or the default if it is not set.
 fn variable(name: &str, default: u64) -> u64 {
@@ -62,8 +66,33 @@ fn compare_all(seed: u64, times: u64) -> Result<Counts, String> {
     })
 }
 
-/// What is missing: inputs, an answer that no input got, or one about agreed issuers or sequence numbers that no
-/// request of a letter got.
+/// The letters of the requests that take records: alone or in a run.
+const TAKING: [u8; 2] = *b"tR";
+
+/// The answers that requests of a letter must get, by number and place: those about agreed issuers, about sequence
+/// numbers, and about the sums of the board.
+fn expected() -> Vec<(u8, [u64; 2])> {
+    let mut expected = Vec::new();
+    for (letter, places) in LISTED {
+        expected.push((letter, [Reason::WrongList.number(), 0]));
+        for &place in places {
+            expected.push((letter, [Reason::NoDate.number(), place]));
+        }
+    }
+    for letter in TAKING {
+        for (reason, row) in [
+            (NotFollowing, A_SEQUENCE),
+            (PairsFull, A_AGREEMENT),
+            (BoardTotal, G_RECEIVED),
+            (BoardTotal, G_TARIFF),
+        ] {
+            expected.push((letter, [reason.number(), TABLE[row].first as u64]));
+        }
+    }
+    expected
+}
+
+/// What is missing: inputs, an answer that no input got or no request of a letter, or payments at the limit of tariffs.
 fn missing(counts: &Counts) -> Option<String> {
     if counts.inputs < LEAST_INPUTS {
         return Some(format!("only {} inputs", counts.inputs));
@@ -72,25 +101,28 @@ fn missing(counts: &Counts) -> Option<String> {
     if let Some(unseen) = numbers.find(|number| !counts.answers.contains_key(number)) {
         return Some(format!("no input was answered {unseen}"));
     }
-    let mut expected = Vec::new();
-    for (letter, places) in LISTED {
-        expected.push((letter, [Reason::WrongList.number(), 0]));
-        for &place in places {
-            expected.push((letter, [Reason::NoDate.number(), place]));
+    let unseen = |expected: &(u8, [u64; 2])| !counts.by_letter.contains(expected);
+    if let Some((letter, [number, place])) = expected().into_iter().find(unseen) {
+        let letter = letter as char;
+        return Some(format!(
+            "no request '{letter}' was answered {number} at {place}"
+        ));
+    }
+    missing_case(counts)
+}
+
+/// A case of a payment at the limit of tariffs that too few requests of a letter met.
+fn missing_case(counts: &Counts) -> Option<String> {
+    for letter in TAKING {
+        for case in Case::ALL {
+            let met = counts.cases.get(&(letter, case)).copied().unwrap_or(0);
+            if met < LEAST_OF_CASE {
+                let letter = letter as char;
+                return Some(format!("only {met} requests '{letter}' met {case:?}"));
+            }
         }
     }
-    // A header is taken alone or in a run.
-    for letter in *b"tR" {
-        for (reason, row) in [(NotFollowing, A_SEQUENCE), (PairsFull, A_AGREEMENT)] {
-            expected.push((letter, [reason.number(), TABLE[row].first as u64]));
-        }
-    }
-    let unseen = |expected: &&(u8, [u64; 2])| !counts.by_letter.contains(*expected);
-    let (letter, [number, place]) = expected.iter().find(unseen)?;
-    Some(format!(
-        "no request '{}' was answered {number} at {place}",
-        *letter as char
-    ))
+    None
 }
 
 fn main() -> ExitCode {

@@ -120,13 +120,11 @@ pub fn record(reply: &mut Vec<u8>, outcome: &Result<Record, Refusal>) {
 
 pub fn board(reply: &mut Vec<u8>, board: &Board) {
     for lane in &board.lanes {
-        let issuer = lane.issuer;
-        numbers(
-            reply,
-            &[issuer.segment, issuer.number, lane.payments, lane.centavos],
-        );
+        numbers(reply, &[lane.issuer.segment, lane.issuer.number]);
+        numbers(reply, &[lane.payments, lane.centavos, lane.tariff]);
     }
-    numbers(reply, &[board.used as u64, board.payments, board.centavos]);
+    number(reply, board.used as u64);
+    numbers(reply, &[board.payments, board.centavos, board.tariff]);
 }
 
 /// The file of a session or of a writer.

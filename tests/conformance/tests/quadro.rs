@@ -18,6 +18,8 @@ use conformance::{lines, versions};
 use reference::days;
 use reference::page::page_of;
 use reference::random::Random;
+use reference::records::LENGTH;
+use reference::{Issuer, Writer};
 
 /// The signal of a write to a pipe that has no reader.
 const SIGPIPE: i32 = 13;
@@ -87,6 +89,47 @@ fn pages_of_days() {
 #[test]
 fn pages_of_other_days() {
     pages(1);
+}
+
+/// A file of payments: segment and number of the issuer, centavos received, tariff.
+fn file_of(payments: &[[u64; 4]]) -> Vec<u8> {
+    let random = &mut Random::new(2);
+    let mut writer = Writer::new();
+    let mut bytes = vec![0; LENGTH * (payments.len() + 2)];
+    let mut records = bytes.chunks_exact_mut(LENGTH);
+    let mut next = || records.next().expect("a buffer for each record");
+    writer
+        .header(&days::header_fields(random), next())
+        .expect("a good header");
+    for &[segment, number, received, tariff] in payments {
+        let code = days::barcode_of(random, Issuer { segment, number }).expect("a good barcode");
+        let fields = days::payment_fields(random, &code, writer.version);
+        writer
+            .payment(&fields, received, tariff, &[], next())
+            .expect("a good payment");
+    }
+    writer.trailer(next()).expect("a good trailer");
+    bytes
+}
+
+/// The whole page, spelled out: the tariffs are behind the centavos.
+#[test]
+fn a_page_with_tariffs() {
+    let bytes = file_of(&[
+        [2, 42, 100, 9_999_999],
+        [6, 7, 0, 0],
+        [2, 42, 999_999_999_999, 1],
+        [1, 3_659, 25, 150],
+    ]);
+    let output = output_of(|stdin| stdin.write_all(&bytes));
+    let page = "\
+        answer=0\nplace=0\nrecord=6\nfiles=1\nlanes=3\n\
+        payments=4\ncentavos=1000000000124\ntariff=10000150\n\
+        lane=1\nissuer=2-0042\npayments=2\ncentavos=1000000000099\ntariff=10000000\n\
+        lane=2\nissuer=6-00000007\npayments=1\ncentavos=0\ntariff=0\n\
+        lane=3\nissuer=1-3659\npayments=1\ncentavos=25\ntariff=150\n";
+    assert_page(&output, page.as_bytes());
+    assert_page(&output, &page_of(&bytes));
 }
 
 #[test]

@@ -29,6 +29,8 @@ impl Calls {
         let outcome = self.session.take(record, agreed);
         assert!(outcome.is_ok() || before == self.session);
         let after = self.session.clone();
+        self.counts
+            .count_cases(b't', [&before, &after], record, outcome);
         let (request, reply) = self.call(b't');
         put(request, record);
         wire::list(request, agreed);
@@ -39,9 +41,13 @@ impl Calls {
 
     /// Takes consecutive records; each counts as an input. More bytes may be to come.
     pub fn run(&mut self, bytes: &[u8], more: bool, agreed: &[u64]) -> RunResult {
+        let before = self.session.clone();
         let result = self.session.run(bytes, more, agreed);
         let after = self.session.clone();
         self.counts.inputs += result.records;
+        let rest = &bytes[result.bytes..];
+        self.counts
+            .count_cases(b'R', [&before, &after], rest, result.answer);
         let (request, reply) = self.call(b'R');
         wire::flag(request, more);
         wire::number(request, bytes.len() as u64);

@@ -4,7 +4,7 @@ use reference::days;
 use reference::random::Random;
 use reference::records::{G_CAPTURE, G_FORM, LINE_END, TABLE};
 
-use super::sessions;
+use super::{boards, sessions};
 use crate::calls::Calls;
 use crate::{lists, versions};
 
@@ -96,13 +96,13 @@ fn taken(calls: &mut Calls, random: &mut Random) {
             // In one session, the number of a second file might have to follow that of the first.
             calls.new_session();
             let header = versions::header(random, version);
-            let agreed = lists::right(random, &sessions::FEW);
+            let agreed = lists::right(random, &boards::FEW);
             calls
                 .take(&[&header, end].concat(), &agreed)
                 .expect("a file to open");
             for byte in 0..=255 {
                 for code in [CAPTURE, FORM] {
-                    let mut record = sessions::payment(random, version, &agreed);
+                    let mut record = boards::payment(random, version, &agreed);
                     let before = record;
                     record[code] = byte;
                     let _ = calls.take(&[&record, end].concat(), &agreed);

@@ -2,11 +2,11 @@
 //! header is expected. A record is taken alone, and in runs with more to come or not.
 
 use reference::random::Random;
-use reference::records::LINE_END;
+use reference::records::{G_RECEIVED, G_TARIFF, LINE_END};
 use reference::session::{LANES, MOST_BOARD_TOTAL, MOST_FILE_TOTAL, MOST_PAYMENTS};
-use reference::{days, digits, Session};
+use reference::{days, Session};
 
-use super::sessions;
+use super::{boards, sessions};
 use crate::calls::Calls;
 use crate::lines::WRONG_ENDS;
 use crate::{lists, versions};
@@ -24,7 +24,7 @@ fn open(version: u64, lined: bool) -> Session {
 }
 
 /// Sessions of this version in both forms: with no file open, with one open, and with one open at each limit, where a
-/// payment is refused 15, 16, 17 or 18.
+/// payment is refused 15, 16, 17, 18 at 82 or 18 at 94.
 fn states(version: u64) -> Vec<Session> {
     let mut states = Vec::new();
     for lined in [false, true] {
@@ -32,11 +32,12 @@ fn states(version: u64) -> Vec<Session> {
             lined,
             ..Session::new()
         };
-        let mut limits = [(); 4].map(|()| open(version, lined));
+        let mut limits = [(); 5].map(|()| open(version, lined));
         limits[0].taken = MOST_PAYMENTS;
         limits[1].total = MOST_FILE_TOTAL;
         limits[2].working.used = LANES;
         limits[3].working.payments = MOST_BOARD_TOTAL;
+        limits[4].working.tariff = MOST_BOARD_TOTAL;
         states.extend([closed, open(version, lined)]);
         states.extend(limits);
     }
@@ -50,9 +51,10 @@ fn right_records(
     version: u64,
     agreed: &[u64],
 ) -> [[u8; 150]; 3] {
-    let mut payment = sessions::payment(random, version, agreed);
+    let mut payment = boards::payment(random, version, agreed);
     // An amount of 0 passes no limit.
-    digits::write(1 + random.number(10), &mut payment[81..93]);
+    boards::set(&mut payment, G_RECEIVED, 1 + random.number(10));
+    boards::set(&mut payment, G_TARIFF, 1 + random.number(6));
     [
         versions::header(random, version),
         payment,
@@ -110,7 +112,7 @@ pub fn each_two_bytes(calls: &mut Calls, random: &mut Random, times: u64) {
     for _ in 0..times {
         let version = days::version(random);
         let lined = open(version, true);
-        let agreed = lists::right(random, &sessions::FEW);
+        let agreed = lists::right(random, &boards::FEW);
         let [header, payment, trailer] = right_records(random, &lined, version, &agreed);
         let closed = Session::new();
         for (session, record) in [(&closed, header), (&lined, payment), (&lined, trailer)] {
@@ -135,7 +137,7 @@ pub fn each_length(calls: &mut Calls, random: &mut Random, times: u64) {
     for _ in 0..times {
         for version in [4, 6] {
             for session in states(version) {
-                let agreed = lists::lent(random, &sessions::FEW);
+                let agreed = lists::lent(random, &boards::FEW);
                 let made = lists::made(random, &agreed);
                 let right = right_records(random, &session, version, made);
                 let wrong = wrong_records(random, &session, version, made);
@@ -161,7 +163,7 @@ fn cut_anywhere(
     agreed: &[u64],
 ) {
     let made = lists::made(random, agreed);
-    let second = sessions::payment(random, session.version.max(4), made);
+    let second = boards::payment(random, session.version.max(4), made);
     for end in [b"".as_slice(), LINE_END] {
         let bytes = [record, end, &second, end].concat();
         for length in 0..=160 {

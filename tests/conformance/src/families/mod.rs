@@ -1,6 +1,7 @@
 //! The inputs, in families: all inputs of a kind where that is possible, else random ones from a seed.
 
 mod agreed;
+mod boards;
 mod codes;
 mod digits;
 mod ends;
@@ -8,6 +9,7 @@ mod pairs;
 mod records;
 mod sequence;
 mod sessions;
+mod tariffs;
 mod writers;
 
 use reference::random::Random;
@@ -21,7 +23,7 @@ pub struct Family {
 }
 
 /// The slowest first, so that two workers end at about the same time.
-pub const ALL: [Family; 25] = [
+pub const ALL: [Family; 27] = [
     Family {
         name: "line ends, every two bytes",
         compare: ends::each_two_bytes,
@@ -101,6 +103,14 @@ pub const ALL: [Family; 25] = [
     Family {
         name: "days of many pairs, many records at once",
         compare: pairs::by_run,
+    },
+    Family {
+        name: "tariffs, every sum at its edges",
+        compare: tariffs::each_sum,
+    },
+    Family {
+        name: "tariffs, files that reach the limit",
+        compare: tariffs::files,
     },
     Family {
         name: "sessions, noise",

@@ -3,14 +3,13 @@
 
 use reference::random::Random;
 use reference::records::{LENGTH, LINED, LINE_END};
-use reference::{days, digits, Board, Issuer, Reason, Session};
+use reference::session::LANES;
+use reference::{days, digits, Board, Issuer, Lane, Reason, Session};
 
+use super::boards::{board, payment, FEW};
 use super::near;
-use crate::calls::{Calls, PAGE};
+use crate::calls::{Calls, MOST_PAGE, PAGE};
 use crate::{lines, lists, memories, versions};
-
-/// Numbers at the limits of counts and sums.
-const LIMITS: [u64; 4] = [0, 999_997, 1_000_000_000_000_000_000, u64::MAX];
 
 /// A day of 0 to 70 issuers and a list, with files of both versions, lined, bare or both: unchanged, damaged at one to
 /// three places, out of order, or both. One in five has another version or another code in one to three records, one in
@@ -117,52 +116,6 @@ pub fn noise(calls: &mut Calls, random: &mut Random, times: u64) {
     }
 }
 
-/// A few issuers.
-pub const FEW: [Issuer; 12] = {
-    let mut few = [Issuer {
-        segment: 1,
-        number: 0,
-    }; 12];
-    let mut i = 0;
-    while i < 12 {
-        few[i].segment = [1, 2, 6][i % 3];
-        few[i].number = i as u64 / 3;
-        i += 1;
-    }
-    few
-};
-
-/// One of the few issuers.
-fn issuer(random: &mut Random) -> Issuer {
-    FEW[random.index(FEW.len())]
-}
-
-/// A board in an arbitrary state, with numbers near the limits. Some of its lanes have one of the few issuers, so
-/// that a payment's issuer may be found once, several times or never.
-pub fn board(random: &mut Random) -> Board {
-    let mut board = Board::new();
-    for lane in &mut board.lanes {
-        if random.once_in(16) {
-            lane.issuer = issuer(random);
-        } else {
-            lane.issuer.segment = random.bits();
-            lane.issuer.number = random.number(8);
-        }
-        lane.payments = near(random, &LIMITS);
-        lane.centavos = near(random, &LIMITS);
-    }
-    board.used = near(random, &[0, 1, 5, 63, 64, 65, u64::MAX]) as usize;
-    board.payments = near(random, &LIMITS);
-    board.centavos = near(random, &LIMITS);
-    board
-}
-
-/// A payment of one of the few issuers, in a file of this version, accepted under this list.
-pub fn payment(random: &mut Random, version: u64, agreed: &[u64]) -> [u8; 150] {
-    let issuer = issuer(random);
-    days::payment_under(random, issuer, version, agreed).expect("a good payment")
-}
-
 /// A trailer with the count and the total of the session's file, if they fit in its fields.
 pub fn trailer(session: &Session) -> [u8; 150] {
     let mut record = [b' '; 150];
@@ -173,15 +126,28 @@ pub fn trailer(session: &Session) -> [u8; 150] {
     record
 }
 
+/// The figures of a file, payments and centavos: near their limits, or far from them, so that payments come up to the
+/// limits of the board.
+fn figures(random: &mut Random) -> [u64; 2] {
+    if random.once_in(2) {
+        return [random.number(5), random.number(16)];
+    }
+    [
+        near(random, &[0, 999_996, 999_997, u64::MAX - 2]),
+        near(random, &[0, 99_999_999_999_999_999, u64::MAX]),
+    ]
+}
+
 /// Sessions in arbitrary states, with a few calls each. Their file may have a version that is none, and may be lined or
 /// have a pair while it is not open.
 pub fn arbitrary(calls: &mut Calls, random: &mut Random, times: u64) {
     for _ in 0..12_000 * times {
         let memory = memories::memory(random);
+        let [taken, total] = figures(random);
         let session = Session {
             open: !random.once_in(8),
-            taken: near(random, &[0, 999_996, 999_997, u64::MAX - 2]),
-            total: near(random, &[0, 99_999_999_999_999_999, u64::MAX]),
+            taken,
+            total,
             version: versions::told(random),
             lined: random.once_in(2),
             shown: board(random),
@@ -239,23 +205,52 @@ fn answer_number(random: &mut Random) -> u64 {
     near(random, &[0, reason.number(), u64::MAX])
 }
 
-/// Pages of boards in arbitrary states, with answers of any number and any place, into buffers of any length.
+/// The length of a page's buffer: mostly the required one.
+fn page_length(random: &mut Random) -> usize {
+    match random.below(8) {
+        0 => random.index(MOST_PAGE + 1),
+        1 => PAGE - 1 + 2 * random.index(2),
+        _ => PAGE,
+    }
+}
+
+/// The board with the longest page: every lane is in use, and every number has 20 digits.
+fn longest() -> Board {
+    let most = u64::MAX;
+    let lane = Lane {
+        issuer: Issuer {
+            segment: most,
+            number: most,
+        },
+        payments: most,
+        centavos: most,
+        tariff: most,
+    };
+    Board {
+        lanes: [lane; LANES],
+        used: LANES,
+        payments: most,
+        centavos: most,
+        tariff: most,
+    }
+}
+
+/// The longest page, and pages of boards in arbitrary states, with answers of any number and any place, into buffers of
+/// any length.
 pub fn pages(calls: &mut Calls, random: &mut Random, times: u64) {
+    let mut session = Session::new();
+    session.shown = longest();
+    calls.set_session(&session);
+    calls.page(u64::MAX, u64::MAX, u64::MAX, u64::MAX, PAGE);
     for _ in 0..1_500 * times {
-        let mut session = Session::new();
         session.shown = board(random);
         calls.set_session(&session);
-        let out_length = if random.once_in(4) {
-            random.index(9000)
-        } else {
-            PAGE
-        };
         calls.page(
             answer_number(random),
             near(random, &[0, 150, u64::MAX]),
             random.bits(),
             random.bits(),
-            out_length,
+            page_length(random),
         );
         calls.page(
             answer_number(random),

@@ -45,6 +45,7 @@ impl<'a> Rest<'a> {
         board.used = self.number() as usize;
         board.payments = self.number();
         board.centavos = self.number();
+        board.tariff = self.number();
         let given = usize::from(self.byte()).min(LANES);
         for lane in &mut board.lanes[..given] {
             let issuer = Issuer {
@@ -55,6 +56,7 @@ impl<'a> Rest<'a> {
                 issuer,
                 payments: self.number(),
                 centavos: self.number(),
+                tariff: self.number(),
             };
         }
         board

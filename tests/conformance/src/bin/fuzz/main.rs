@@ -11,6 +11,7 @@ mod pairs;
 mod places;
 mod repair;
 mod seeds;
+mod sums;
 
 use std::env;
 use std::panic::{catch_unwind, AssertUnwindSafe};

@@ -1,4 +1,4 @@
-//! Mutations of an input: of bytes, of ranges of bytes, and of its list, records, fields, pairs and line ends.
+//! Mutations of an input: of bytes, of ranges of bytes, and of its list, records, fields, pairs, sums and line ends.
 
 use std::ops::Range;
 
@@ -9,7 +9,7 @@ use reference::random::Random;
 use reference::records::TABLE;
 
 use crate::repair::repair;
-use crate::{agreed, ends, pairs, places};
+use crate::{agreed, ends, pairs, places, sums};
 
 /// The length of the longest input.
 const MOST_BYTES: usize = 1 << 14;
@@ -87,6 +87,7 @@ pub fn mutate(random: &mut Random, kind: Kind, one: &[u8], other: &[u8]) -> Vec<
             8 => version(random, kind, &mut bytes),
             9 | 10 => form(random, kind, &mut bytes),
             11 if pairs::copy(random, kind, &mut bytes) => {}
+            12 if sums::limit(random, kind, &mut bytes) => {}
             _ => byte(random, &mut bytes),
         }
     }

@@ -12,6 +12,12 @@ use reference::{barcode, Issuer};
 /// Where the field bytes of a payment have its barcode.
 pub const GIVEN_BARCODE: usize = 36;
 
+/// How many bytes a board has before its lanes: four numbers, and how many lanes follow.
+const BOARD: usize = 4 * 8 + 1;
+
+/// How many bytes a lane has: five numbers.
+const LANE: usize = 5 * 8;
+
 /// Whether records have a byte before them that says how long they are.
 pub fn has_steps(kind: Kind) -> bool {
     matches!(kind, Kind::Take | Kind::ArbitrarySession)
@@ -237,17 +243,34 @@ fn built(rest: &[u8]) -> Option<Vec<u8>> {
 
 /// Adds where the numbers of the boards of a session in an arbitrary state start, and returns where the boards end.
 fn boards(rest: &[u8], places: &mut Vec<usize>) -> usize {
-    let records = steps(rest, 26, arbitrary_steps(rest));
-    let shown = records.last().map_or(26, |last| last.end);
-    let working = board(rest, shown, places);
+    let working = board(rest, shown(rest), places);
     board(rest, working, places)
+}
+
+/// Where the board shown of a session in an arbitrary state starts.
+fn shown(rest: &[u8]) -> usize {
+    let records = steps(rest, 26, arbitrary_steps(rest));
+    records.last().map_or(26, |last| last.end)
 }
 
 /// Adds where the numbers of a board and of its lanes start, and returns where the board ends.
 fn board(rest: &[u8], first: usize, places: &mut Vec<usize>) -> usize {
-    let lanes = rest.get(first + 24).map_or(0, |&count| count.into());
-    let end = first + 25 + 32 * LANES.min(lanes);
-    places.extend([first, first + 8, first + 16]);
-    places.extend((first + 25..end).step_by(8));
-    end
+    let lanes = lanes(rest, first);
+    places.extend((first..first + BOARD - 1).step_by(8));
+    places.extend(lanes.clone().step_by(8));
+    lanes.end
+}
+
+/// Where the lanes of the board are that starts here.
+fn lanes(rest: &[u8], first: usize) -> Range<usize> {
+    let count = rest.get(first + BOARD - 1).map_or(0, |&count| count.into());
+    first + BOARD..first + BOARD + LANE * LANES.min(count)
+}
+
+/// Where the payments, centavos and tariff of the working board of a session in an arbitrary state start: of its total,
+/// then of each of its lanes. Some may be past the end.
+pub fn tallies(rest: &[u8]) -> Vec<usize> {
+    let working = board(rest, shown(rest), &mut Vec::new());
+    let of_lanes = lanes(rest, working).step_by(LANE).map(|lane| lane + 16);
+    [working + 8].into_iter().chain(of_lanes).collect()
 }

@@ -8,8 +8,8 @@ use conformance::inputs::{self, Kind, FED};
 use conformance::{lines, lists, memories, wire};
 use reference::random::Random;
 use reference::records::LENGTH;
-use reference::session::PAIRS;
-use reference::{days, Board, Issuer, Refusal, Writer};
+use reference::session::{LANES, MOST_BOARD_TOTAL, PAIRS};
+use reference::{days, Issuer, Refusal, Writer};
 
 use crate::mutate::EDGES;
 use crate::{agreed, places};
@@ -112,7 +112,7 @@ fn record(random: &mut Random, turn: usize) -> Result<Vec<u8>, Refusal> {
 
 /// A session in an arbitrary state: with a file open, of which it takes a payment and a trailer, or with none open, of
 /// which it takes a header and a trailer.
-fn session(random: &mut Random, open: bool) -> Result<Vec<u8>, Refusal> {
+pub fn session(random: &mut Random, open: bool) -> Result<Vec<u8>, Refusal> {
     let lined = random.once_in(2);
     let mut rest = vec![u8::from(open) + 2 * u8::from(lined)];
     let version = days::version(random);
@@ -186,15 +186,24 @@ fn steps(bytes: &[u8]) -> Vec<u8> {
     lines::records(bytes).into_iter().flat_map(step).collect()
 }
 
-/// A board with numbers at the edges; its first lane has this issuer.
+/// A board with numbers at the edges, or with tariffs near the limit while its other sums are far from it; its first
+/// lane has this issuer.
 fn board(random: &mut Random, first: Issuer) -> Vec<u8> {
-    let lanes = [0, 1, 3, Board::new().lanes.len()][random.index(4)];
-    let mut edge = || EDGES[random.index(EDGES.len())];
-    let mut board = numbers([lanes as u64, edge(), edge()]);
+    let lanes = [0, 1, 3, LANES][random.index(4)];
+    let near = random.once_in(2);
+    let mut tally = || {
+        if near {
+            let tariff = MOST_BOARD_TOTAL - random.number(7);
+            return numbers([random.number(17), random.number(17), tariff]);
+        }
+        numbers([(); 3].map(|()| EDGES[random.index(EDGES.len())]))
+    };
+    let mut board = numbers([lanes as u64]);
+    board.extend(tally());
     board.push(lanes as u8);
     for lane in 0..lanes as u64 {
-        let number = first.number + lane;
-        board.extend(numbers([first.segment, number, edge(), edge()]));
+        board.extend(numbers([first.segment, first.number + lane]));
+        board.extend(tally());
     }
     board
 }
