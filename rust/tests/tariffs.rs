@@ -124,6 +124,21 @@ fn tariffs_of_many_files_add_up() {
     );
 }
 
+/// A file has at most 999,997 payments, so its tariffs stay far below 10^18.
+#[test]
+fn the_largest_file_has_room_for_its_tariffs() {
+    const MOST: u64 = 999_997;
+    let records = records_of(1, &[(ISSUER, 0, LARGEST)]);
+    let mut file = records[0].clone();
+    file.extend(records[1].repeat(MOST as usize));
+    let mut trailer = records[2].clone();
+    trailer[1..7].copy_from_slice(b"999999");
+    file.extend(trailer);
+    let mut session = Session::new();
+    assert_eq!(session.run(&file, &NONE).answer, Ok(()));
+    assert_eq!(session.board().total(), tally(MOST, 0, MOST * LARGEST));
+}
+
 #[test]
 fn only_the_tariffs_of_accepted_files_are_shown() {
     let mut session = Session::new();

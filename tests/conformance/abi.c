@@ -500,14 +500,15 @@ static void sessions(void)
 }
 
 /* The G in this session: `after` is the session after it. */
-static void payment_in(const hollytrot_session *session, uint64_t number, size_t place, const hollytrot_session *after)
+static void payment_in(int line, const hollytrot_session *session, uint64_t number, size_t place,
+                       const hollytrot_session *after)
 {
     hollytrot_take_result taken = hollytrot_session_take(*session, g, 150, NONE);
     same_answer(taken.answer, number, place);
-    same_session(__LINE__, &taken.session, after);
+    same_session(line, &taken.session, after);
     hollytrot_run_result run = hollytrot_session_run(*session, g, 150, false, NONE);
     same_answer(run.answer, number, place);
-    same_session(__LINE__, &run.session, after);
+    same_session(line, &run.session, after);
 }
 
 /* The largest sums that the G can be added to: each is then 10^18. */
@@ -529,7 +530,7 @@ static void totals(void)
                 if (passed >> i & 1)
                     *sums[i] = largest ? UINT64_MAX : *sums[i] + 1;
             after = passed == 0 ? session_with(session) : session;
-            payment_in(&session, passed == 0 ? 0 : 18, passed == 0 ? 0 : passed < 4 ? 94 : 82, &after);
+            payment_in(__LINE__, &session, passed == 0 ? 0 : 18, passed == 0 ? 0 : passed < 4 ? 94 : 82, &after);
         }
     }
 }
@@ -539,28 +540,28 @@ static void tariff_totals(void)
 {
     hollytrot_session session = open_session(8), after;
     session.work.total.tariff = room.tariff + 1;
-    payment_in(&session, HOLLYTROT_BOARD_TOTAL_PASSED, 94, &session);
+    payment_in(__LINE__, &session, HOLLYTROT_BOARD_TOTAL_PASSED, 94, &session);
     session.file.lined = true;
-    payment_in(&session, HOLLYTROT_BOARD_TOTAL_PASSED, 94, &session);
+    payment_in(__LINE__, &session, HOLLYTROT_BOARD_TOTAL_PASSED, 94, &session);
     session.work.total.tariff = room.tariff;
-    payment_in(&session, HOLLYTROT_NO_LINE_END, 151, &session);
+    payment_in(__LINE__, &session, HOLLYTROT_NO_LINE_END, 151, &session);
 
     /* what is in a lane that is not in use does not count */
     session = open_session(8);
     session.work.used = 1;
     session.work.lanes[1].tally.tariff = UINT64_MAX;
     session.work.total.tariff = room.tariff + 1;
-    payment_in(&session, HOLLYTROT_BOARD_TOTAL_PASSED, 94, &session);
+    payment_in(__LINE__, &session, HOLLYTROT_BOARD_TOTAL_PASSED, 94, &session);
     session.work.total.tariff = room.tariff;
     after = session_with(session);
     after.work.used = 2;
     after.work.lanes[1].tally = tally_with((hollytrot_tally){0, 0, 0});
-    payment_in(&session, 0, 0, &after);
+    payment_in(__LINE__, &session, 0, 0, &after);
 
     session.work.used = HOLLYTROT_LANES;
     session.work.lanes[1].issuer.number += 1;
     session.work.total.tariff = UINT64_MAX;
-    payment_in(&session, HOLLYTROT_BOARD_FULL, 53, &session);
+    payment_in(__LINE__, &session, HOLLYTROT_BOARD_FULL, 53, &session);
 }
 
 /* The pair of the A, whose own number is 4321. */

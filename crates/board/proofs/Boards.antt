@@ -18,7 +18,6 @@ use Rattle.answer.specs.declared.Answer.the-variants.{Accepted}
 use Rattle.answer.specs.Orders.{require, _then_}
 use Rattle.answer.proofs.Orders.{then-accepts}
 use Rattle.barcode.specs.declared.Issuer.{Issuer}
-use Rattle.board.specs.declared.Tally.{Tally}
 use Rattle.board.specs.declared.Lane.{Lane}
 use Rattle.board.specs.declared.Board.{Board}
 use Rattle.board.proofs.Tallies.{AtMost, at-most-sum, payments-fit-less, tariff-fits-less, fits-less, plus-swap, plus-groups, plus-none}

@@ -19,7 +19,7 @@ use Rattle.board.specs.Lanes.{plus, emptyTally, sameIssuer, isLaneOf, la
 same-sym : (i j : Issuer) → sameIssuer i j ≡ sameIssuer j i
 same-sym i j = ap₂ _&&_ (eqb-sym (i .segment) (j .segment)) (eqb-sym (i .number) (j .number))
 
-same-refl : (i : Issuer) → sameIssuer i i ≡ true
+pub same-refl : (i : Issuer) → sameIssuer i i ≡ true
 same-refl i = rw (eq-eqb (i .segment) (i .segment) refl, eq-eqb (i .number) (i .number) refl)
 
 pub same-is : (i j : Issuer) → sameIssuer i j ≡ true → i ≡ j

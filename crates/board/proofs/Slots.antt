@@ -25,7 +25,7 @@ use Rattle.board.proofs.Tallies.{fits-both}
 use Rattle.board.specs.Lanes.{mostLanes, limit, plus, paymentsFit, tariffFits, fits}
 use Rattle.board.specs.Boards.{blank, lanesOf, indexOf, slotAt, withSlot, ownOf, usedAfter, grownSlot, sumsAnswer, slotAnswer, slotResultOf, postResultOf}
 
--- number by number, of the lane and of the total at once: the first pair that passes decides
+-- number by number, of the lane and of the total at once: the first pair with a number past the limit decides
 pub sums-in-turn : (lane total : Tally)
     → sumsAnswer lane total
     ≡ require (leb (lane .payments) limit && leb (total .payments) limit) BoardTotalPassed receivedPlace

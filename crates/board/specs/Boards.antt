@@ -113,8 +113,8 @@ pub record SoundBoard (b : Board) : Type 0 where
   pub low : fits (b .total) ≡ true
 
 -- Promises, of one payment: a refusal changes nothing, and an accepted payment is added to its lane; a sound board
--- stays sound, and accepts exactly if the issuer has a lane or one is free, and no total passes the limit. Of any board,
--- 18 points at the tariff exactly if there is a lane and only tariffs pass.
+-- stays sound, and accepts exactly if the issuer has a lane or one is free, and no total passes the limit. Of any
+-- board, 18 points at the tariff exactly if there is a lane for the payment and only tariffs would pass the limit.
 
 abbrev pub RefusalKeepsBoard : Type 0
 RefusalKeepsBoard = (b : Board) (p : Lane) → (postResultOf b p .answer ≡ Accepted → ⊥) → postResultOf b p .board ≡ b

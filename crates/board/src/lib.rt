@@ -9,8 +9,8 @@ pub use searching::cache_index;
 pub use searching::lanes_in_use;
 pub use searching::search_range;
 
-// Payments, the centavos they received and the centavos that the banks charge for them: of one payment, of a lane, or of
-// the whole board.
+// Payments, the centavos they received and the centavos that the banks charge for them: of one payment, of a lane, or
+// of the whole board.
 #[repr(C)]
 pub struct Tally {
     pub payments: u64,

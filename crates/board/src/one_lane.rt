@@ -41,7 +41,7 @@ impl Tally {
 }
 
 impl Lane {
-    // A payment as a lane of one.
+    // A payment as a lane of one: its issuer, 1, the centavos and the tariff, whatever they are. Nothing is checked.
     pub fn of_payment(issuer: Issuer, centavos: u64, tariff: u64) -> Lane
         ensures { λ r. ⌜ r ≡ laneOfOne issuer centavos tariff ⌝ }
     {
@@ -66,8 +66,8 @@ impl Lane {
     }
 }
 
-// 18 where a number of the lane or of the total, with `more` added, would pass the limit: for payments or centavos at the
-// place of the received centavos, behind them for tariffs at that of the tariff.
+// 18 where a number of the lane or of the total, with `more` added, would pass the limit: for payments or centavos at
+// the place of the received centavos, behind them for tariffs at that of the tariff.
 fn check_sums(lane: Tally, total: Tally, more: Tally) -> Answer
     ensures { λ r. ⌜ r ≡ sumsAnswer (plus lane more) (plus total more) ⌝ }
 {

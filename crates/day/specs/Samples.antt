@@ -1,5 +1,5 @@
--- The worked input (SPEC.md, "Samples"), from its bytes to the bytes printed; without its Z, with line ends, twice, with
--- a tariff, and behind a refusal. Assumes nothing.
+-- The worked input (SPEC.md, "Samples"), from its bytes to the bytes printed; without its Z, with line ends, twice,
+-- with a tariff, and behind a refusal. Assumes nothing.
 use Prim.Native.Nat.{ℕ}
 use mathlib.Core.Bool.{true}
 use mathlib.Core.List.{List, [], _∷_, _++_}

@@ -7,9 +7,9 @@ use crate::CPageResult;
 use crate::forms;
 use board::Board;
 
-// Writes the page of an answer, two counts and a board into `out`, 10657 bytes, and returns the page's length; the bytes
-// behind it stay as they were. The answer's number and place are printed as given, even if no answer has them. A buffer
-// of another length is refused (1 at place 0) and stays as it was.
+// Writes the page of an answer, two counts and a board into `out`, 10657 bytes, and returns the page's length; the
+// bytes behind it stay as they were. The answer's number and place are printed as given, even if no answer has them. A
+// buffer of another length is refused (1 at place 0) and stays as it was.
 #[no_mangle]
 pub extern "C" fn hollytrot_page(
     answer: CAnswer,

@@ -4,8 +4,6 @@ use mathlib.Core.Bool.{Bool, true, false, cond, false≢true}
 use mathlib.Core.List.{List, [], _∷_}
 use mathlib.Core.Path.{_≡_, refl, sym, ap, ap₂, _∙_}
 use native.Mathlib.Omega.{arith}
-use borrow.Author.Tests.{eq-eqb}
-use lib.ListN.{length}
 use Rattle.answer.specs.Orders.{Each}
 use Rattle.answer.proofs.Orders.{each-map}
 use Rattle.answer.proofs.Tests.{split}
@@ -14,7 +12,7 @@ use Rattle.board.specs.declared.Tally.{Tally}
 use Rattle.board.specs.declared.Lane.{Lane}
 use Rattle.board.specs.Lanes.{sameIssuer, isLaneOf, lanesFrom, sumBy, Adds, each, only, issuersOf, isAmong, Distinct}
 use Rattle.board.proofs.Tallies.{low, alike}
-use Rattle.board.proofs.Lanes.{same-is, payments-add, centavos-add, tariffs-add, sum-read, sums-agree, own-sums-agree, no-issuer-twice}
+use Rattle.board.proofs.Lanes.{same-refl, same-is, payments-add, centavos-add, tariffs-add, sum-read, sums-agree, own-sums-agree, no-issuer-twice}
 use Rattle.board.proofs.Posting.{length-lanes}
 use Rattle.ledger.specs.Ledgers.{laneOfRecord, lanesOfRecords, ofIssuer}
 use Rattle.ledger.specs.Promises.{reached, shownLanes, acceptedRecords, LanesAreThePayments, LanesInOrder, EachLaneIsExact, SumsAreTheRecords, TotalsAreTheRecords, NoIssuerHasTwoLanes, WithinLimits}
@@ -60,9 +58,6 @@ within-limits steps =
 
 -- Each lane.
 
-same-self : (i : Issuer) → sameIssuer i i ≡ true
-same-self i = rw (eq-eqb (i .segment) (i .segment) refl, eq-eqb (i .number) (i .number) refl)
-
 differ : (i j : Issuer) → sameIssuer i j ≡ false → sameIssuer j i ≡ false
 differ i j e = go (sameIssuer j i) refl
   where
@@ -93,7 +88,7 @@ own-lanes : (ls : List Lane) → Distinct (issuersOf ls)
     → Each (λ (l : Lane). (w : Tally → ℕ) → sumBy (only (l .issuer) w) ls ≡ w (l .tally)) ls
 own-lanes [] h = tt
 own-lanes (l ∷ ls) h = (
-  λ w. rw (same-self (l .issuer)) (omega (arith, not-there w (l .issuer) ls (h .0))),
+  λ w. rw (same-refl (l .issuer)) (omega (arith, not-there w (l .issuer) ls (h .0))),
   behind-lane l ls ls (h .0) (own-lanes ls (h .1)),
 )
 

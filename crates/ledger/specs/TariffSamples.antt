@@ -2,14 +2,13 @@
 use Prim.Native.Nat.{ℕ}
 use mathlib.Core.List.{List, [], _∷_}
 use lib.ListN.{replicate}
-use Rattle.barcode.specs.declared.Issuer.{Issuer}
 use Rattle.barcode.specs.Building.{builtOf}
 use Rattle.decimal.specs.Numbers.{digitsOf}
-use Rattle.kinds.specs.Terms.{version04, version06}
+use Rattle.kinds.specs.Terms.{version06}
 use Rattle.board.specs.declared.Tally.{Tally}
-use Rattle.ledger.specs.Ledgers.{Step, abandoning}
-use Rattle.ledger.specs.Samples.{headerOf, header, code, sampleIssuer, otherIssuer, paymentWith, trailer, accepted}
-use Rattle.ledger.specs.Samples.{refused, oneLane, plain, withLineEnd, Sample, Hold}
+use Rattle.ledger.specs.Ledgers.{abandoning}
+use Rattle.ledger.specs.Samples.{headerOf, header, code, sampleIssuer, otherIssuer, paymentWith, trailer}
+use Rattle.ledger.specs.Samples.{accepted, refused, oneLane, plain, withLineEnd, Sample, Hold}
 
 -- a payment of P4's issuer and of the other one, by the centavos received and the tariff
 abbrev pub charged : ℕ → ℕ → List ℕ

@@ -23,7 +23,8 @@ use Rattle.board.specs.Boards.{postAnswers, boardWithAll}
 use Rattle.session.specs.declared.Session.{Session}
 use Rattle.pairs.specs.Pairs.{memoryAnswer, memoryWith}
 use Rattle.session.specs.Sessions.{freshSession, closedAt, openedAt, pairIn, takeResult, takeOf}
-use Rattle.ledger.specs.Ledgers.{Filed, lanesOfRecords, receivedBy, receivedIn, tariffIn, headerTerms, Step, taking}
+use Rattle.ledger.specs.Ledgers.{Filed, lanesOfRecords, receivedBy, receivedIn, tariffIn, headerTerms, Step}
+use Rattle.ledger.specs.Ledgers.{taking}
 use Rattle.ledger.specs.Promises.{sessionAfter, answersOf, reached, ledgerOf, shownLanes}
 
 -- a record of this kind that is accepted by itself, under these terms

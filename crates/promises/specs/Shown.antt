@@ -34,11 +34,11 @@ abbrev pub FreeFieldAt : ℕ → ℕ → ℕ → ℕ → Type 0
 FreeFieldAt segment code line rec =
     (free segment .first ≡ code) × (inLine code ≡ line) × (rowAt barcodeRow .first - 1 + code ≡ rec)
 
--- Promise: refusals 13 and 14 point at the count and the total of a Z, 16 and 18 at the received centavos of a G, 18 for
--- tariffs at its tariff, and 17 at the issuer, place 16 of its barcode; 10 of a G that is told a number other than 4 and
--- 6 points at place 80, an A's version; 22 at place 151, right behind the record; 26 and 27 at the sequence number and
--- the agreement of an A; 11 of an agreed issuer at the first place of its free field, 20 in a barcode, 21 in a line and
--- 57 in a G, in segment 6 24, 26 and 61.
+-- Promise: refusals 13 and 14 point at the count and the total of a Z, 16 and 18 at the received centavos of a G, 18
+-- for tariffs at its tariff, and 17 at the issuer, place 16 of its barcode; 10 of a G that is told a number other than
+-- 4 and 6 points at place 80, an A's version; 22 at place 151, right behind the record; 26 and 27 at the sequence
+-- number and the agreement of an A; 11 of an agreed issuer at the first place of its free field, 20 in a barcode, 21 in
+-- a line and 57 in a G, in segment 6 24, 26 and 61.
 abbrev pub RefusalsPointAtPlaces : Type 0
 RefusalsPointAtPlaces =
     (countPlace ≡ rowAt countRow .first)

@@ -30,8 +30,8 @@ use layout::Record;
 use layout::a;
 use layout::z;
 
-// The issuer and the centavos received of an accepted G; Nothing for every other record, of any length. It is what a
-// session needs of a G: decoding all of it would cost as much again.
+// The issuer, the centavos received and the tariff of an accepted G; Nothing for every other record, of any length. It
+// is what a session needs of a G: decoding all of it would cost as much again.
 pub fn accepted_payment(rec: &[u8], version: u64, agreed: &[u64]) -> PaymentDue
     ensures { λ r. ⌜ r ≡ paymentDueOf (decodedRecordUnder (told version (now (agreed .entry))) (now (rec .entry))) ⌝ }
 {

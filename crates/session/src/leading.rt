@@ -7,8 +7,8 @@
 // a payment changes one more member of the session, so does the loop, and `run_judged` (running.rt) takes it over from
 // `LeadingPayments`. The proof that ties them is proofs/Payments.antt: by `payment-taken` and `payment-leaves`, a
 // payment posted here is accepted by `takeAnswer` and leaves the session that `take_judged` leaves, `nextSession`; by
-// `one-more` it is the next piece. What is slow and so avoided: a board by value is 2.5 KB, and each call that takes one
-// copies it. So the loop itself reads and stores lanes, and the board's functions get numbers and one lane (board:
+// `one-more` it is the next piece. What is slow and so avoided: a board by value is 2.5 KB, and each call that takes
+// one copies it. So the loop itself reads and stores lanes, and the board's functions get numbers and one lane (board:
 // src/searching.rt, `Slot::post`).
 ghost use mathlib.Core.Path.{_≡_};
 ghost use Prim.Native.Nat.{_≤_};

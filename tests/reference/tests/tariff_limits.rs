@@ -1,4 +1,4 @@
-//! Tariffs near 10^18, on boards put together by hand: 18 at 94, what comes before it and what comes behind it.
+//! Tariffs near 10^18, on boards in arbitrary states: 18 at 94, what comes before it and what comes behind it.
 
 mod common;
 

@@ -8,7 +8,7 @@ use reference::{Board, Payment, Reason, Record, Refusal, Session};
 
 const LIMIT: u128 = MOST_BOARD_TOTAL as u128;
 
-/// Where the payments, the centavos and the tariff of a tally are, below.
+/// The index of the tariff among the three numbers of a tally, below.
 const TARIFF: usize = 2;
 
 /// A case of a payment at the limit of tariffs.
