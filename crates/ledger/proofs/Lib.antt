@@ -4,6 +4,7 @@ pub mod Histories
 pub mod Agreement
 pub mod Shown
 pub mod Sessions
+pub mod TariffRefusals
 pub mod WholeFiles
 pub mod AcceptedFiles
 pub mod Forms

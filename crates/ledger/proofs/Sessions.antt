@@ -7,13 +7,12 @@ use mathlib.Core.Option.{some}
 use mathlib.Core.Path.{_≡_, refl, sym, ap, _∙_}
 use native.Mathlib.Omega.{arith}
 use borrow.Author.Tests.{eqb-true, eq-eqb}
-use lib.Dec.{eqb, ltb, leb}
+use lib.Dec.{eqb}
 use lib.ListN.{length, getD}
 use Rattle.answer.specs.declared.Reason.the-variants.{WrongLength, NotExpected, CountDiffers, TotalDiffers, FileOpen}
-use Rattle.answer.specs.declared.Reason.the-variants.{FileFull, FileTotalPassed, BoardTotalPassed, NoLineEnd}
 use Rattle.answer.specs.declared.Answer.{Answer}
 use Rattle.answer.specs.declared.Answer.the-variants.{Accepted, Refused}
-use Rattle.answer.specs.Refusals.{answerNumber, answerPlace, receivedPlace, tariffPlace}
+use Rattle.answer.specs.Refusals.{answerNumber, answerPlace}
 use Rattle.answer.specs.Orders.{require, _then_, ifAccepted}
 use Rattle.answer.proofs.Orders.{require-accepts, then-accepts, refusal-keeps}
 use Rattle.answer.proofs.Steps.{passed}
@@ -26,18 +25,16 @@ use Rattle.record.specs.declared.Decoded.{Decoded}
 use Rattle.record.specs.Records.{recordAnswer}
 use Rattle.record.specs.Values.{trailerShown, recordShown, shownUnlessRefused}
 use Rattle.record.proofs.Shown.{accepted-is, check-passes, needs-version}
-use Rattle.file.specs.Files.{mostPayments, mostCentavos, countPlace, totalPlace, fileAnswer}
-use Rattle.file.specs.Forms.{bodyOf, hasLineEnd, fitsLength, endPlace, endAnswer}
+use Rattle.file.specs.Files.{countPlace, totalPlace}
+use Rattle.file.specs.Forms.{bodyOf, hasLineEnd, fitsLength, endAnswer}
 use Rattle.file.proofs.Forms.{first-in, fits-body, fitting-is-in-form}
-use Rattle.board.specs.Boards.{postAnswer}
-use Rattle.board.proofs.Posting.{tariffs-pass-last}
 use Rattle.session.specs.declared.Session.{Session}
 use Rattle.pairs.specs.declared.Memory.{Memory}
 use Rattle.pairs.specs.Pairs.{rememberedFor, pairsOf, memoryWith}
 use Rattle.pairs.proofs.Memories.{pair-is-remembered}
 use Rattle.session.specs.Sessions.{closedAt, sessionTerms, sessionExpects, sessionClosed, sessionAnswer, sessionWith, takeAnswer, nextSession, takeOf, abandonOf}
-use Rattle.ledger.specs.Ledgers.{headerTerms, Opened, Ledger, receivedBy, laneOfRecord, receivedIn, trailerStateAnswer, ledgerCheck, taking, abandoning}
-use Rattle.ledger.specs.Promises.{ledgerOf, TrueTrailersOnly, RefusalKeepsSession, OnlyTrailersShow, TrailersShowAll, NothingShowsBefore, OnlyTrailersRemember, TrailersRemember, AbandonKeepsBoard, AbandonKeepsMemory, AbandonDropsFile, AbandonNothing, FinishKeepsSession, FinishAnswers, PaymentsTakenUnderAVersion, TariffsAreAskedLast}
+use Rattle.ledger.specs.Ledgers.{headerTerms, Opened, Ledger, receivedIn, trailerStateAnswer, ledgerCheck, taking, abandoning}
+use Rattle.ledger.specs.Promises.{ledgerOf, TrueTrailersOnly, RefusalKeepsSession, OnlyTrailersShow, TrailersShowAll, NothingShowsBefore, OnlyTrailersRemember, TrailersRemember, AbandonKeepsBoard, AbandonKeepsMemory, AbandonDropsFile, AbandonNothing, FinishKeepsSession, FinishAnswers, PaymentsTakenUnderAVersion}
 use Rattle.ledger.proofs.Agreement.{next-answer-is-the-ledgers}
 
 -- The trailer.
@@ -99,40 +96,6 @@ payments-taken-under-a-version agreed s rec right opened none fits named =
     let first : namedBy (getD body 0 0) ≡ Is Payment = ap namedBy (first-in rec) ∙ named in
     let own = needs-version (sessionTerms agreed s) body (fits-body true (s .file .lined) rec fits) first none in
     rw (right, opened, fits, named, own)
-
--- the open file's refusals and that of a line end point at other places than the tariff's, so a refusal there is the
--- board's
-only-the-board : (t u x y : Bool) (board : Answer)
-    → ((require t FileFull 1 then require u FileTotalPassed receivedPlace) then board) then cond x (require y NoLineEnd endPlace) Accepted
-    ≡ Refused BoardTotalPassed tariffPlace
-    → ((require t FileFull 1 then require u FileTotalPassed receivedPlace) ≡ Accepted)
-    × (board ≡ Refused BoardTotalPassed tariffPlace)
-only-the-board true true x y (Refused why place) e = (refl, e)
-only-the-board true true true true Accepted e = absurd (omega (arith, ap answerPlace e))
-only-the-board true true true false Accepted e = absurd (omega (arith, ap answerPlace e))
-only-the-board true true false y Accepted e = absurd (omega (arith, ap answerPlace e))
-only-the-board true false x y board e = absurd (omega (arith, ap answerPlace e))
-only-the-board false u x y board e = absurd (omega (arith, ap answerPlace e))
-
-pub tariffs-are-asked-last : TariffsAreAskedLast
-unfolding fileAnswer endAnswer
-tariffs-are-asked-last agreed s rec opened fits named checked =
-    let body = bodyOf rec in
-    let p = laneOfRecord body in
-    let t = sessionTerms agreed s in
-    let right = then-accepts (listAnswer agreed) (recordAnswer t body) .0 checked .0 in
-    let own = check-passes t body checked in
-    let first : namedBy (getD body 0 0) ≡ Is Payment = ap namedBy (first-in rec) ∙ named in
-    let few = ltb (s .file .taken) mostPayments in
-    let low = leb (s .file .total + receivedBy body) mostCentavos in
-    let last = tariffs-pass-last (s .work) p in
-    rw (right, opened, fits, named, own, first) (
-      λ e.
-          let h = only-the-board few low (s .file .lined) (hasLineEnd rec) (postAnswer (s .work) p) e in
-          let b = last .0 (h .1) in
-          (h .0, b .0, b .1, b .2, b .3),
-      λ h. rw (h .0, last .1 (h .1, h .2, h .3, h .4)),
-    )
 
 -- what a record leaves of the board shown and of the memory
 module _ (agreed : List ℕ) (s : Session) (ended : Bool) (rec : List ℕ) where

@@ -186,18 +186,19 @@ PaymentsTakenUnderAVersion =
     → namedBy (getD rec 0 0) ≡ Is Payment
     → takeOf agreed s rec .answer ≡ Refused FixedDiffers (rowAt versionRow .first)
 
--- a G that is right in itself, in an open file: 18 points at its tariff exactly if the file takes it, there is a lane
--- for its issuer, payments and centavos fit with it, and the tariffs of its lane or of the total do not; whatever
--- follows it
+-- 18 points at the tariff exactly if a file is open, what is taken has a length that fits it and is a G that is right
+-- in itself, the file takes it, there is a lane for its issuer, payments and centavos fit with it, and the tariffs of
+-- its lane or of the total do not; whatever follows it
 abbrev pub TariffsAreAskedLast : Type 0
 TariffsAreAskedLast =
-    (agreed : List ℕ) (s : Session) (rec : List ℕ) → s .opened ≡ true → fitsLength true (s .file .lined) rec ≡ true
-    → namedBy (getD rec 0 0) ≡ Is Payment → recordCheck (sessionTerms agreed s) (bodyOf rec) ≡ Accepted
-    → let p = laneOfRecord (bodyOf rec) in let slot = slotOf (s .work) (p .issuer) in
+    (agreed : List ℕ) (s : Session) (rec : List ℕ)
+    → let body = bodyOf rec in let p = laneOfRecord body in let slot = slotOf (s .work) (p .issuer) in
     let lane = grownSlot slot p .lane .tally in let total = grownSlot slot p .total in
     (takeOf agreed s rec .answer ≡ Refused BoardTotalPassed tariffPlace)
-    ↔ ((fileAnswer (s .file) (receivedBy (bodyOf rec)) ≡ Accepted) × (slot .at < mostLanes)
-    × (paymentsFit lane ≡ true) × (paymentsFit total ≡ true) × ((tariffFits lane && tariffFits total) ≡ false))
+    ↔ ((s .opened ≡ true) × (fitsLength true (s .file .lined) rec ≡ true) × (namedBy (getD rec 0 0) ≡ Is Payment)
+    × (recordCheck (sessionTerms agreed s) body ≡ Accepted) × (fileAnswer (s .file) (receivedBy body) ≡ Accepted)
+    × (slot .at < mostLanes) × (paymentsFit lane ≡ true) × (paymentsFit total ≡ true)
+    × ((tariffFits lane && tariffFits total) ≡ false))
 
 -- a refused record changes nothing
 abbrev pub RefusalKeepsSession : Type 0

@@ -48,7 +48,8 @@ use Rattle.ledger.proofs.Agreement.{session-agrees, answers-are-the-ledgers, ne
 use Rattle.ledger.proofs.Sessions.{true-trailers-only, only-trailers-show, nothing-shows-before, trailers-show-all}
 use Rattle.ledger.proofs.Sessions.{only-trailers-remember, trailers-remember}
 use Rattle.ledger.proofs.Sessions.{abandon-keeps-board, abandon-keeps-memory, abandon-drops-file, abandon-nothing}
-use Rattle.ledger.proofs.Sessions.{finish-answers, finish-keeps-session, payments-taken-under-a-version, tariffs-are-asked-last}
+use Rattle.ledger.proofs.Sessions.{finish-answers, finish-keeps-session, payments-taken-under-a-version}
+use Rattle.ledger.proofs.TariffRefusals.{tariffs-are-asked-last}
 use Rattle.ledger.proofs.Shown.{lanes-are-the-payments, lanes-in-order, each-lane-is-exact, no-issuer-has-two-lanes}
 use Rattle.ledger.proofs.Shown.{sums-are-the-records, totals-are-the-records, within-limits}
 use Rattle.session.proofs.Feeding.{run-is-its-takes, wrong-list-takes-nothing, run-leaves-few}

@@ -1,10 +1,11 @@
 -- Claims about a record read alone, beside the equations of its operations' contracts. Assumes nothing.
-use Prim.Native.Nat.{ℕ}
+use Prim.Native.Nat.{ℕ, _≤_}
 use mathlib.Core.Bool.{true, false}
 use mathlib.Core.List.{List, []}
 use mathlib.Core.Logic.{_↔_}
 use mathlib.Core.Path.{_≡_}
 use lib.ListN.{length, getD}
+use Rattle.answer.specs.Refusals.{answerNumber}
 use Rattle.answer.specs.declared.Reason.the-variants.{FixedDiffers}
 use Rattle.answer.specs.declared.Answer.the-variants.{Accepted, Refused}
 use Rattle.answer.specs.Orders.{Each}
@@ -18,7 +19,7 @@ use Rattle.layout.specs.declared.MaybeRecord.the-variants.{Is}
 use Rattle.layout.specs.declared.Record.{Record}
 use Rattle.layout.specs.declared.Record.the-variants.{Header, Payment}
 use Rattle.layout.specs.Layouts.{recordLength, layoutOf, rowAt, namedBy, versionRow, barcodeRow}
-use Rattle.record.specs.Records.{fieldBytes, recordCheck, isPayment}
+use Rattle.record.specs.Records.{fieldBytes, recordAnswer, recordCheck, isPayment}
 use Rattle.record.specs.declared.Decoded.the-variants as decoded
 use Rattle.record.specs.Values.{versionIn, paymentShown, answerOfRecord, decodedRecord, hasRow, shownField}
 
@@ -40,6 +41,10 @@ FieldsAreTheirPlaces =
 -- the answer of what is decoded is the answer of the check: one answer for each input
 abbrev pub DecodeAnswers : Type 0
 DecodeAnswers = (t : Terms) (rec : List ℕ) → answerOfRecord (decodedRecord t rec) ≡ recordCheck t rec
+
+-- behind 25 a record's own refusals are 1 to 12: what the other numbers are for, no record has by itself
+abbrev pub OwnRefusalsUpToTwelve : Type 0
+OwnRefusalsUpToTwelve = (t : Terms) (rec : List ℕ) → answerNumber (recordAnswer t rec) ≤ 12
 
 -- under a right list a record is accepted exactly when it is accepted under the empty one and, if it is a G, its due
 -- date is right
