@@ -36,49 +36,52 @@ use Rattle.session.specs.Sessions.{pairIn, sessionTerms, sessionExpects, payAns
 use Rattle.ledger.specs.Ledgers.{receivedBy, laneOfRecord}
 use Rattle.ledger.specs.Promises.{TariffsAreAskedLast}
 
-abbrev PastTariff : Answer
-PastTariff = Refused BoardTotalPassed tariffPlace
+-- 18 at the tariff
+abbrev past-tariff : Answer
+past-tariff = Refused BoardTotalPassed tariffPlace
 
 -- an answer with another number is not that refusal, so the refusal comes from behind it
-not-number : (a : Answer) {X : Type 0} → a ≡ PastTariff → (answerNumber a ≡ 18 → ⊥) → X
+not-number : (a : Answer) {X : Type 0} → a ≡ past-tariff → (answerNumber a ≡ 18 → ⊥) → X
 not-number a e h = absurd (h (ap answerNumber e))
 
 behind-test : (t : Bool) (why : Reason) (p : ℕ) (next : Answer) → (reasonNumber why ≡ 18 → ⊥)
-    → require t why p then next ≡ PastTariff → (t ≡ true) × (next ≡ PastTariff)
+    → require t why p then next ≡ past-tariff → (t ≡ true) × (next ≡ past-tariff)
 behind-test true why p next h e = (refl, e)
 behind-test false why p next h e = not-number (Refused why p) e h
 
-behind-list : (a next : Answer) → (a ≡ Accepted) ⊎ (a ≡ Refused WrongList 0) → a then next ≡ PastTariff
-    → (a ≡ Accepted) × (next ≡ PastTariff)
+behind-list : (a next : Answer) → (a ≡ Accepted) ⊎ (a ≡ Refused WrongList 0) → a then next ≡ past-tariff
+    → (a ≡ Accepted) × (next ≡ past-tariff)
 behind-list Accepted next o e = (refl, e)
 behind-list (Refused why p) next o e =
     ⊎-elim (λ h. not-both (Refused why p) refl h) (λ h. absurd (omega (arith, ap answerNumber h, ap answerNumber e))) o
 
+-- two tests and nothing behind them never give it
 two-tests : (t u : Bool) (why more : Reason) (p q : ℕ) {X : Type 0} → (reasonNumber why ≡ 18 → ⊥)
-    → (reasonNumber more ≡ 18 → ⊥) → require t why p then require u more q ≡ PastTariff → X
+    → (reasonNumber more ≡ 18 → ⊥) → require t why p then require u more q ≡ past-tariff → X
 two-tests true true why more p q h k e = absurd (omega (arith, ap answerNumber e))
 two-tests true false why more p q h k e = not-number (Refused more q) e k
 two-tests false u why more p q h k e = not-number (Refused why p) e h
 
-before-end : (a : Answer) (x y : Bool) → a then cond x (require y NoLineEnd endPlace) Accepted ≡ PastTariff → a ≡ PastTariff
+-- nor does what is checked of a line end
+before-end : (a : Answer) (x y : Bool) → a then cond x (require y NoLineEnd endPlace) Accepted ≡ past-tariff → a ≡ past-tariff
 before-end (Refused why p) x y e = e
 before-end Accepted true true e = absurd (omega (arith, ap answerNumber e))
 before-end Accepted true false e = absurd (omega (arith, ap answerNumber e))
 before-end Accepted false y e = absurd (omega (arith, ap answerNumber e))
 
--- the open file's refusals have other numbers
+-- nor does the open file
 from-the-board : (t u : Bool) (board : Answer)
-    → (require t FileFull 1 then require u FileTotalPassed receivedPlace) then board ≡ PastTariff
-    → ((require t FileFull 1 then require u FileTotalPassed receivedPlace) ≡ Accepted) × (board ≡ PastTariff)
+    → (require t FileFull 1 then require u FileTotalPassed receivedPlace) then board ≡ past-tariff
+    → ((require t FileFull 1 then require u FileTotalPassed receivedPlace) ≡ Accepted) × (board ≡ past-tariff)
 from-the-board true true board e = (refl, e)
 from-the-board true false board e = absurd (omega (arith, ap answerNumber e))
 from-the-board false u board e = absurd (omega (arith, ap answerNumber e))
 
--- nor have those of a header, of a trailer and of a record alone that number: it is a payment that is right in itself
+-- nor do a header, a trailer and a record alone: it is a payment that is right in itself
 module _ (agreed : List ℕ) (s : Session) (rec : List ℕ) where
   of-a-payment : (m : MaybeRecord) (own : Answer) → answerNumber own ≤ 12
-      → sessionAnswer s rec (shownUnlessRefused own (recordShown agreed m rec)) ≡ PastTariff
-      → (own ≡ Accepted) × (m ≡ Is Payment) × (payAnswer s (laneOfRecord rec) ≡ PastTariff)
+      → sessionAnswer s rec (shownUnlessRefused own (recordShown agreed m rec)) ≡ past-tariff
+      → (own ≡ Accepted) × (m ≡ Is Payment) × (payAnswer s (laneOfRecord rec) ≡ past-tariff)
   unfolding figuresAnswer
   of-a-payment m (Refused why p) low e = absurd (omega (arith, low, ap answerNumber e))
   of-a-payment (Is Payment) Accepted low e = (refl, refl, e)

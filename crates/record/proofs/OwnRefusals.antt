@@ -30,49 +30,51 @@ use Rattle.record.specs.Records.{fieldAnswer, namedAnswer, recordAnswer}
 use Rattle.record.specs.Promises.{OwnRefusalsUpToTwelve}
 
 -- an answer whose number is at most twelve: of one test, of two answers, of a list, of bytes, and moved
-record Low (a : Answer) : Type 0 where
+record UpToTwelve (a : Answer) : Type 0 where
   number : answerNumber a ≤ 12
 
-one : (t : Bool) (why : Reason) (p : ℕ) → reasonNumber why ≤ 12 → Low (require t why p)
+one : (t : Bool) (why : Reason) (p : ℕ) → reasonNumber why ≤ 12 → UpToTwelve (require t why p)
 one true why p h = record { number = omega arith }
 one false why p h = record { number = h }
 
-two : (a b : Answer) → Low a → Low b → Low (a then b)
+two : (a b : Answer) → UpToTwelve a → UpToTwelve b → UpToTwelve (a then b)
 two Accepted b h k = k
 two (Refused why p) b h k = h
 
-each : (ok : ℕ → Bool) (why : Reason) (p : ℕ) (bs : List ℕ) → reasonNumber why ≤ 12 → Low (eachIs ok why p bs)
+each : (ok : ℕ → Bool) (why : Reason) (p : ℕ) (bs : List ℕ) → reasonNumber why ≤ 12 → UpToTwelve (eachIs ok why p bs)
 each ok why p [] h = record { number = omega arith }
 each ok why p (b ∷ bs) h = two (require (ok b) why p) (eachIs ok why (suc p) bs) (one (ok b) why p h) (each ok why (suc p) bs h)
 
-first : (check : Field → Answer) → ((f : Field) → Low (check f)) → (fs : List Field) → Low (firstRefusal check fs)
+first : (check : Field → Answer) → ((f : Field) → UpToTwelve (check f)) → (fs : List Field) → UpToTwelve (firstRefusal check fs)
 first check h [] = record { number = omega arith }
 first check h (f ∷ fs) = two (check f) (firstRefusal check fs) (h f) (first check h fs)
 
-moved : (move : ℕ → ℕ) (a : Answer) → Low a → Low (movedBy move a)
+moved : (move : ℕ → ℕ) (a : Answer) → UpToTwelve a → UpToTwelve (movedBy move a)
 moved move Accepted h = h
 moved move (Refused why p) h = record { number = h .number }
 
-three : (bs : List ℕ) → Low (firstThreeAnswer bs)
+-- of a barcode: its first three digits, its due date, all of it
+three : (bs : List ℕ) → UpToTwelve (firstThreeAnswer bs)
 unfolding firstThreeAnswer
 three bs =
     two _ _ (one (eqb (digitAt 1 bs) product) WrongProduct 1 (omega arith))
     (two _ _ (one (isSegment (digitAt 2 bs)) UnknownSegment 2 (omega arith)) (one (isKind (digitAt 3 bs)) UnknownKind 3 (omega arith)))
 
-due : (agreed bs : List ℕ) → Low (dueAnswer agreed bs)
+due : (agreed bs : List ℕ) → UpToTwelve (dueAnswer agreed bs)
 unfolding freeAnswer
 due agreed bs =
     let i = issuerOf bs in
     one (not (isAgreed agreed i) || isFound (dateOf (dueDigits (freeOf bs)))) NoDate (free (i .segment) .first) (omega arith)
 
-code : (agreed bs : List ℕ) → Low (barcodeUnder agreed bs)
+code : (agreed bs : List ℕ) → UpToTwelve (barcodeUnder agreed bs)
 code agreed bs =
     let prefix = two (eachIs (isOf class.Digit) NoDigit 1 bs) (firstThreeAnswer bs) (each _ NoDigit 1 bs (omega arith)) (three bs) in
     let full = two (prefixAnswer bs) _ prefix (one (generalRight bs) WrongGeneralCheck 4 (omega arith)) in
     two (barcodeAnswer bs) (dueAnswer agreed bs)
     (two _ (fullLengthAnswer bs) (one (eqb (length bs) codeLength) WrongLength 0 (omega arith)) full) (due agreed bs)
 
-kind : (t : Terms) (k : Kind) (bs : List ℕ) → Low (kindAnswer t k bs)
+-- of a field, by its kind, and of a record
+kind : (t : Terms) (k : Kind) (bs : List ℕ) → UpToTwelve (kindAnswer t k bs)
 unfolding kindAnswer dateAnswer
 kind t (Mark byte) bs = one (same bs (byte ∷ [])) FixedDiffers 1 (omega arith)
 kind t Version bs = one (isVersionText bs) FixedDiffers 1 (omega arith)
@@ -87,17 +89,17 @@ kind t Barcode bs = code (t .agreed) bs
 kind t Capture bs = one (isCapture (t .version) (getD bs 0 0)) UnknownCode 1 (omega arith)
 kind t Form bs = one (isForm (t .version) (getD bs 0 0)) UnknownCode 1 (omega arith)
 
-field : (t : Terms) (rec : List ℕ) (f : Field) → Low (fieldAnswer t rec f)
+field : (t : Terms) (rec : List ℕ) (f : Field) → UpToTwelve (fieldAnswer t rec f)
 unfolding fieldAnswer
 field t rec f = moved _ _ (kind t (f .kind) _)
 
-version : (v : ℕ) (r : Record) → Low (versionAnswer v r)
+version : (v : ℕ) (r : Record) → UpToTwelve (versionAnswer v r)
 unfolding versionAnswer
 version v Header = record { number = omega arith }
 version v Payment = one (isVersion v) FixedDiffers (rowAt versionRow .first) (omega arith)
 version v Trailer = record { number = omega arith }
 
-named : (t : Terms) (m : MaybeRecord) (rec : List ℕ) → Low (namedAnswer t m rec)
+named : (t : Terms) (m : MaybeRecord) (rec : List ℕ) → UpToTwelve (namedAnswer t m rec)
 named t (Is r) rec = two _ _ (version (t .version) r) (first (fieldAnswer t rec) (field t rec) (layoutOf r))
 named t Other rec = record { number = omega arith }
 

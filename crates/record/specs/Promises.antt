@@ -42,7 +42,7 @@ FieldsAreTheirPlaces =
 abbrev pub DecodeAnswers : Type 0
 DecodeAnswers = (t : Terms) (rec : List ℕ) → answerOfRecord (decodedRecord t rec) ≡ recordCheck t rec
 
--- behind 25 a record's own refusals are 1 to 12: what the other numbers are for, no record has by itself
+-- behind 25 a record alone is accepted, or refused by a number from 1 to 12
 abbrev pub OwnRefusalsUpToTwelve : Type 0
 OwnRefusalsUpToTwelve = (t : Terms) (rec : List ℕ) → answerNumber (recordAnswer t rec) ≤ 12
 

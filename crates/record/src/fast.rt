@@ -121,8 +121,8 @@ fn is_plain(rec: &[u8]) -> bool
     decimal::all_of(Class::Blank, parts::field_bytes(rec, g::BLANK))
 }
 
-// Capture and payment form are codes of the version. A number that is no version has no codes, so this tests the version
-// too.
+// Capture and payment form are codes of the version. A number that is no version has no codes, so this tests the
+// version too.
 fn is_coded(rec: &[u8], version: u64) -> bool
     requires { ⌜ length (now rec) ≡ recordLength ⌝ }
     ensures { λ r. ⌜ r ≡ isCoded version (now (rec .entry)) ⌝ }
