@@ -1,4 +1,5 @@
 // What a call answers: accepted, or one refusal with its place.
+#![tactic(auto)]
 ghost use Rattle.std.specs.Prelude.{◌≡◌};
 ghost use Rattle.answer.specs.Refusals.{reason_number, answer_number, answer_place};
 ghost use Rattle.answer.specs.Orders.{◌then◌, moved_by, capped_behind};
@@ -8,7 +9,7 @@ ghost use Rattle.answer.specs.Orders.{◌then◌, moved_by, capped_behind};
 // A new reason changes together: this enum, `Reason::number`, and `reason_number` in specs/Refusals.antt; the proof of
 // `Reason::number` gets a line in each of its two lists. No other proof lists the reasons: that their numbers differ is
 // computed over the enum as it is declared (proofs/Refusals.antt).
-#[derive(Drop)]
+#[derive(Clone, Copy)]
 pub enum Reason {
     WrongLength,
     NoDigit,
@@ -50,7 +51,7 @@ pub const SEQUENCE_PLACE: usize = 74;
 pub const AGREEMENT_PLACE: usize = 3;
 
 // A place counts from 1 in what was read; it is 0 where a refusal has none.
-#[derive(Drop)]
+#[derive(Clone, Copy)]
 pub enum Answer {
     Accepted,
     Refused(Reason, usize),

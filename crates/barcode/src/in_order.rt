@@ -8,7 +8,7 @@ use crate::parts;
 use answer::{Answer, Reason};
 
 // A refusal and its place.
-#[derive(Drop)]
+#[derive(Clone, Copy)]
 pub(crate) struct Refusal {
     pub why: Reason,
     pub place: usize,

@@ -1,5 +1,6 @@
 // The collection barcode of 44 digits (SPEC.md, "Barcode"): checked, decoded, and built from its fields, under the list
 // of agreed issuers that the caller lends.
+#![tactic(auto)]
 mod agreed;
 pub mod builder;
 mod fast;
@@ -19,7 +20,7 @@ pub use parts::{LENGTH, check_prefix, issuer_width, modulus_of_kind};
 
 // An issuer is the segment together with its number: the same number in two segments is two issuers.
 #[repr(C)]
-#[derive(Drop)]
+#[derive(Clone, Copy)]
 pub struct Issuer {
     pub segment: u64,
     pub number: u64,
@@ -28,7 +29,7 @@ pub struct Issuer {
 // What a barcode says beside its free field. The value is centavos under kinds 6 and 8, a reference quantity under 7
 // and 9. The due date is the first eight digits of the free field, of an issuer that agreed on due dates; of any other
 // there is none.
-#[derive(Drop)]
+#[derive(Clone, Copy)]
 pub struct Fields {
     pub kind: u64,
     pub value: u64,
@@ -37,14 +38,14 @@ pub struct Fields {
 }
 
 // The fields of an accepted barcode, or the first refusal and its place; 0 where there is no place.
-#[derive(Drop)]
+#[derive(Clone, Copy)]
 pub enum Decoded {
     Read(Fields),
     Refused(Reason, usize),
 }
 
 // The issuer of an accepted barcode; a refused barcode has none.
-#[derive(Drop)]
+#[derive(Clone, Copy)]
 pub enum MaybeIssuer {
     Is(Issuer),
     NoIssuer,

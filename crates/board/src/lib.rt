@@ -1,4 +1,5 @@
 // The board (SPEC.md, "Board"): a lane for each issuer with its payments, centavos and tariffs, and the totals.
+#![tactic(auto)]
 mod one_lane;
 mod searching;
 mod whole_board;
@@ -10,7 +11,7 @@ pub use searching::{cache_index, lanes_in_use, search_range};
 // Payments, the centavos they received and the centavos that the banks charge for them: of one payment, of a lane, or
 // of the whole board.
 #[repr(C)]
-#[derive(Drop)]
+#[derive(Clone, Copy)]
 pub struct Tally {
     pub payments: u64,
     pub centavos: u64,
@@ -19,7 +20,7 @@ pub struct Tally {
 
 // An issuer and its tally. A payment is a lane of one: its issuer, 1, the centavos received and the tariff.
 #[repr(C)]
-#[derive(Drop)]
+#[derive(Clone, Copy)]
 pub struct Lane {
     pub issuer: Issuer,
     pub tally: Tally,
@@ -27,7 +28,7 @@ pub struct Lane {
 
 // The lanes in use are the first `used`; all of them if a board in an arbitrary state says more. `total` is their sum.
 #[repr(C)]
-#[derive(Drop)]
+#[derive(Clone, Copy)]
 pub struct Board {
     pub lanes: [Lane; Board::LANES],
     pub used: usize,
@@ -35,7 +36,7 @@ pub struct Board {
 }
 
 // All of a board that one payment can change: the lane at one index, the number of lanes in use and the total.
-#[derive(Drop)]
+#[derive(Clone, Copy)]
 pub struct Slot {
     pub at: usize,
     pub lane: Lane,
@@ -44,21 +45,21 @@ pub struct Slot {
 }
 
 // The answer to a payment posted to a slot. A refusal leaves the slot as it was.
-#[derive(Drop)]
+#[derive(Clone, Copy)]
 pub struct SlotResult {
     pub answer: Answer,
     pub slot: Slot,
 }
 
 // The answer to a payment posted to a board. A refusal leaves the board as it was.
-#[derive(Drop)]
+#[derive(Clone, Copy)]
 pub struct PostResult {
     pub answer: Answer,
     pub board: Board,
 }
 
 // The indices at which an issuer's lane is searched: `from` and those behind it, up to `to` and without it.
-#[derive(Drop)]
+#[derive(Clone, Copy)]
 pub struct SearchRange {
     pub from: usize,
     pub to: usize,

@@ -1,4 +1,6 @@
 // Gregorian dates as eight digit bytes, YYYYMMDD, of the years 1900 to 2199 (SPEC.md, "Dates").
+#![tactic(auto)]
+
 ghost use Rattle.std.specs.Prelude.{true, ◌≡◌, ◌+◌, ◌/◌, ◌%◌, ◌≤◌, length, take, drop};
 ghost use Rattle.decimal.specs.Bytes.{is_of, all};
 ghost use Rattle.decimal.specs.Numbers.{number_of};
@@ -9,7 +11,7 @@ use decimal::Class;
 
 // Three numbers, of which `is_date` says whether they are a date.
 #[repr(C)]
-#[derive(Drop)]
+#[derive(Clone, Copy)]
 pub struct Date {
     pub year: u64,
     pub month: u64,
@@ -17,7 +19,7 @@ pub struct Date {
 }
 
 // What `read_date` finds.
-#[derive(Drop)]
+#[derive(Clone, Copy)]
 pub enum MaybeDate {
     On(Date),
     NoDate,

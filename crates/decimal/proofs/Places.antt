@@ -152,9 +152,9 @@ put_whole piece l e =
     put_fits 0 piece l (omega arith) ∙ rw (drop_of_length-le l past) (append-nil piece)
 
 -- a part of a buffer that was filled with a piece, back in its place
-pub put_mid : (at : ℕ) (piece l : List ℕ) {n : ℕ} {q : List ℕ} → length piece ≡ n → at + n ≤ length l → q ≡ piece
+pub put_middle : (at : ℕ) (piece l : List ℕ) {n : ℕ} {q : List ℕ} → length piece ≡ n → at + n ≤ length l → q ≡ piece
     → put_mid at (at + n - at) l q ≡ put_at at piece l
-put_mid at piece l {n} {q} e h f =
+put_middle at piece l {n} {q} e h f =
     let k : at + n - at ≡ length piece = omega arith in
     rw (k, f, drop-drop (length piece) at l) (sym (put_fits at piece l (omega arith)))
 

@@ -1,4 +1,6 @@
 // Bytes of a class, and numbers as decimal digits (SPEC.md, "Words").
+#![tactic(auto)]
+
 ghost use Rattle.std.specs.Prelude.{◌≡◌, cond, ◌+◌, ◌*◌, ◌%◌, ◌^◌, ◌≤◌, leb, ltb, length};
 ghost use Rattle.answer.specs.Orders.{if_accepted};
 ghost use Rattle.decimal.specs.Bytes.{within, is_of, all, each_is};
@@ -9,7 +11,7 @@ ghost use Rattle.decimal.specs.LowHalves.{low_number_of};
 use answer::{Answer, Reason};
 
 // What a byte has to be.
-#[derive(Drop)]
+#[derive(Clone, Copy)]
 pub enum Class {
     Digit,
     Blank,
@@ -237,7 +239,7 @@ pub fn put(piece: &[u8], out: &mut [u8], at: usize)
         return;
     }
     let end = at + piece.len();
-    bytes::copy(piece, &mut out[at..end]);
+    out[at..end].copy_from_slice(piece);
 }
 
 // Writes a number into the caller's buffer as `width` digits with leading zeros, from index `at` on. A refusal leaves

@@ -21,5 +21,5 @@ pub(crate) fn copy_all(src: &[u8], out: &mut [u8])
     requires { length src.now ≡ length out.old }
     ensures { out.new ≡ src.now }
 {
-    bytes::copy(src, out);
+    out.copy_from_slice(src);
 }

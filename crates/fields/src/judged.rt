@@ -38,7 +38,7 @@ pub fn make(
     let a = making::make_named(which, given, version, first, second, agreed, &mut made);
     match a {
         Answer::Accepted => {
-            bytes::copy(&made, out);
+            out.copy_from_slice(&made);
             a
         }
         Answer::Refused(_, _) => a,

@@ -1,5 +1,6 @@
 // An open file (SPEC.md, "Records", "Line ends", "Sessions"): the payments it took so far, whether it takes one more,
 // the one trailer that is right for it, and its form, lined or bare. Session and writer share it.
+#![tactic(auto)]
 ghost use Rattle.std.specs.Prelude.{◌≡◌};
 ghost use Rattle.file.specs.Files.{fresh_file, file_result_of, figures_answer, close_result_of};
 ghost use Rattle.file.specs.Forms.{length_of, has_line_end};
@@ -9,7 +10,7 @@ use answer::{Answer, Reason};
 // How many payments were taken, the centavos they received in all, the version of the layout that the header names, 4
 // or 6, and whether CR and LF follow each record. In a session all are 0 and false while no file is open.
 #[repr(C)]
-#[derive(Drop)]
+#[derive(Clone, Copy)]
 pub struct File {
     pub taken: u64,
     pub total: u64,
@@ -18,21 +19,21 @@ pub struct File {
 }
 
 // The file with the payment; a refusal leaves it as it was.
-#[derive(Drop)]
+#[derive(Clone, Copy)]
 pub struct FileResult {
     pub answer: Answer,
     pub file: File,
 }
 
 // What a trailer shows: how many records the file has, header and trailer included, and the centavos received.
-#[derive(Drop)]
+#[derive(Clone, Copy)]
 pub struct Figures {
     pub count: u64,
     pub total: u64,
 }
 
 // The figures of the trailer to write; zeros where the file is refused.
-#[derive(Drop)]
+#[derive(Clone, Copy)]
 pub struct CloseResult {
     pub answer: Answer,
     pub figures: Figures,

@@ -8,6 +8,7 @@
 // Each function takes every value of its arguments, sessions, boards and writers in an arbitrary state included. None
 // allocates, keeps anything between calls or calls back. If a call is refused, the state that it returns is the given
 // one, and the caller's buffer is as it was.
+#![tactic(auto)]
 mod barcodes;
 mod forms;
 mod pages;
@@ -43,7 +44,7 @@ pub use writers::{
 
 // An answer: number 0 and place 0 if accepted, else the refusal's number (SPEC.md, "Refusals") and its place.
 #[repr(C)]
-#[derive(Drop)]
+#[derive(Clone, Copy)]
 pub struct CAnswer {
     pub number: u64,
     pub place: usize,
@@ -51,7 +52,7 @@ pub struct CAnswer {
 
 // A part of the caller's bytes: its offset, counted from 0, and its length. The empty part is 0 and 0.
 #[repr(C)]
-#[derive(Drop)]
+#[derive(Clone, Copy)]
 pub struct CPart {
     pub from: usize,
     pub length: usize,
@@ -59,7 +60,7 @@ pub struct CPart {
 
 // The fields of a barcode; the due date is all zeros if there is none.
 #[repr(C)]
-#[derive(Drop)]
+#[derive(Clone, Copy)]
 pub struct CFields {
     pub kind: u64,
     pub value: u64,
@@ -69,7 +70,7 @@ pub struct CFields {
 
 // The fields are all zeros if the answer is a refusal.
 #[repr(C)]
-#[derive(Drop)]
+#[derive(Clone, Copy)]
 pub struct CDecoded {
     pub answer: CAnswer,
     pub fields: CFields,
@@ -77,7 +78,7 @@ pub struct CDecoded {
 
 // `received` and `tariff` are centavos.
 #[repr(C)]
-#[derive(Drop)]
+#[derive(Clone, Copy)]
 pub struct CPayment {
     pub paid: Date,
     pub credited: Date,
@@ -90,7 +91,7 @@ pub struct CPayment {
 // `letter`, the record's first byte, says which of the three has its values; the other two are all zeros. It is 0, and
 // all three are zeros, if the answer is a refusal.
 #[repr(C)]
-#[derive(Drop)]
+#[derive(Clone, Copy)]
 pub struct CRecord {
     pub answer: CAnswer,
     pub letter: u64,
@@ -101,7 +102,7 @@ pub struct CRecord {
 
 // A writer: `stage` is 0 before the header and 1 in an open file; every other number is a closed file.
 #[repr(C)]
-#[derive(Drop)]
+#[derive(Clone, Copy)]
 pub struct CWriter {
     pub stage: u64,
     pub file: File,
@@ -109,7 +110,7 @@ pub struct CWriter {
 
 // The writer after the call; the given one, as it was, if the answer is a refusal.
 #[repr(C)]
-#[derive(Drop)]
+#[derive(Clone, Copy)]
 pub struct CWriteResult {
     pub answer: CAnswer,
     pub writer: CWriter,
@@ -117,7 +118,7 @@ pub struct CWriteResult {
 
 // The session after the call; the given one, as it was, if the answer is a refusal.
 #[repr(C)]
-#[derive(Drop)]
+#[derive(Clone, Copy)]
 pub struct CTakeResult {
     pub answer: CAnswer,
     pub session: Session,
@@ -125,7 +126,7 @@ pub struct CTakeResult {
 
 // The session after the accepted records, how many they are, how many files they closed, and how many bytes they had.
 #[repr(C)]
-#[derive(Drop)]
+#[derive(Clone, Copy)]
 pub struct CRunResult {
     pub answer: CAnswer,
     pub session: Session,
@@ -136,7 +137,7 @@ pub struct CRunResult {
 
 // How many bytes of the buffer are the page; 0 if the answer is a refusal.
 #[repr(C)]
-#[derive(Drop)]
+#[derive(Clone, Copy)]
 pub struct CPageResult {
     pub answer: CAnswer,
     pub length: usize,

@@ -1,4 +1,6 @@
 // The layouts of the three records (SPEC.md, "Records"): one table of their fields.
+#![tactic(auto)]
+
 pub mod a;
 pub mod g;
 pub mod z;
@@ -7,7 +9,7 @@ ghost use Rattle.std.specs.Prelude.{◌≡◌};
 ghost use Rattle.layout.specs.Layouts.{table, row_at, named_by, rows_of, given_of, given_length};
 
 // The header, A, the payment, G, and the trailer, Z.
-#[derive(Drop)]
+#[derive(Clone, Copy)]
 pub enum Record {
     Header,
     Payment,
@@ -15,7 +17,7 @@ pub enum Record {
 }
 
 // What the first byte of a record names.
-#[derive(Drop)]
+#[derive(Clone, Copy)]
 pub enum MaybeRecord {
     Is(Record),
     Other,
@@ -23,7 +25,7 @@ pub enum MaybeRecord {
 
 // What a field holds (crate kinds checks it): `Mark` this one byte, `Version` a version of the layout, `Service` the
 // name of the service, `Capture` and `Form` one byte that says how the payment was taken in and made.
-#[derive(Drop)]
+#[derive(Clone, Copy)]
 pub enum Kind {
     Mark(u8),
     Version,
@@ -39,7 +41,7 @@ pub enum Kind {
 }
 
 // A field of a record, from its first place to its last; places count from 1.
-#[derive(Drop)]
+#[derive(Clone, Copy)]
 pub struct Field {
     pub first: usize,
     pub last: usize,
@@ -47,14 +49,14 @@ pub struct Field {
 }
 
 // Rows of the table, from `from` up to `to`, which is not included.
-#[derive(Drop)]
+#[derive(Clone, Copy)]
 pub struct Rows {
     pub from: usize,
     pub to: usize,
 }
 
 // A part of a field, from index `from` up to `to`, which is not included.
-#[derive(Drop)]
+#[derive(Clone, Copy)]
 pub struct Given {
     pub from: usize,
     pub to: usize,

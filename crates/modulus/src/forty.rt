@@ -14,7 +14,7 @@ use crate::{MaybeSums, Modulus};
 use decimal::Class;
 
 // The sums over sixteen columns; `error` is 0 where all bytes are digits, else the sums mean nothing.
-#[derive(Drop)]
+#[derive(Clone, Copy)]
 struct ColumnSums {
     error: u8,
     ten: u16,

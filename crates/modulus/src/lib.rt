@@ -1,4 +1,6 @@
 // Check digits under modulo 10 and modulo 11 (SPEC.md, "Check digits").
+#![tactic(auto)]
+
 ghost use Rattle.std.specs.Prelude.{◌≡◌, ◌-◌, ◌%◌, ◌≤◌, ◌<◌, length};
 ghost use Rattle.modulus.specs.Checks.{size_of, weight_of, product_part, term_of, weighted_sum, digit_of_remainder};
 ghost use Rattle.modulus.specs.Checks.{check_of};
@@ -7,14 +9,14 @@ mod forty;
 
 pub use forty::sums_of_forty;
 
-#[derive(Drop)]
+#[derive(Clone, Copy)]
 pub enum Modulus {
     Ten,
     Eleven,
 }
 
 // The weighted sum of some digits under modulo 10, then under modulo 11.
-#[derive(Drop)]
+#[derive(Clone, Copy)]
 pub enum MaybeSums {
     Both(u64, u64),
     NoSum,

@@ -1,5 +1,6 @@
 // The printed page: an answer, two counts and the board shown, as lines `key=value` in the caller's buffer (SPEC.md,
 // "Page"). Each `put_..` writes one piece at an index and returns the index behind it.
+#![tactic(auto)]
 ghost use Rattle.std.specs.Prelude.{◌≡◌, ◌+◌, ◌*◌, ◌≤◌, max, length};
 ghost use Rattle.board.specs.Lanes.{most_lanes};
 ghost use Rattle.board.specs.Boards.{lanes_of};
@@ -17,7 +18,7 @@ use board::{Board, Lane, Tally};
 pub const PAGE: usize = 10657;
 
 // `length` is how many bytes of the buffer are the page; 0 if the answer is a refusal.
-#[derive(Drop)]
+#[derive(Clone, Copy)]
 pub struct PrintResult {
     pub answer: Answer,
     pub length: usize,

@@ -1,5 +1,6 @@
 // Sequence numbers (SPEC.md, "Sequence numbers"): the last accepted number of each pair of bank and agreement, and
 // whether a header's number follows.
+#![tactic(auto)]
 ghost use Rattle.std.specs.Prelude.{◌≡◌, min, eqb};
 ghost use Rattle.pairs.specs.Pairs.{most_pairs, next_number, is_same_pair, no_pair, fresh_memory, pairs_of};
 ghost use Rattle.pairs.specs.Pairs.{index_of, memory_answer, memory_with};
@@ -8,7 +9,7 @@ use answer::{Answer, Reason};
 
 // The bytes of a header's bank and agreement, and its sequence number.
 #[repr(C)]
-#[derive(Drop)]
+#[derive(Clone, Copy)]
 pub struct Pair {
     pub bank: [u8; 3],
     pub agreement: [u8; 20],
@@ -18,7 +19,7 @@ pub struct Pair {
 // The pairs in use are the first `used`, in the order in which they first were accepted; all of them if a memory in an
 // arbitrary state says more. Each has the number of its last accepted file.
 #[repr(C)]
-#[derive(Drop)]
+#[derive(Clone, Copy)]
 pub struct Memory {
     pub pairs: [Pair; Memory::PAIRS],
     pub used: usize,

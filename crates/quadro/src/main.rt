@@ -1,5 +1,6 @@
 // quadro reads return files from standard input, and prints the page of the board shown at the input's end or at the
 // first refusal (SPEC.md, "The program quadro"). A day is the run over all input so far.
+#![tactic(auto)]
 ghost use Rattle.std.specs.Prelude.{◌≡◌, ◌-◌, ◌≤◌, length, take, drop};
 ghost use Rattle.answer.specs.declared.Answer.TheVariants.{Accepted};
 ghost use Rattle.day.specs.Days.{fresh_day, run_buffer_of, ended_of};
@@ -21,7 +22,7 @@ const SIZE: usize = 65536;
 const TURNS: u64 = 17632813406850;
 
 // How reading a buffer ended: it is full, the input ended behind so many bytes, or a read failed.
-#[derive(Drop)]
+#[derive(Clone, Copy)]
 pub enum BufferRead {
     Full,
     Ended(usize),
@@ -113,7 +114,7 @@ fn finish_day(day: RunResult) -> RunResult
 }
 
 // How a turn ended: more input may follow, the day is over, or a read failed.
-#[derive(Drop)]
+#[derive(Clone, Copy)]
 pub enum TurnEnd {
     More,
     Over,
@@ -121,7 +122,7 @@ pub enum TurnEnd {
 }
 
 // The day after a turn, and how many bytes at the buffer's front the turn left for the next: 0 if there is none.
-#[derive(Drop)]
+#[derive(Clone, Copy)]
 pub struct TurnResult {
     pub end: TurnEnd,
     pub day: RunResult,

@@ -27,7 +27,7 @@ use decimal::Class;
 use layout::{Field, MaybeRecord, Record, g};
 
 // An accepted G with all that it shows, or any other record.
-#[derive(Drop)]
+#[derive(Clone, Copy)]
 pub(crate) enum FastDecoded {
     Paid(Payment),
     Other,

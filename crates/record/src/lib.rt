@@ -1,6 +1,7 @@
 // The three records A, G and Z (SPEC.md, "Records"), each read alone, under the list of agreed issuers that the caller
 // lends. Modules, lowest first: parts (a field's bytes and values), walk (the check in order) beside fast (the fast
 // path for an accepted G), judged (the operations once the list is judged).
+#![tactic(auto)]
 mod fast;
 pub mod judged;
 mod parts;
@@ -17,7 +18,7 @@ use calendar::Date;
 
 // What an accepted A shows. Its version is the one to pass with each G of the same file.
 #[repr(C)]
-#[derive(Drop)]
+#[derive(Clone, Copy)]
 pub struct Header {
     pub bank: u64,
     pub date: Date,
@@ -26,7 +27,7 @@ pub struct Header {
 }
 
 // What an accepted G shows. Received and tariff are centavos; number is the record's own, which nobody counts.
-#[derive(Drop)]
+#[derive(Clone, Copy)]
 pub struct Payment {
     pub paid: Date,
     pub credited: Date,
@@ -38,21 +39,21 @@ pub struct Payment {
 
 // What an accepted Z shows: the count of all records, header and trailer included, and the centavos received.
 #[repr(C)]
-#[derive(Drop)]
+#[derive(Clone, Copy)]
 pub struct Trailer {
     pub count: u64,
     pub total: u64,
 }
 
 // To whom an accepted G pays, the centavos received and the tariff; Nothing for every other record, accepted or not.
-#[derive(Drop)]
+#[derive(Clone, Copy)]
 pub enum PaymentDue {
     To(Issuer, u64, u64),
     Nothing,
 }
 
 // An accepted record with all that it shows, or why it is refused and at which place, 0 for none.
-#[derive(Drop)]
+#[derive(Clone, Copy)]
 pub enum Decoded {
     Header(Header),
     Payment(Payment),

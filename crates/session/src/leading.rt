@@ -21,7 +21,7 @@ use file::File;
 use record::{PaymentDue, judged};
 
 // How far the payments came: the open file with them, their number, and the index behind the last.
-#[derive(Drop)]
+#[derive(Clone, Copy)]
 pub(crate) struct Progress {
     pub(crate) file: File,
     pub(crate) records: u64,
@@ -29,14 +29,14 @@ pub(crate) struct Progress {
 }
 
 // What accepted payments leave: the working board with them, and how far they came.
-#[derive(Drop)]
+#[derive(Clone, Copy)]
 pub(crate) struct LeadingPayments {
     pub(crate) work: Board,
     pub(crate) progress: Progress,
 }
 
 // A payment that the open file takes, as a lane of one, with the progress behind it.
-#[derive(Drop)]
+#[derive(Clone, Copy)]
 enum MaybePayment {
     Is(Lane, Progress),
     Other,

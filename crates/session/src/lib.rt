@@ -1,4 +1,5 @@
 // A session takes the records of return files one after the other (SPEC.md, "Sessions").
+#![tactic(auto)]
 mod ends;
 mod leading;
 mod opening;
@@ -21,7 +22,7 @@ use pairs::{Memory, Pair};
 // trailer whose file has neither a place there nor room for one is accepted and not remembered; no session that started
 // fresh comes to that.
 #[repr(C)]
-#[derive(Drop)]
+#[derive(Clone, Copy)]
 pub struct Session {
     pub shown: Board,
     pub work: Board,
@@ -32,7 +33,7 @@ pub struct Session {
 }
 
 // The answer to one record. A refusal leaves the session as it was.
-#[derive(Drop)]
+#[derive(Clone, Copy)]
 pub struct TakeResult {
     pub answer: Answer,
     pub session: Session,
@@ -40,7 +41,7 @@ pub struct TakeResult {
 
 // The answer of a run, the first refusal, and how many records were accepted and files closed before it, and how many
 // bytes those records had, CR and LF included. The session is the one after those records.
-#[derive(Drop)]
+#[derive(Clone, Copy)]
 pub struct RunResult {
     pub answer: Answer,
     pub session: Session,
@@ -52,7 +53,7 @@ pub struct RunResult {
 // The limits of a session: the lanes of its board, the bytes of a record, the most payments and the most centavos of a
 // file, the most that the payments, the centavos or the tariffs of the board may reach, and the pairs of its memory.
 #[repr(C)]
-#[derive(Drop)]
+#[derive(Clone, Copy)]
 pub struct Limits {
     pub lanes: usize,
     pub record_length: usize,

@@ -18,10 +18,10 @@ pub(crate) fn pair_numbered(rec: &[u8], sequence: u64) -> Pair
     let mut agreement = [0u8; 20];
     let from = a::BANK.first - 1;
     let to = a::BANK.last;
-    bytes::copy(&rec[from..to], &mut bank);
+    bank.copy_from_slice(&rec[from..to]);
     let from = a::AGREEMENT.first - 1;
     let to = a::AGREEMENT.last;
-    bytes::copy(&rec[from..to], &mut agreement);
+    agreement.copy_from_slice(&rec[from..to]);
     Pair {
         bank,
         agreement,

@@ -1,5 +1,6 @@
 // A return file written record by record (SPEC.md, "Writer"): A, then each G, under the list of agreed issuers that the
 // caller lends, then Z with the file's own figures.
+#![tactic(auto)]
 ghost use Rattle.std.specs.Prelude.{◌||◌, ◌≡◌, eqb, length};
 ghost use Rattle.answer.specs.declared.Answer.TheVariants as answers;
 ghost use Rattle.answer.specs.Orders.{if_accepted};
@@ -17,7 +18,7 @@ use file::File;
 use layout::{Record, a};
 
 // Before its header, between header and trailer, and after its trailer, when no record is expected any more.
-#[derive(Drop)]
+#[derive(Clone, Copy)]
 pub enum Stage {
     Fresh,
     Open,
@@ -26,14 +27,14 @@ pub enum Stage {
 
 // The stage, and what was written so far: how many payments, their centavos, the version that the header names, and
 // whether the file is lined.
-#[derive(Drop)]
+#[derive(Clone, Copy)]
 pub struct Writer {
     pub stage: Stage,
     pub file: File,
 }
 
 // The answer to a call, and the writer that follows: the same one where it is refused.
-#[derive(Drop)]
+#[derive(Clone, Copy)]
 pub struct WriteResult {
     pub answer: Answer,
     pub writer: Writer,
@@ -86,7 +87,7 @@ fn put_in_form(made: &[u8], out: &mut [u8])
         × (length out.old ≡ length_of (is_lined_buffer (length out.old))) }
     ensures { out.new ≡ in_form (is_lined_buffer (length out.old)) made.now }
 {
-    bytes::copy(made, out);
+    out.copy_from_slice(made);
     if out.len() == file::LINED {
         out[layout::LENGTH] = file::CR;
         out[layout::LENGTH + 1] = file::LF;

@@ -1,0 +1,42 @@
+use Prim.Native.Nat.{◌+◌, ◌-◌, ◌*◌, ◌≤◌}
+use mathlib.Core.Bool.{true, ◌&&◌}
+use mathlib.Core.Path.{◌≡◌}
+use lib.Dec.{eqb}
+use Rattle.modulus.specs.declared.Modulus.TheVariants.{Ten, Eleven}
+use Rattle.modulus.specs.Columns.{are_digits, counted}
+use Rattle.modulus.proofs.Columns.{left_digits, left_sum, digits_step, sum_goes, digits_end, sum_ends}
+use borrow.Author.Rules.{rules}
+use Rattle.modulus.proofs.forty.add_columns.Goals as goal
+
+pub loop-i-preserved : goal.loop-i-preserved
+loop-i-preserved c =
+    let x = c.args.x.now in
+    let y = c.args.y.now in
+    let z = c.args.z.now in
+    let p = c.requires in
+    let l = c.loop-i in
+    let more = c.loop-i-test.true in
+    let low = c.low_half-a.ensures.value in
+    let low2 = c.low_half-b.ensures.value in
+    let late = c.last_row_value-c.ensures.value in (
+      search rules,
+      search rules,
+      search rules,
+      digits_step x y z p.0 p.1 p.2 l.i more l.error c.column_error_bit-error.ensures l.invariant.3,
+      λ d. (
+        sum_goes x y z p.0 p.1 p.2 l.i more Ten l.tens d low low2 late c.column_ten-tens.ensures.value (l.invariant.4 d).0,
+        sum_goes x y z p.0 p.1 p.2 l.i more Eleven l.elevens d low low2 late (λ _ _ _. c.column_eleven-elevens.ensures.value) (l.invariant.4 d).1,
+      ),
+    )
+
+pub returns : goal.returns
+returns c =
+    let a = c.args in
+    let p = c.requires in
+    let l = c.loop-i in
+    let none = c.loop-i-test.false in
+    record {
+      digits = digits_end a.x.now a.y.now a.z.now p.0 p.1 p.2 l.i none l.error l.invariant.3;
+      tens = λ d. sum_ends a.x.now a.y.now a.z.now p.0 p.1 p.2 l.i none Ten l.tens (l.invariant.4 d).0;
+      elevens = λ d. sum_ends a.x.now a.y.now a.z.now p.0 p.1 p.2 l.i none Eleven l.elevens (l.invariant.4 d).1;
+    }

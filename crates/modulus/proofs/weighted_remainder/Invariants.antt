@@ -1,0 +1,15 @@
+use Prim.Native.Nat.{◌+◌, ◌-◌, ◌%◌, ◌≤◌}
+use mathlib.Core.Path.{◌≡◌, ◌∙◌}
+use native.Mathlib.Omega.{arith}
+use borrow.Author.Rules.{rules}
+use lib.ListN.{length, take, drop}
+use Rattle.decimal.proofs.Places.{length_piece}
+use Rattle.modulus.proofs.Sums.{blocks_start, blocks_step, sum_small, remainder_small}
+use Rattle.modulus.specs.Checks.{size_of, weighted_sum}
+use Rattle.modulus.proofs.weighted_remainder.Given as goal
+
+abbrev pub invariant-loop-end : goal.invariant-loop-end
+invariant-loop-end l = (l.end ≤ length l.digits) × (l.sum ≤ 10) × (l.sum ≡ weighted_sum l.m l.right (drop l.end l.digits) % size_of l.m)
+
+abbrev pub decreases-loop-end : goal.decreases-loop-end
+decreases-loop-end l = l.end
