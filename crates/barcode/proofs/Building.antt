@@ -18,12 +18,13 @@ use Rattle.answer.proofs.Steps.{passed}
 use Rattle.decimal.specs.declared.Class.TheVariants.{Digit}
 use Rattle.decimal.specs.Bytes.{is_of, all, each_is}
 use Rattle.decimal.specs.Numbers.{digits_of, put_number_answer}
-use Rattle.decimal.specs.Places.{width_of, put_at}
+use Rattle.decimal.specs.Places.{width_of, put_at, gather}
+use Rattle.modulus.specs.Checks.{check_of}
 use Rattle.decimal.proofs.Numbers.{digits_fill, digit_back, number_put}
 use Rattle.decimal.proofs.Bytes.{each_accepts}
 use Rattle.decimal.proofs.Places.{put_next, put_whole}
 use Rattle.barcode.specs.declared.Issuer.{Issuer}
-use Rattle.barcode.specs.Codes.{code_length, is_segment, is_kind, value, issuer_end, issuer, free, general_check}
+use Rattle.barcode.specs.Codes.{code_length, is_segment, is_kind, value, issuer_end, issuer, free, general_check, checked, modulus_of}
 use Rattle.barcode.specs.Building.{head_of, tail_of, check_for, code_with, built_of, build_answer}
 use Rattle.barcode.specs.RoundTrips.{WithinRanges}
 use Rattle.barcode.proofs.Codes.{issuer_end_range, kind_small}
@@ -126,7 +127,8 @@ module _ (i : Issuer) (kind amount : ℕ) (rest : List ℕ) (fit : WithinRanges 
   pub written_check : (x : ℕ) → general_check (code_with x i kind amount rest) ≡ check_for i kind amount rest
   written_check x =
       let t : take 40 (tail_of i amount rest) ++ [] ≡ tail_of i amount rest = append-nil (take 40 (tail_of i amount rest)) ∙ take_all 40 (tail_of i amount rest) (omega (arith, tail_length)) in
-      rw ((digit_back kind (kind_small kind fit.kinds)).1, t)
+      ap (λ (k : ℕ). check_of (modulus_of k) (gather checked (code_with x i kind amount rest))) (digit_back kind (kind_small kind fit.kinds)).1
+      ∙ ap (λ (l : List ℕ). check_of (modulus_of kind) (head_of i.segment kind ++ l)) t
 
   pub code_length_holds : (x : ℕ) → length (code_with x i kind amount rest) ≡ 44
   code_length_holds x = omega (arith, tail_length)

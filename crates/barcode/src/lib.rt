@@ -1,6 +1,7 @@
 // The collection barcode of 44 digits (SPEC.md, "Barcode"): checked, decoded, and built from its fields, under the list
 // of agreed issuers that the caller lends.
 #![tactic(auto)]
+
 mod agreed;
 pub mod builder;
 mod fast;

@@ -1,0 +1,10 @@
+use borrow.Author.Rules.{rules}
+use Rattle.barcode.proofs.Building.{ranges_of, finished}
+use Rattle.barcode.proofs.builder.finish.Goals as goal
+
+pub returns : goal.returns
+returns c =
+    let a = c.args in
+    let fit = ranges_of _ _ _ _ c.requires.free_value in
+    finished a.issuer a.kind a.value a.free.now fit a.out.now c.requires.out_len
+    c.put_fields.ensures c.general_check_holds.ensures.0 c.put.ensures
