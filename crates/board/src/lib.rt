@@ -1,5 +1,6 @@
 // The board (SPEC.md, "Board"): a lane for each issuer with its payments, centavos and tariffs, and the totals.
 #![tactic(auto)]
+
 mod one_lane;
 mod searching;
 mod whole_board;

@@ -1,6 +1,7 @@
 // An open file (SPEC.md, "Records", "Line ends", "Sessions"): the payments it took so far, whether it takes one more,
 // the one trailer that is right for it, and its form, lined or bare. Session and writer share it.
 #![tactic(auto)]
+
 ghost use Rattle.std.specs.Prelude.{◌≡◌};
 ghost use Rattle.file.specs.Files.{fresh_file, file_result_of, figures_answer, close_result_of};
 ghost use Rattle.file.specs.Forms.{length_of, has_line_end};

@@ -1,5 +1,6 @@
 // What each kind of field may hold (SPEC.md, "Records" and "Field bytes").
 #![tactic(auto)]
+
 mod versions;
 
 ghost use Rattle.std.specs.Prelude.{◌≡◌, [], ◌∷◌, get_or};

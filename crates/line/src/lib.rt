@@ -1,6 +1,7 @@
 // The typed line of 48 digits (SPEC.md, "Typed line"): checked, decoded, and turned into a barcode and back, under the
 // list of agreed issuers that the caller lends.
 #![tactic(auto)]
+
 ghost use Rattle.std.specs.Prelude.{◌≡◌, ◌+◌, ◌≤◌, ◌<◌, length};
 ghost use Rattle.answer.specs.declared.Answer.TheVariants as answers;
 ghost use Rattle.answer.specs.Refusals.{answer_place};

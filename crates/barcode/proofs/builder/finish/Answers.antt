@@ -7,4 +7,4 @@ returns c =
     let a = c.args in
     let fit = ranges_of _ _ _ _ c.requires.free_value in
     finished a.issuer a.kind a.value a.free.now fit a.out.now c.requires.out_len
-    c.put_fields.ensures c.general_check_holds.ensures.0 c.put.ensures
+    c.put_fields.ensures c.general_check-check.ensures.value c.put.ensures
