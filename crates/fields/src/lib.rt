@@ -1,6 +1,7 @@
 // The field bytes of a record (SPEC.md, "Field bytes"): joined from an accepted record, and a record made from them and
 // its amounts, both along layout's table and under the list of agreed issuers that the caller lends.
 #![tactic(auto)]
+
 mod given;
 mod joining;
 pub mod judged;

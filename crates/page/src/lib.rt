@@ -1,6 +1,7 @@
 // The printed page: an answer, two counts and the board shown, as lines `key=value` in the caller's buffer (SPEC.md,
 // "Page"). Each `put_..` writes one piece at an index and returns the index behind it.
 #![tactic(auto)]
+
 ghost use Rattle.std.specs.Prelude.{◌≡◌, ◌+◌, ◌*◌, ◌≤◌, max, length};
 ghost use Rattle.board.specs.Lanes.{most_lanes};
 ghost use Rattle.board.specs.Boards.{lanes_of};

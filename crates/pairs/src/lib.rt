@@ -1,6 +1,7 @@
 // Sequence numbers (SPEC.md, "Sequence numbers"): the last accepted number of each pair of bank and agreement, and
 // whether a header's number follows.
 #![tactic(auto)]
+
 ghost use Rattle.std.specs.Prelude.{◌≡◌, min, eqb};
 ghost use Rattle.pairs.specs.Pairs.{most_pairs, next_number, is_same_pair, no_pair, fresh_memory, pairs_of};
 ghost use Rattle.pairs.specs.Pairs.{index_of, memory_answer, memory_with};

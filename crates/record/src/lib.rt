@@ -2,6 +2,7 @@
 // lends. Modules, lowest first: parts (a field's bytes and values), walk (the check in order) beside fast (the fast
 // path for an accepted G), judged (the operations once the list is judged).
 #![tactic(auto)]
+
 mod fast;
 pub mod judged;
 mod parts;

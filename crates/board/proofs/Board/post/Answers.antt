@@ -11,10 +11,10 @@ pub returns-then-at-ge-LANES : goal.returns-then-at-ge-LANES
 unfolding slot_answer
 returns-then-at-ge-LANES c =
     let a = c.args in
-    let e : most_lanes ≤ index_of a.issuer (lanes_of a.t1) = omega (arith, c.lane_index-at.ensures) in
+    let e : most_lanes ≤ index_of a.issuer (lanes_of a.self) = omega (arith, c.lane_index-at.ensures) in
     rw (le-ltb _ _ e)
 
 pub returns : goal.returns
 returns c =
     let a = c.args in
-    put_back a.t1 (lane_of_one a.issuer a.centavos a.tariff) _ _ c.lane_index-at.ensures (rw c.of_payment.ensures at c.post-result.ensures)
+    put_back a.self (lane_of_one a.issuer a.centavos a.tariff) _ _ c.lane_index-at.ensures (rw c.of_payment.ensures at c.post-result.ensures)

@@ -1,0 +1,16 @@
+use Prim.Native.Nat.{◌*◌, ◌-◌, ◌≤◌}
+use native.Mathlib.Omega.{arith}
+use borrow.Author.Rules.{rules}
+use lib.ListN.{take, length}
+use Rattle.board.specs.Boards.{lanes_of}
+use Rattle.page.proofs.Pages.{lanes_start, lanes_turn, lanes_end}
+use Rattle.page.specs.Pages.{lanes_lines, most_lane}
+use Rattle.page.specs.Pieces.{Wrote}
+use Rattle.page.proofs.put_lanes.Given as goal
+
+abbrev pub invariant-loop-i : goal.invariant-loop-i
+invariant-loop-i l =
+    (l.i ≤ length (lanes_of l.at)) × Wrote (l.i * most_lane) l.out (lanes_lines 1 (take l.i (lanes_of l.at))) l.initial.out l.next l.used
+
+abbrev pub decreases-loop-i : goal.decreases-loop-i
+decreases-loop-i l = l.board - l.i

@@ -1,0 +1,5 @@
+use borrow.Author.Rules.{rules}
+use Rattle.pairs.proofs.Memory.new.Goals as goal
+
+pub returns : goal.returns
+returns c = rw c.none-unused.ensures

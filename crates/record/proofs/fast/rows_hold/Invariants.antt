@@ -1,0 +1,14 @@
+use Prim.Native.Nat.{◌-◌, ◌≤◌}
+use mathlib.Core.Bool.{◌&&◌}
+use mathlib.Core.Path.{◌≡◌, refl}
+use lib.Dec.{eqb}
+use Rattle.record.specs.FastPath.{rows_hold}
+use Rattle.record.proofs.FastPath.{from, rows_step, rows_end}
+use borrow.Author.Rules.{rules}
+use Rattle.record.proofs.fast.rows_hold.Given as goal
+
+abbrev pub invariant-loop-i : goal.invariant-loop-i
+invariant-loop-i l = (l.i ≤ 16) × ((eqb l.flags 0 && from l.i l.a l.b l.c l.d l.e l.f) ≡ rows_hold l.a l.b l.c l.d l.e l.f)
+
+abbrev pub decreases-loop-i : goal.decreases-loop-i
+decreases-loop-i l = 16 - l.i

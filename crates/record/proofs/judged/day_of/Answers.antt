@@ -1,0 +1,5 @@
+use borrow.Author.Rules.{rules}
+use Rattle.record.proofs.judged.day_of.Goals as goal
+
+pub returns-in-NoDate : goal.returns-in-NoDate
+returns-in-NoDate c = rw c.in-NoDate.is
