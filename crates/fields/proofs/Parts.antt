@@ -2,7 +2,8 @@
 use Prim.Native.Nat.{ℕ, ◌+◌, ◌-◌, ◌≤◌}
 use mathlib.Core.Bool.{Bool, true, false}
 use mathlib.Core.List.{List, [], ◌∷◌}
-use mathlib.Core.Path.{◌≡◌, refl, sym, ◌∙◌}
+use mathlib.Core.Logic.{◌⊎◌, inl, inr}
+use mathlib.Core.Path.{◌≡◌, refl, sym, ap, ◌∙◌}
 use native.Mathlib.Omega.{arith}
 use borrow.Author.Tests.{eqb-true}
 use lib.Dec.{eqb}
@@ -116,24 +117,20 @@ module _ {f : Field} (l : InRecord f) {g : Given} (e : g ≡ given_of f.kind (f.
 
 -- Kinds by their variants' positions, as a match of several at once tells them.
 
-abbrev others : List ℕ
-others = 0 ∷ 1 ∷ 2 ∷ 3 ∷ 4 ∷ 5 ∷ 7 ∷ 8 ∷ 9 ∷ 10 ∷ []
-
-pub not_money : (k : Kind) → OneOf others (tag_of the_type k) → false ≡ is_money k
-not_money (kind.Mark byte) h = refl
-not_money kind.Version h = refl
-not_money kind.Service h = refl
-not_money kind.Blank h = refl
-not_money kind.Text h = refl
-not_money kind.Digits h = refl
-not_money kind.Money h = absurd (miss others 6 tt h)
-not_money kind.Date h = refl
-not_money kind.Barcode h = refl
-not_money kind.Capture h = refl
-not_money kind.Form h = refl
-
 abbrev wholes : List ℕ
 wholes = 1 ∷ 4 ∷ 5 ∷ 7 ∷ 8 ∷ 9 ∷ 10 ∷ []
+
+pub whole_tags : (k : Kind)
+    → (k ≡ kind.Version)
+    ⊎ ((k ≡ kind.Text) ⊎ ((k ≡ kind.Digits) ⊎ ((k ≡ kind.Date) ⊎ ((k ≡ kind.Barcode) ⊎ ((k ≡ kind.Capture) ⊎ (k ≡ kind.Form))))))
+    → OneOf wholes (tag_of the_type k)
+whole_tags k (inl e) = inl (ap (tag_of the_type) e)
+whole_tags k (inr (inl e)) = inr (inl (ap (tag_of the_type) e))
+whole_tags k (inr (inr (inl e))) = inr (inr (inl (ap (tag_of the_type) e)))
+whole_tags k (inr (inr (inr (inl e)))) = inr (inr (inr (inl (ap (tag_of the_type) e))))
+whole_tags k (inr (inr (inr (inr (inl e))))) = inr (inr (inr (inr (inl (ap (tag_of the_type) e)))))
+whole_tags k (inr (inr (inr (inr (inr (inl e)))))) = inr (inr (inr (inr (inr (inl (ap (tag_of the_type) e))))))
+whole_tags k (inr (inr (inr (inr (inr (inr e)))))) = inr (inr (inr (inr (inr (inr (ap (tag_of the_type) e))))))
 
 pub given_whole : (k : Kind) → OneOf wholes (tag_of the_type k) → (w n : ℕ) (given : List ℕ) → given ≡ written_of k w given n
 given_whole (kind.Mark byte) h w n given = absurd (miss wholes 0 tt h)

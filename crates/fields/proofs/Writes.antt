@@ -28,9 +28,8 @@ use Rattle.kinds.specs.Kinds.{kind_answer}
 use Rattle.kinds.proofs.KindLaws.{kind_place}
 use Rattle.fields.specs.Making.{written_of, is_money, written_answer}
 
-pub made_copied : (made out : List ℕ) {l x : List ℕ} {a : Answer} → length made ≡ length out → a ≡ Accepted → made ≡ x
-    → l ≡ take (length made) made ++ drop (length made) out → l ≡ if_accepted a x out
-made_copied made out n e f q = rw e (copied_whole made out n q ∙ f)
+pub made_copied : (made out : List ℕ) {l x : List ℕ} {a : Answer} → a ≡ Accepted → made ≡ x → l ≡ made → l ≡ if_accepted a x out
+made_copied made out e f q = rw e (q ∙ f)
 
 -- one blank more
 pub blank_step : (out : List ℕ) (i : ℕ) → i < length out → take i out ≡ replicate i 32 → take (i + 1) (set out i 32) ≡ replicate (i + 1) 32

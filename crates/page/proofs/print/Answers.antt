@@ -20,4 +20,5 @@ returns c =
     let lines = head_lines a.number a.place a.records a.files a.board in
     let lanes = c.put_lanes-end.ensures in
     let whole = wrote_then {xs = lines} (omega arith) c.put_head-next.ensures lanes in
-    printed page a.out.now c.if-out-ne-PAGE.false whole
+    let p = printed page a.out.now c.if-out-ne-PAGE.false whole in
+    record { value = p.0; bytes = p.1.0; bounded = p.1.1 }

@@ -10,7 +10,7 @@ use Rattle.page.proofs.put_lanes.Given as goal
 
 abbrev pub invariant-loop-i : goal.invariant-loop-i
 invariant-loop-i l =
-    (l.i ≤ length (lanes_of l.at)) × Wrote (l.i * most_lane) l.out (lanes_lines 1 (take l.i (lanes_of l.at))) l.initial.out l.next l.used
+    (l.i ≤ length (lanes_of l.board)) × Wrote (l.i * most_lane) l.at (lanes_lines 1 (take l.i (lanes_of l.board))) l.initial.out l.next l.out
 
 abbrev pub decreases-loop-i : goal.decreases-loop-i
-decreases-loop-i l = l.board - l.i
+decreases-loop-i l = l.used - l.i

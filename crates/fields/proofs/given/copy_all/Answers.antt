@@ -4,4 +4,4 @@ use Rattle.fields.proofs.given.copy_all.Goals as goal
 
 pub returns : goal.returns
 returns c =
-    copied_whole c.args.src.now c.args.out.now c.requires c.copy_from_slice.ensures.after
+    c.copy_from_slice.ensures.after

@@ -15,8 +15,8 @@ use Rattle.fields.proofs.joining.join_rows.Given as goal
 
 abbrev pub invariant-loop-i : goal.invariant-loop-i
 invariant-loop-i l =
-    (l.i ≤ l.table)
-    × Joining (slice l.i l.table l.out) l.rec l.to l.at (length l.initial.out) (gather (map given_at (slice l.initial.i l.table l.out)) l.rec)
+    (l.i ≤ l.to)
+    × Joining (slice l.i l.to l.table) l.rec l.out l.at (length l.initial.out) (gather (map given_at (slice l.initial.i l.to l.table)) l.rec)
 
 abbrev pub decreases-loop-i : goal.decreases-loop-i
-decreases-loop-i l = l.table - l.i
+decreases-loop-i l = l.to - l.i

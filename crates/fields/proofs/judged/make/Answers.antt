@@ -23,7 +23,7 @@ returns-in-Accepted c =
     let given = c.if-given-given_length.false ∙ c.given_length.ensures in
     let accepted = c.in-Accepted.is in
     let answer = goes_on (told a.version a.agreed.now) a.which a.given.now (a.first ∷ a.second ∷ []) c.if-out-ne-LENGTH.false given c.make_named-a.ensures.answer in
-    record { answer = answer; bytes = made_copied _ _ (search rules) accepted (c.make_named-a.ensures.bytes accepted) c.copy_from_slice.ensures.after }
+    record { answer = answer; bytes = made_copied _ _ accepted (c.make_named-a.ensures.bytes accepted) c.copy_from_slice.ensures.after }
 
 pub returns-in-Refused : goal.returns-in-Refused
 returns-in-Refused c =

@@ -1,7 +1,7 @@
 use mathlib.Core.Path.{sym, ap, ◌∙◌}
 use borrow.Author.Rules.{rules}
 use lib.ListN.{length}
-use Rattle.fields.proofs.Parts.{given_whole}
+use Rattle.fields.proofs.Parts.{whole_tags, given_whole}
 use Rattle.fields.proofs.making.put_bytes.Goals as goal
 
 pub put_mark-requires : goal.put_mark-requires
@@ -13,7 +13,7 @@ put_service-requires c = sym (rw c.in-Service.is at c.requires.given_len)
 pub copy_all-requires : goal.copy_all-requires
 copy_all-requires c =
     let a = c.args in
-    ap length (given_whole a.kind c.in-Version.keys5 (length a.out.now) 0 a.given.now) ∙ c.requires.given_len
+    ap length (given_whole a.kind (whole_tags a.kind c.in-Version.is) (length a.out.now) 0 a.given.now) ∙ c.requires.given_len
 
 pub returns-in-Mark : goal.returns-in-Mark
 returns-in-Mark c = rw c.in-Mark.is c.put_mark.ensures
@@ -30,4 +30,4 @@ returns-in-Money c = let e = rw c.in-Money.is at c.requires.kind_value in cc
 pub returns-in-Version : goal.returns-in-Version
 returns-in-Version c =
     let a = c.args in
-    c.copy_all.ensures ∙ given_whole a.kind c.in-Version.keys5 (length a.out.now) 0 a.given.now
+    c.copy_all.ensures ∙ given_whole a.kind (whole_tags a.kind c.in-Version.is) (length a.out.now) 0 a.given.now
