@@ -172,15 +172,3 @@ module _ {t : Bool} {end size : ℕ} (e : t ≡ leb end size) where
 
   pub no_room : not t ≡ true → size < end
   no_room h = leb-false end size (sym e ∙ not-true t h)
-
--- a buffer into which as many bytes were copied, and a part of one
-pub copied_whole : (piece out : List ℕ) {q : List ℕ} → length piece ≡ length out
-    → q ≡ take (length piece) piece ++ drop (length piece) out → q ≡ piece
-copied_whole piece out n e =
-    let past : length out ≤ length piece = omega arith in
-    e ∙ rw (take-length piece, drop_of_length-le out past) (append-nil piece)
-
-pub copied : (at : ℕ) (piece l : List ℕ) {q : List ℕ} → at + length piece ≤ length l
-    → q ≡ take (length piece) piece ++ drop (length piece) (take (at + length piece - at) (drop at l)) → q ≡ piece
-copied at piece l h e =
-    copied_whole piece (take (at + length piece - at) (drop at l)) (sym (length_piece at (at + length piece - at) l (omega arith) ∙ omega arith)) e

@@ -20,7 +20,7 @@ use Rattle.decimal.specs.Numbers.{digits_of, width_answer}
 use Rattle.decimal.proofs.Bytes.{each_accepts}
 use Rattle.decimal.proofs.Numbers.{digits_fill}
 use Rattle.decimal.specs.Places.{put_at}
-use Rattle.decimal.proofs.Places.{put_whole, copied_whole}
+use Rattle.decimal.proofs.Places.{put_whole}
 use Rattle.layout.specs.declared.Kind.{Kind}
 use Rattle.layout.specs.declared.Kind.TheVariants as kind
 use Rattle.kinds.specs.Terms.{Terms}

@@ -90,10 +90,3 @@ take_is agreed s rec {r = r} fits expected e f took =
     let own : r ≡ take_result (own-answer then ending) new s = rw (← f, ← e) took in
     let expects = require (session_expects s.opened (named_by (get_or rec 0 0))) NotExpected 1 in
     took_go WrongLength 0 (expects then own-answer then ending) new s fits (took_go NotExpected 1 (own-answer then ending) new s expected own)
-
--- a part copied to bytes that are as many
-pub copied : (part before : List ℕ) {out : List ℕ} → length part ≡ length before
-    → out ≡ take (length part) part ++ drop (length part) before → out ≡ part
-copied part before n e =
-    let past : length before ≤ length part = omega (arith, n) in
-    e ∙ ap₂ (λ (xs ys : List ℕ). xs ++ ys) (take_all (length part) part (omega arith)) (drop_of_length-le before past) ∙ append-nil part

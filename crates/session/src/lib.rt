@@ -1,5 +1,6 @@
 // A session takes the records of return files one after the other (SPEC.md, "Sessions").
 #![tactic(auto)]
+
 mod ends;
 mod leading;
 mod opening;

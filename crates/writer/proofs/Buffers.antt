@@ -10,7 +10,6 @@ use lib.Dec.{eqb}
 use lib.ListN.{length, set, take, drop, length-append, length-drop, drop_of_length-le}
 use lib.Seq.{take_at, take-length, sets-eq}
 use Rattle.answer.proofs.Tests.{or_cases}
-use Rattle.decimal.proofs.Places.{copied_whole}
 use Rattle.layout.specs.Layouts.{record_length}
 use Rattle.file.specs.Forms.{line_end, in_form, lined_length, length_of}
 use Rattle.writer.specs.declared.Stage.{Stage}
@@ -52,13 +51,13 @@ open_fits w opened = rw opened (eq-eqb (length_of w.file.lined) (length_of w.fil
 
 -- A record of 150 bytes, copied to the front of a buffer.
 module _ (made out : List ℕ) {l : List ℕ} (n : length made ≡ record_length)
-    (c : l ≡ take (length made) made ++ drop (length made) out) where
+    (c : l ≡ made ++ drop (length made) out) where
   -- in a buffer of 152 CR and LF fill it
   pub put_lined : length out ≡ lined_length
       → set (set l record_length 13) (record_length + 1) 10 ≡ in_form (is_lined_buffer (length out)) made
   put_lined m =
       let rest = drop (length made) out in
-      let front : l ≡ made ++ rest = c ∙ rw (take-length made) in
+      let front : l ≡ made ++ rest = c in
       let long : length l ≡ lined_length =
       ap length front ∙ omega (arith, length-append made rest, length-drop (length made) out, n, m) in
       let full = drop_of_length-le l {i = lined_length} (omega (arith, long)) in
@@ -67,4 +66,6 @@ module _ (made out : List ℕ) {l : List ℕ} (n : length made ≡ record_length
 
   -- without, the record fills it
   pub put_bare : length out ≡ record_length → l ≡ in_form (is_lined_buffer (length out)) made
-  put_bare m = copied_whole made out (n ∙ sym m) c ∙ rw m (sym (append-nil made))
+  put_bare m =
+      let past : length out ≤ length made = omega (arith, n, m) in
+      c ∙ rw (drop_of_length-le out past, m)

@@ -1,6 +1,7 @@
 // A return file written record by record (SPEC.md, "Writer"): A, then each G, under the list of agreed issuers that the
 // caller lends, then Z with the file's own figures.
 #![tactic(auto)]
+
 ghost use Rattle.std.specs.Prelude.{◌||◌, ◌≡◌, eqb, length};
 ghost use Rattle.answer.specs.declared.Answer.TheVariants as answers;
 ghost use Rattle.answer.specs.Orders.{if_accepted};
@@ -87,7 +88,7 @@ fn put_in_form(made: &[u8], out: &mut [u8])
         × (length out.old ≡ length_of (is_lined_buffer (length out.old))) }
     ensures { out.new ≡ in_form (is_lined_buffer (length out.old)) made.now }
 {
-    out.copy_from_slice(made);
+    out[0..layout::LENGTH].copy_from_slice(made);
     if out.len() == file::LINED {
         out[layout::LENGTH] = file::CR;
         out[layout::LENGTH + 1] = file::LF;

@@ -1,5 +1,4 @@
 use borrow.Author.Rules.{rules}
-use Rattle.decimal.proofs.Places.{copied_whole}
 use Rattle.fields.proofs.given.copy_all.Goals as goal
 
 pub returns : goal.returns
