@@ -35,7 +35,7 @@ overflow_add-files c =
     let at = l.at + paid.result.progress.at in
     let inside : at < length a.bytes.now = omega (arith, c.if-bytes-at.false, c.least_left.ensures, least_some a.more) in
     let grown = cut_grows a.bytes.now at inside c.cut_length.ensures.some in
-    omega (arith, grown.0, (add-end c).ranges, l.invariant.1, l.invariant.2, c.files_closed-files.ensures.small)
+    omega (arith, grown.0, grown.1, c.well_formed, l.invariant.1, l.invariant.2, c.files_closed-files.ensures.small)
 
 pub overflow_add-records-in-loop-at : goal.overflow_add-records-in-loop-at
 overflow_add-records-in-loop-at c =
@@ -45,7 +45,7 @@ overflow_add-records-in-loop-at c =
     let at = l.at + paid.result.progress.at in
     let inside : at < length a.bytes.now = omega (arith, c.if-bytes-at.false, c.least_left.ensures, least_some a.more) in
     let grown = cut_grows a.bytes.now at inside c.cut_length.ensures.some in
-    omega (arith, grown.0, (add-end c).ranges, l.invariant.1, paid.ensures.few)
+    omega (arith, grown.0, grown.1, c.well_formed, l.invariant.1, paid.ensures.few)
 
 pub loop-at-smaller : goal.loop-at-smaller
 loop-at-smaller c =

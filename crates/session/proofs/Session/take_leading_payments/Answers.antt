@@ -16,11 +16,12 @@ use Rattle.session.proofs.Runs.{counts_none}
 use Rattle.session.specs.Runs.{run_under}
 use Rattle.session.specs.LeadingPayments.{LeadingPaymentsOf}
 use Rattle.session.proofs.Session.take_leading_payments.Goals as goal
+use Rattle.session.proofs.Session.take_leading_payments.Goals.{then-loop-at-test+else-not-is_of, else-loop-at-test}
 
 pub loop-payment-init : goal.loop-payment-init
 loop-payment-init c =
     let a = c.args in (
-      sym (length-map a.self.work.lanes _) ∙ c.well_formed.0.1.1.1.0.1.1.0.1.0.1,
+      search rules,
       refl,
       zeros_cache a.self.work cache_length,
       rw c.no_progress-progress.ensures (record { within = omega arith; few = omega arith; rest = counts_none (run_under a.agreed.now a.self a.more a.bytes.now) }),
@@ -64,9 +65,10 @@ loop-payment-preserved c =
     let p = c.in-Is.payment in
     let a = c.args in
     let found : l.at ≡ index_of p.issuer (lanes_of o.work) =
-    ⊎_elim (λ v. search_hits o.work o.invariant.0 p.issuer to l.at l.invariant v.0.taken (sym v.2.ensures ∙ not-false _ v.3.left))
-    (λ v. search_ends o.work o.invariant.0 p.issuer to l.at l.invariant v.left)
-    c.loop-at-test.branch in
+    elim c.loop-at-test.branch [
+      then-loop-at-test+else-not-is_of w ↦ search_hits o.work o.invariant.0 p.issuer to l.at l.invariant w.loop-at-test.true (sym w.is_of.ensures ∙ w.if-not-is_of.false)
+      | else-loop-at-test w ↦ search_ends o.work o.invariant.0 p.issuer to l.at l.invariant w.loop-at-test.false
+    ] in
     let posted = c.post_at-posted.ensures in
     let accepted = c.in-Accepted.is in
     let entry = c.cache_index-entry in (

@@ -26,7 +26,7 @@ decreases-loop-at l = l.range.to - l.at
 abbrev pub invariant-loop-payment : goal.invariant-loop-payment
 invariant-loop-payment l =
     (length l.work.lanes ≡ most_lanes) × (length l.cache ≡ cache_length) × Caches l.work l.cache
-    × LeadingPaymentsOf l.agreed l.self l.more l.bytes (record { l.work = l.work; l.progress = l.progress })
+    × LeadingPaymentsOf l.agreed l.self l.more l.bytes (record { work = l.work; progress = l.progress })
 
 abbrev pub decreases-loop-payment : goal.decreases-loop-payment
 decreases-loop-payment l = length l.bytes - l.progress.at
