@@ -9,6 +9,7 @@
 // allocates, keeps anything between calls or calls back. If a call is refused, the state that it returns is the given
 // one, and the caller's buffer is as it was.
 #![tactic(auto)]
+
 mod barcodes;
 mod forms;
 mod pages;

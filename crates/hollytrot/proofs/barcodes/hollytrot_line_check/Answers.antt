@@ -1,0 +1,7 @@
+use mathlib.Core.Path.{ap, ◌∙◌}
+use borrow.Author.Rules.{rules}
+use Rattle.hollytrot.specs.Forms.{c_answer_of}
+use Rattle.hollytrot.proofs.barcodes.hollytrot_line_check.Goals as goal
+
+pub returns : goal.returns
+returns c = c.c_answer.ensures ∙ ap c_answer_of c.check.ensures

@@ -1,0 +1,5 @@
+use borrow.Author.Rules.{rules}
+use Rattle.hollytrot.proofs.forms.c_answer.Goals as goal
+
+pub returns : goal.returns
+returns c = rw (c.number.ensures, c.place.ensures)

@@ -1,0 +1,5 @@
+use borrow.Author.Rules.{rules}
+use Rattle.hollytrot.proofs.forms.no_c_fields.Goals as goal
+
+pub returns : goal.returns
+returns c = rw c.no_date.ensures
