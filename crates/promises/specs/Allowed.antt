@@ -28,13 +28,13 @@ abbrev pub Result : (T : Ended) → Lent T → Type 0
 Result T κs = Res T.signature κs
 
 module _ (T : Ended) (contract : Contract T) where
-  abbrev pub clausesAt : (w : World) → Clauses w.𝓤 T
-  clausesAt w = contract w.M w.𝓤 w.𝓛 w.𝓜.mem w.𝓡.run
+  abbrev pub clauses_at : (w : World) → Clauses w.𝓤 T
+  clauses_at w = contract w.M w.𝓤 w.𝓛 w.𝓜.mem w.𝓡.run
 
   abbrev pub Ghost : (w : World) (κs : Lent T) → Given T κs → Type 0
-  Ghost w κs given = (clausesAt w κs given).ghost
+  Ghost w κs given = (clauses_at w κs given).ghost
 
   -- what the clauses say of the result, and of the bytes left in each buffer of the caller
   abbrev pub allowed :
       (w : World) (κs : Lent T) (given : Given T κs) → Ghost w κs given → Result T κs → Lasts T κs given → Pr w
-  allowed w κs given g r left = (clausesAt w κs given).ensures g r (at_exit T κs given left)
+  allowed w κs given g r left = (clauses_at w κs given).ensures g r (at_exit T κs given left)

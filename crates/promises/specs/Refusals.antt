@@ -3,20 +3,20 @@
 use Rattle.std.specs.Prelude.{ℕ, List, ◌≡◌}
 use base.Logic.{ent}
 use contract.Monad.{fact}
-use Rattle.std.specs.Borrow.{Bor}
+use Rattle.std.specs.Borrow.{MutBor}
 use denote.Triple.Clauses.{Ended, Lasts}
 use borrow.Fn.World.{World}
 use Rattle.answer.specs.declared.Answer.TheVariants.{Accepted}
-use Rattle.decimal.proofs as decimal
-use Rattle.barcode.proofs as barcode
-use Rattle.line.proofs as line
-use Rattle.fields.proofs as fields
-use Rattle.file.proofs as file
-use Rattle.board.proofs as board
-use Rattle.session.proofs as session
-use Rattle.writer.proofs as writer
-use Rattle.page.proofs as page
-use Rattle.hollytrot.proofs as hollytrot
+use Rattle.decimal.specs.contracts as decimal
+use Rattle.barcode.specs.contracts as barcode
+use Rattle.line.specs.contracts as line
+use Rattle.fields.specs.contracts as fields
+use Rattle.file.specs.contracts as file
+use Rattle.board.specs.contracts as board
+use Rattle.session.specs.contracts as session
+use Rattle.writer.specs.contracts as writer
+use Rattle.page.specs.contracts as page
+use Rattle.hollytrot.specs.contracts as hollytrot
 use Rattle.promises.specs.Allowed.{Contract, Lent, Given, Result, Ghost, allowed}
 
 -- A parameter by its place among the arguments; the same of the bytes that are left.
@@ -59,7 +59,7 @@ module _ (T : Ended) (contract : Contract T) where
 
   -- a buffer of the caller
   abbrev pub KeepsBuffer :
-      Acceptance → ((κs : Lent T) → Given T κs → Bor (List ℕ))
+      Acceptance → ((κs : Lent T) → Given T κs → MutBor (List ℕ))
       → ((κs : Lent T) (given : Given T κs) → Lasts T κs given → List ℕ) → Type 2
   KeepsBuffer accepted buffer left =
       Keeps accepted (λ κs given. (buffer κs given).now) (λ κs given r ws. left κs given ws)
@@ -73,7 +73,7 @@ module _ (T : Ended) (contract : Contract T) where
   -- both
   abbrev pub KeepsBoth :
       {S : Type 0} → Acceptance → ((κs : Lent T) → Given T κs → S)
-      → ((κs : Lent T) → Result T κs → S) → ((κs : Lent T) → Given T κs → Bor (List ℕ))
+      → ((κs : Lent T) → Result T κs → S) → ((κs : Lent T) → Given T κs → MutBor (List ℕ))
       → ((κs : Lent T) (given : Given T κs) → Lasts T κs given → List ℕ) → Type 2
   KeepsBoth {S} accepted state returned buffer left =
       Keeps {S = S × List ℕ} accepted (λ κs given. (state κs given, (buffer κs given).now))
@@ -84,80 +84,80 @@ module _ (T : Ended) (contract : Contract T) where
 -- records before the refused one are kept (`RunIsItsTakes`).
 pub record RefusalsChangeNothing : Type 2 where
   pub decimal·put_number :
-      KeepsBuffer decimal.put_number.ended (λ M. decimal.put_number.clauses) (λ κs r. r ≡ Accepted)
+      KeepsBuffer decimal.put_number.ended (λ M 𝓤. decimal.put_number.clauses) (λ κs r. r ≡ Accepted)
       (λ κs. third) (λ κs given. third)
   pub barcode·builder·build :
-      KeepsBuffer barcode.builder.build.ended (λ M. barcode.builder.build.clauses) (λ κs r. r ≡ Accepted)
+      KeepsBuffer barcode.builder.build.ended (λ M 𝓤. barcode.builder.build.clauses) (λ κs r. r ≡ Accepted)
       (λ κs. sixth) (λ κs given. sixth)
   pub line·to_barcode :
-      KeepsBuffer line.to_barcode.ended (λ M. line.to_barcode.clauses) (λ κs r. r ≡ Accepted)
+      KeepsBuffer line.to_barcode.ended (λ M 𝓤. line.to_barcode.clauses) (λ κs r. r ≡ Accepted)
       (λ κs. third) (λ κs given. third)
   pub line·from_barcode :
-      KeepsBuffer line.from_barcode.ended (λ M. line.from_barcode.clauses) (λ κs r. r ≡ Accepted)
+      KeepsBuffer line.from_barcode.ended (λ M 𝓤. line.from_barcode.clauses) (λ κs r. r ≡ Accepted)
       (λ κs. third) (λ κs given. third)
   pub fields·join :
-      KeepsBuffer fields.join.ended (λ M. fields.join.clauses) (λ κs r. r ≡ Accepted)
+      KeepsBuffer fields.join.ended (λ M 𝓤. fields.join.clauses) (λ κs r. r ≡ Accepted)
       (λ κs. fourth) (λ κs given. fourth)
   pub fields·make :
-      KeepsBuffer fields.make.ended (λ M. fields.make.clauses) (λ κs r. r ≡ Accepted)
+      KeepsBuffer fields.make.ended (λ M 𝓤. fields.make.clauses) (λ κs r. r ≡ Accepted)
       (λ κs. seventh) (λ κs given. seventh)
   pub fields·judged·make :
-      KeepsBuffer fields.judged.make.ended (λ M. fields.judged.make.clauses) (λ κs r. r ≡ Accepted)
+      KeepsBuffer fields.judged.make.ended (λ M 𝓤. fields.judged.make.clauses) (λ κs r. r ≡ Accepted)
       (λ κs. seventh) (λ κs given. seventh)
   pub file·File·take :
-      KeepsState file.File.take.ended (λ M. file.File.take.clauses) (λ κs r. r.answer ≡ Accepted)
+      KeepsState file.File.take.ended (λ M 𝓤. file.File.take.clauses) (λ κs r. r.answer ≡ Accepted)
       (λ κs. first) (λ κs r. r.file)
   pub board·Slot·post :
-      KeepsState board.Slot.post.ended (λ M. board.Slot.post.clauses) (λ κs r. r.answer ≡ Accepted)
+      KeepsState board.Slot.post.ended (λ M 𝓤. board.Slot.post.clauses) (λ κs r. r.answer ≡ Accepted)
       (λ κs. first) (λ κs r. r.slot)
   pub board·Board·post :
-      KeepsState board.Board.post.ended (λ M. board.Board.post.clauses) (λ κs r. r.answer ≡ Accepted)
+      KeepsState board.Board.post.ended (λ M 𝓤. board.Board.post.clauses) (λ κs r. r.answer ≡ Accepted)
       (λ κs. first) (λ κs r. r.board)
   pub session·Session·take :
-      KeepsState session.Session.take.ended (λ M. session.Session.take.clauses) (λ κs r. r.answer ≡ Accepted)
+      KeepsState session.Session.take.ended (λ M 𝓤. session.Session.take.clauses) (λ κs r. r.answer ≡ Accepted)
       (λ κs. first) (λ κs r. r.session)
   pub session·Session·finish :
-      KeepsState session.Session.finish.ended (λ M. session.Session.finish.clauses) (λ κs r. r.answer ≡ Accepted)
+      KeepsState session.Session.finish.ended (λ M 𝓤. session.Session.finish.clauses) (λ κs r. r.answer ≡ Accepted)
       (λ κs. first) (λ κs r. r.session)
   pub writer·Writer·header :
-      KeepsBoth writer.Writer.header.ended (λ M. writer.Writer.header.clauses) (λ κs r. r.answer ≡ Accepted)
+      KeepsBoth writer.Writer.header.ended (λ M 𝓤. writer.Writer.header.clauses) (λ κs r. r.answer ≡ Accepted)
       (λ κs. first) (λ κs r. r.writer) (λ κs. third) (λ κs given. third)
   pub writer·Writer·payment :
-      KeepsBoth writer.Writer.payment.ended (λ M. writer.Writer.payment.clauses) (λ κs r. r.answer ≡ Accepted)
+      KeepsBoth writer.Writer.payment.ended (λ M 𝓤. writer.Writer.payment.clauses) (λ κs r. r.answer ≡ Accepted)
       (λ κs. first) (λ κs r. r.writer) (λ κs. sixth) (λ κs given. sixth)
   pub writer·Writer·trailer :
-      KeepsBoth writer.Writer.trailer.ended (λ M. writer.Writer.trailer.clauses) (λ κs r. r.answer ≡ Accepted)
+      KeepsBoth writer.Writer.trailer.ended (λ M 𝓤. writer.Writer.trailer.clauses) (λ κs r. r.answer ≡ Accepted)
       (λ κs. first) (λ κs r. r.writer) (λ κs. second) (λ κs given. second)
   pub page·print :
-      KeepsBuffer page.print.ended (λ M. page.print.clauses) (λ κs r. r.answer ≡ Accepted)
+      KeepsBuffer page.print.ended (λ M 𝓤. page.print.clauses) (λ κs r. r.answer ≡ Accepted)
       (λ κs. sixth) (λ κs given. sixth)
   pub hollytrot·hollytrot_barcode_build :
-      KeepsBuffer hollytrot.hollytrot_barcode_build.ended (λ M. hollytrot.hollytrot_barcode_build.clauses)
+      KeepsBuffer hollytrot.hollytrot_barcode_build.ended (λ M 𝓤. hollytrot.hollytrot_barcode_build.clauses)
       (λ κs r. r.number ≡ 0) (λ κs. sixth) (λ κs given. sixth)
   pub hollytrot·hollytrot_line_to_barcode :
-      KeepsBuffer hollytrot.hollytrot_line_to_barcode.ended (λ M. hollytrot.hollytrot_line_to_barcode.clauses)
+      KeepsBuffer hollytrot.hollytrot_line_to_barcode.ended (λ M 𝓤. hollytrot.hollytrot_line_to_barcode.clauses)
       (λ κs r. r.number ≡ 0) (λ κs. third) (λ κs given. third)
   pub hollytrot·hollytrot_line_from_barcode :
-      KeepsBuffer hollytrot.hollytrot_line_from_barcode.ended (λ M. hollytrot.hollytrot_line_from_barcode.clauses)
+      KeepsBuffer hollytrot.hollytrot_line_from_barcode.ended (λ M 𝓤. hollytrot.hollytrot_line_from_barcode.clauses)
       (λ κs r. r.number ≡ 0) (λ κs. third) (λ κs given. third)
   pub hollytrot·hollytrot_record_join :
-      KeepsBuffer hollytrot.hollytrot_record_join.ended (λ M. hollytrot.hollytrot_record_join.clauses)
+      KeepsBuffer hollytrot.hollytrot_record_join.ended (λ M 𝓤. hollytrot.hollytrot_record_join.clauses)
       (λ κs r. r.number ≡ 0) (λ κs. fourth) (λ κs given. fourth)
   pub hollytrot·hollytrot_session_take :
-      KeepsState hollytrot.hollytrot_session_take.ended (λ M. hollytrot.hollytrot_session_take.clauses)
+      KeepsState hollytrot.hollytrot_session_take.ended (λ M 𝓤. hollytrot.hollytrot_session_take.clauses)
       (λ κs r. r.answer.number ≡ 0) (λ κs. first) (λ κs r. r.session)
   pub hollytrot·hollytrot_session_finish :
-      KeepsState hollytrot.hollytrot_session_finish.ended (λ M. hollytrot.hollytrot_session_finish.clauses)
+      KeepsState hollytrot.hollytrot_session_finish.ended (λ M 𝓤. hollytrot.hollytrot_session_finish.clauses)
       (λ κs r. r.answer.number ≡ 0) (λ κs. first) (λ κs r. r.session)
   pub hollytrot·hollytrot_writer_header :
-      KeepsBoth hollytrot.hollytrot_writer_header.ended (λ M. hollytrot.hollytrot_writer_header.clauses)
+      KeepsBoth hollytrot.hollytrot_writer_header.ended (λ M 𝓤. hollytrot.hollytrot_writer_header.clauses)
       (λ κs r. r.answer.number ≡ 0) (λ κs. first) (λ κs r. r.writer) (λ κs. third) (λ κs given. third)
   pub hollytrot·hollytrot_writer_payment :
-      KeepsBoth hollytrot.hollytrot_writer_payment.ended (λ M. hollytrot.hollytrot_writer_payment.clauses)
+      KeepsBoth hollytrot.hollytrot_writer_payment.ended (λ M 𝓤. hollytrot.hollytrot_writer_payment.clauses)
       (λ κs r. r.answer.number ≡ 0) (λ κs. first) (λ κs r. r.writer) (λ κs. sixth) (λ κs given. sixth)
   pub hollytrot·hollytrot_writer_trailer :
-      KeepsBoth hollytrot.hollytrot_writer_trailer.ended (λ M. hollytrot.hollytrot_writer_trailer.clauses)
+      KeepsBoth hollytrot.hollytrot_writer_trailer.ended (λ M 𝓤. hollytrot.hollytrot_writer_trailer.clauses)
       (λ κs r. r.answer.number ≡ 0) (λ κs. first) (λ κs r. r.writer) (λ κs. second) (λ κs given. second)
   pub hollytrot·hollytrot_page :
-      KeepsBuffer hollytrot.hollytrot_page.ended (λ M. hollytrot.hollytrot_page.clauses)
+      KeepsBuffer hollytrot.hollytrot_page.ended (λ M 𝓤. hollytrot.hollytrot_page.clauses)
       (λ κs r. r.answer.number ≡ 0) (λ κs. fifth) (λ κs given. fifth)
