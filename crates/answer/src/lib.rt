@@ -1,5 +1,6 @@
 // What a call answers: accepted, or one refusal with its place.
 #![tactic(auto)]
+
 ghost use Rattle.std.specs.Prelude.{◌≡◌};
 ghost use Rattle.answer.specs.Refusals.{reason_number, answer_number, answer_place};
 ghost use Rattle.answer.specs.Orders.{◌then◌, moved_by, capped_behind};

@@ -16,7 +16,7 @@ use Rattle.answer.specs.Orders.{behind, if_accepted}
 use Rattle.answer.proofs.Orders.{moved_accepts}
 use Rattle.answer.proofs.Steps.{passed}
 use Rattle.decimal.specs.declared.Class.TheVariants.{Digit}
-use Rattle.decimal.specs.Bytes.{is_of, all, each_is}
+use Rattle.decimal.specs.Bytes.{is_of, each_is}
 use Rattle.decimal.specs.Numbers.{digits_of, put_number_answer}
 use Rattle.decimal.specs.Places.{width_of, put_at, gather}
 use Rattle.modulus.specs.Checks.{check_of}

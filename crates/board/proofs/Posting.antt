@@ -19,7 +19,7 @@ use Rattle.answer.proofs.Orders.{require_accepts, then_accepts, refusal_keeps}
 use Rattle.board.specs.declared.Tally.{Tally}
 use Rattle.board.specs.declared.Lane.{Lane}
 use Rattle.board.specs.declared.Board.{Board}
-use Rattle.board.proofs.Tallies.{low, low_fits, alike, plus_swap}
+use Rattle.board.proofs.Tallies.{low_fits, alike, plus_swap}
 use Rattle.board.proofs.Slots.{sums_accept}
 use Rattle.board.proofs.Searches.{index_within}
 use Rattle.board.proofs.Lanes.{placed_distinct, placed_kept}

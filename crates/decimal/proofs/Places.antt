@@ -10,7 +10,7 @@ use borrow.Author.Tests.{le-leb, lt-leb, leb-true, leb-false, not-true, not-fals
 use borrow.Rule.Slice.PartMut.{put_mid}
 use lib.Dec.{leb}
 use lib.ListN.{length, get_or, set, take, drop, length-append, length-drop, drop_of_length-le, get_or-append}
-use lib.Seq.{length-take-le, take-set-lt, take-set-le, drop-set-lt, drop-set-add, set-append_left, get_or-take, get_or-drop, get_or-append-add, take-append_seam, drop-append-add, drop-drop, take_all, take-take, take-length}
+use lib.Seq.{length-take-le, take-set-lt, take-set-le, drop-set-lt, drop-set-add, set-append_left, get_or-take, get_or-drop, get_or-append-add, take-append_seam, drop-append-add, drop-drop, take_all, take-take}
 use Rattle.answer.proofs.Tests.{lt_or_le}
 use Rattle.decimal.specs.Bytes.{all}
 use Rattle.decimal.specs.OneByte.{Beside, GatherOutside, GatherWithin}

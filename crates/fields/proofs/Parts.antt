@@ -1,6 +1,6 @@
 -- Laws of what is given of a field, and of its kinds. Assumes nothing.
 use Prim.Native.Nat.{ℕ, ◌+◌, ◌-◌, ◌≤◌}
-use mathlib.Core.Bool.{Bool, true, false}
+use mathlib.Core.Bool.{Bool, true}
 use mathlib.Core.List.{List, [], ◌∷◌}
 use mathlib.Core.Logic.{◌⊎◌, inl, inr}
 use mathlib.Core.Path.{◌≡◌, refl, sym, ap, ◌∙◌}
@@ -22,7 +22,7 @@ use Rattle.layout.specs.declared.Record.TheVariants.{Header, Payment, Trailer}
 use Rattle.layout.specs.Layouts.{record_length, layout_of, stretch_of, given_of, given_at, InRecord}
 use Rattle.layout.proofs.Tables.{every}
 use Rattle.layout.specs.contracts.Kind.{the_type}
-use Rattle.fields.specs.Making.{written_of, is_money, given_width}
+use Rattle.fields.specs.Making.{written_of, given_width}
 
 pub given_order : (k : Kind) (w : ℕ) → (given_of k w).from ≤ (given_of k w).to
 given_order (kind.Mark byte) w = omega arith

@@ -1,18 +1,18 @@
 -- Laws of one field that is written: its bytes, its answer, and bytes copied into as many. Assumes nothing.
-use Prim.Native.Nat.{ℕ, suc, ◌+◌, ◌-◌, ◌^◌, ◌≤◌, ◌<◌}
+use Prim.Native.Nat.{ℕ, suc, ◌+◌, ◌^◌, ◌≤◌, ◌<◌}
 use mathlib.Core.Bool.{Bool, true, false, cond}
 use mathlib.Core.List.{List, [], ◌∷◌, ◌++◌}
 use mathlib.Core.Path.{◌≡◌, refl, sym, ap, ◌∙◌}
 use native.Mathlib.Numerals.{add-one}
 use native.Mathlib.Omega.{arith}
 use lib.Dec.{ltb}
-use lib.ListN.{length, set, take, drop, replicate, replicate-append-replicate}
+use lib.ListN.{length, set, take, replicate, replicate-append-replicate}
 use lib.Seq.{take_all, take-suc-set}
 use Rattle.answer.specs.declared.Reason.TheVariants.{NoDigit, TooWide}
 use Rattle.answer.specs.declared.Answer.{Answer}
 use Rattle.answer.specs.declared.Answer.TheVariants.{Accepted}
 use Rattle.answer.specs.Refusals.{answer_place}
-use Rattle.answer.specs.Orders.{◌then◌, if_accepted}
+use Rattle.answer.specs.Orders.{if_accepted}
 use Rattle.answer.proofs.Orders.{accepted_takes, require_place, then_place, then_accepted}
 use Rattle.decimal.specs.declared.Class.TheVariants.{Digit}
 use Rattle.decimal.specs.Bytes.{is_of}

@@ -1,5 +1,5 @@
 -- The fast path is exact: it recognizes an accepted G, and nothing else. Assumes nothing.
-use Prim.Native.Nat.{ℕ, ◌+◌, ◌-◌, ◌≤◌}
+use Prim.Native.Nat.{ℕ, ◌+◌, ◌≤◌}
 use mathlib.Core.Bool.{true, false, ◌&&◌, and-eq-true_iff}
 use mathlib.Core.List.{List}
 use mathlib.Core.Logic.{◌↔◌}
@@ -12,7 +12,6 @@ use Rattle.answer.proofs.Tests.{unequal}
 use Rattle.answer.specs.declared.Reason.{Reason}
 use Rattle.answer.specs.declared.Answer.{Answer}
 use Rattle.answer.specs.declared.Answer.TheVariants.{Accepted, Refused}
-use Rattle.answer.specs.Orders.{behind}
 use Rattle.decimal.specs.declared.Class.TheVariants.{Digit, Blank, Text}
 use Rattle.decimal.specs.Bytes.{is_of, all}
 use Rattle.decimal.specs.LowHalves.{low_number_of}

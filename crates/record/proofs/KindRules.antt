@@ -10,7 +10,7 @@ use lib.Dec.{eqb}
 use lib.ListN.{length, get_or, take, drop}
 use Rattle.answer.specs.declared.Reason.TheVariants.{NoDigit, NoText, FixedDiffers, NoDate, UnknownCode}
 use Rattle.answer.specs.declared.Answer.TheVariants.{Accepted}
-use Rattle.answer.specs.Orders.{require, ◌then◌}
+use Rattle.answer.specs.Orders.{require}
 use Rattle.answer.proofs.Orders.{require_accepts, then_accepts}
 use Rattle.decimal.specs.declared.Class.TheVariants.{Digit, Blank, Text}
 use Rattle.decimal.specs.Bytes.{is_of, all, each_is}

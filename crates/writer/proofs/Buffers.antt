@@ -7,8 +7,8 @@ use mathlib.Core.Path.{◌≡◌, refl, sym, ap, ◌∙◌}
 use native.Mathlib.Omega.{arith}
 use borrow.Author.Tests.{eqb-true, eq-eqb, ne_eqb}
 use lib.Dec.{eqb}
-use lib.ListN.{length, set, take, drop, length-append, length-drop, drop_of_length-le}
-use lib.Seq.{take_at, take-length, sets-eq}
+use lib.ListN.{length, set, drop, length-append, length-drop, drop_of_length-le}
+use lib.Seq.{take_at, sets-eq}
 use Rattle.answer.proofs.Tests.{or_cases}
 use Rattle.layout.specs.Layouts.{record_length}
 use Rattle.file.specs.Forms.{line_end, in_form, lined_length, length_of}

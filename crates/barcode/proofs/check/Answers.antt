@@ -1,4 +1,3 @@
-use borrow.Author.Rules.{rules}
 use Rattle.answer.proofs.Steps.{handed, onward}
 use Rattle.barcode.proofs.check.Goals as goal
 

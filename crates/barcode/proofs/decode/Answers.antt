@@ -1,5 +1,4 @@
 use mathlib.Core.Path.{sym, ◌∙◌}
-use borrow.Author.Rules.{rules}
 use Rattle.barcode.specs.Agreed.{barcode_check}
 use Rattle.barcode.specs.Shown.{fields_of}
 use Rattle.barcode.proofs.Shown.{as_refused}

@@ -1,5 +1,4 @@
 use mathlib.Core.Path.{sym, ◌∙◌}
-use borrow.Author.Rules.{rules}
 use Rattle.barcode.proofs.Codes.{good}
 use Rattle.barcode.proofs.RoundTrips.{check_tells}
 use Rattle.barcode.proofs.free_field.Goals as goal

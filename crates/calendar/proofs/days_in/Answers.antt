@@ -1,5 +1,4 @@
 use mathlib.Core.Path.{sym, ◌∙◌}
-use borrow.Author.Rules.{rules}
 use Rattle.calendar.proofs.Months.{month_days, no_month}
 use Rattle.calendar.specs.Dates.{days_in}
 use Rattle.calendar.proofs.days_in.Goals as goal

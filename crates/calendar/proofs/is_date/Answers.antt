@@ -1,4 +1,3 @@
-use borrow.Author.Rules.{rules}
 use borrow.Author.Tests.{le-leb, lt-leb}
 use Rattle.calendar.proofs.Dates.{by_days}
 use Rattle.calendar.specs.Dates.{is_date}

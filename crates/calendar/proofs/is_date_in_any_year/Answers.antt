@@ -1,4 +1,3 @@
-use borrow.Author.Rules.{rules}
 use borrow.Author.Tests.{leb-true}
 use Rattle.decimal.proofs.Finite.{never}
 use Rattle.calendar.proofs.AnyYear.{early_day, late_day}

@@ -1,6 +1,5 @@
 use Prim.Native.Nat.{◌+◌}
 use native.Mathlib.Omega.{arith}
-use borrow.Author.Rules.{rules}
 use Rattle.calendar.proofs.Dates.{digit_at_holds, two}
 use Rattle.calendar.proofs.pair.Goals as goal
 

@@ -1,7 +1,5 @@
 use mathlib.Core.Path.{◌≡◌, sym, ◌∙◌}
 use native.Mathlib.Omega.{arith}
-use borrow.Author.Rules.{rules}
-use borrow.Author.Tests.{not-true, not-false}
 use lib.ListN.{length}
 use Rattle.calendar.proofs.Dates.{no_eight, no_digits, as_spelled, judged}
 use Rattle.calendar.proofs.read_date.Goals as goal

@@ -1,11 +1,7 @@
-use Prim.Native.Nat.{◌≤◌, ◌-◌}
-use mathlib.Core.Bool.{◌&&◌}
-use mathlib.Core.Path.{◌≡◌, refl}
+use mathlib.Core.Path.{refl}
 use borrow.Author.Rules.{rules}
-use lib.Dec.{eqb}
-use lib.ListN.{length, drop}
 use Rattle.decimal.proofs.Bytes.{flag_step, flag_end}
-use Rattle.decimal.specs.Bytes.{is_of, all}
+use Rattle.decimal.specs.Bytes.{is_of}
 use Rattle.decimal.proofs.all_of.Goals as goal
 
 pub loop-i-init : goal.loop-i-init

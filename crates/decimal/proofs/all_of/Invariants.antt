@@ -1,10 +1,8 @@
 use Prim.Native.Nat.{◌≤◌, ◌-◌}
 use mathlib.Core.Bool.{◌&&◌}
-use mathlib.Core.Path.{◌≡◌, refl}
-use borrow.Author.Rules.{rules}
+use mathlib.Core.Path.{◌≡◌}
 use lib.Dec.{eqb}
 use lib.ListN.{length, drop}
-use Rattle.decimal.proofs.Bytes.{flag_step, flag_end}
 use Rattle.decimal.specs.Bytes.{is_of, all}
 use Rattle.decimal.proofs.all_of.Given as goal
 

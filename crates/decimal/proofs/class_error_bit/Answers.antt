@@ -1,5 +1,4 @@
 use mathlib.Core.Path.{sym, ◌∙◌}
-use borrow.Author.Rules.{rules}
 use Rattle.decimal.proofs.class_error_bit.Goals as goal
 
 pub returns-then-is_of : goal.returns-then-is_of

@@ -1,7 +1,4 @@
-use Prim.Native.Nat.{◌^◌}
-use mathlib.Core.Path.{◌≡◌, refl}
-use borrow.Author.Rules.{rules}
-use lib.Dec.{ltb}
+use mathlib.Core.Path.{refl}
 use Rattle.decimal.proofs.Numbers.{width_zero, width_step, width_end}
 use Rattle.decimal.proofs.fits_width.Goals as goal
 

@@ -1,8 +1,6 @@
 use Prim.Native.Nat.{◌^◌}
-use mathlib.Core.Path.{◌≡◌, refl}
-use borrow.Author.Rules.{rules}
+use mathlib.Core.Path.{◌≡◌}
 use lib.Dec.{ltb}
-use Rattle.decimal.proofs.Numbers.{width_zero, width_step, width_end}
 use Rattle.decimal.proofs.fits_width.Given as goal
 
 abbrev pub invariant-loop-left : goal.invariant-loop-left

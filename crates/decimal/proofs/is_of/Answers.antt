@@ -1,5 +1,4 @@
 use mathlib.Core.Path.{sym, ◌∙◌}
-use borrow.Author.Rules.{rules}
 use Rattle.decimal.specs.Bytes.{is_of}
 use Rattle.decimal.proofs.is_of.Goals as goal
 

@@ -1,9 +1,6 @@
-use Prim.Native.Nat.{◌≤◌, ◌-◌}
-use mathlib.Core.Path.{◌≡◌, refl}
+use mathlib.Core.Path.{refl}
 use borrow.Author.Rules.{rules}
-use lib.ListN.{length, drop}
 use Rattle.decimal.proofs.Numbers.{read_step, read_end}
-use Rattle.decimal.specs.Numbers.{number_from, number_of, largest_number, capped}
 use Rattle.decimal.proofs.long_number.Goals as goal
 
 pub loop-i-init : goal.loop-i-init

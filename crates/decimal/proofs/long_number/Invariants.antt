@@ -1,8 +1,6 @@
 use Prim.Native.Nat.{◌≤◌, ◌-◌}
-use mathlib.Core.Path.{◌≡◌, refl}
-use borrow.Author.Rules.{rules}
+use mathlib.Core.Path.{◌≡◌}
 use lib.ListN.{length, drop}
-use Rattle.decimal.proofs.Numbers.{read_step, read_end}
 use Rattle.decimal.specs.Numbers.{number_from, number_of, largest_number, capped}
 use Rattle.decimal.proofs.long_number.Given as goal
 

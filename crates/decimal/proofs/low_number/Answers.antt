@@ -1,9 +1,6 @@
-use Prim.Native.Nat.{◌-◌, ◌≤◌}
-use mathlib.Core.Path.{◌≡◌, refl}
+use mathlib.Core.Path.{refl}
 use native.Mathlib.Omega.{arith}
 use borrow.Author.Rules.{rules}
-use lib.ListN.{length, drop}
-use Rattle.decimal.specs.LowHalves.{low_from}
 use Rattle.decimal.proofs.Numbers.{low_step, low_fit, low_end, low_long}
 use Rattle.decimal.proofs.low_number.Goals as goal
 

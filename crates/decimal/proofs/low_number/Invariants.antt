@@ -1,10 +1,7 @@
 use Prim.Native.Nat.{◌-◌, ◌≤◌}
-use mathlib.Core.Path.{◌≡◌, refl}
-use native.Mathlib.Omega.{arith}
-use borrow.Author.Rules.{rules}
+use mathlib.Core.Path.{◌≡◌}
 use lib.ListN.{length, drop}
 use Rattle.decimal.specs.LowHalves.{low_from}
-use Rattle.decimal.proofs.Numbers.{low_step, low_fit, low_end, low_long}
 use Rattle.decimal.proofs.low_number.Given as goal
 
 abbrev pub invariant-loop-i : goal.invariant-loop-i

@@ -1,5 +1,4 @@
 use mathlib.Core.Path.{sym, ◌∙◌}
-use borrow.Author.Rules.{rules}
 use Rattle.decimal.proofs.Numbers.{nineteen_fit, low_of_digits}
 use Rattle.decimal.proofs.number.Goals as goal
 

@@ -1,11 +1,8 @@
-use Prim.Native.Nat.{◌≤◌}
-use mathlib.Core.List.{◌++◌}
-use mathlib.Core.Path.{◌≡◌, refl, ◌∙◌}
+use mathlib.Core.Path.{refl, ◌∙◌}
 use native.Mathlib.Omega.{arith}
 use borrow.Author.Rules.{rules}
-use lib.ListN.{length, drop, length-set}
+use lib.ListN.{length-set}
 use Rattle.decimal.proofs.Numbers.{write_start, write_step, write_end}
-use Rattle.decimal.specs.Numbers.{digits_of}
 use Rattle.decimal.proofs.put_digits.Goals as goal
 
 pub loop-i-init : goal.loop-i-init

@@ -1,10 +1,7 @@
 use Prim.Native.Nat.{◌≤◌}
 use mathlib.Core.List.{◌++◌}
-use mathlib.Core.Path.{◌≡◌, refl, ◌∙◌}
-use native.Mathlib.Omega.{arith}
-use borrow.Author.Rules.{rules}
-use lib.ListN.{length, drop, length-set}
-use Rattle.decimal.proofs.Numbers.{write_start, write_step, write_end}
+use mathlib.Core.Path.{◌≡◌}
+use lib.ListN.{length, drop}
 use Rattle.decimal.specs.Numbers.{digits_of}
 use Rattle.decimal.proofs.put_digits.Given as goal
 

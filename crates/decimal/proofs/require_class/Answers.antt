@@ -1,5 +1,4 @@
 use mathlib.Core.Path.{sym, ◌∙◌}
-use borrow.Author.Rules.{rules}
 use Rattle.decimal.proofs.Bytes.{each_accepts}
 use Rattle.decimal.specs.Bytes.{is_of}
 use Rattle.decimal.proofs.require_class.Goals as goal

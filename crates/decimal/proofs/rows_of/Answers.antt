@@ -1,4 +1,3 @@
-use borrow.Author.Rules.{rules}
 use Rattle.decimal.proofs.rows_of.Goals as goal
 
 pub returns-in-Digit : goal.returns-in-Digit

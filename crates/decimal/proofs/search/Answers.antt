@@ -1,10 +1,7 @@
-use Prim.Native.Nat.{◌≤◌, ◌-◌, ◌+◌}
-use mathlib.Core.Path.{◌≡◌, refl, sym, ◌∙◌}
+use mathlib.Core.Path.{refl, sym, ◌∙◌}
 use borrow.Author.Rules.{rules}
-use borrow.Author.Tests.{not-true, not-false}
-use lib.ListN.{length, drop}
 use Rattle.decimal.proofs.Bytes.{later, here, none}
-use Rattle.decimal.specs.Bytes.{is_of, each_is}
+use Rattle.decimal.specs.Bytes.{is_of}
 use Rattle.decimal.proofs.search.Goals as goal
 
 pub loop-i-init : goal.loop-i-init

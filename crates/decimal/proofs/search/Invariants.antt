@@ -1,9 +1,6 @@
 use Prim.Native.Nat.{◌≤◌, ◌-◌, ◌+◌}
-use mathlib.Core.Path.{◌≡◌, refl, sym, ◌∙◌}
-use borrow.Author.Rules.{rules}
-use borrow.Author.Tests.{not-true, not-false}
+use mathlib.Core.Path.{◌≡◌}
 use lib.ListN.{length, drop}
-use Rattle.decimal.proofs.Bytes.{later, here, none}
 use Rattle.decimal.specs.Bytes.{is_of, each_is}
 use Rattle.decimal.proofs.search.Given as goal
 

@@ -1,6 +1,5 @@
 use mathlib.Core.Path.{sym, ◌∙◌}
 use native.Mathlib.Omega.{arith}
-use borrow.Author.Rules.{rules}
 use Rattle.decimal.proofs.Numbers.{digit_range, value_digit, value_other}
 use Rattle.decimal.proofs.value.Goals as goal
 

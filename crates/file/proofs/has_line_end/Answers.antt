@@ -1,4 +1,3 @@
-use borrow.Author.Rules.{rules}
 use borrow.Author.Tests.{eq-eqb, ne_eqb}
 use Rattle.file.specs.Forms.{has_line_end}
 use Rattle.file.proofs.Forms.{by_last}

@@ -1,4 +1,3 @@
-use borrow.Author.Rules.{rules}
 use Rattle.kinds.specs.Kinds.{kind_answer}
 use Rattle.kinds.proofs.check.Goals as goal
 

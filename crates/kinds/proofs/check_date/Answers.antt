@@ -1,5 +1,4 @@
 use mathlib.Core.Path.{sym, ◌∙◌}
-use borrow.Author.Rules.{rules}
 use Rattle.kinds.proofs.KindLaws.{date_accepted, no_date}
 use Rattle.kinds.proofs.check_date.Goals as goal
 

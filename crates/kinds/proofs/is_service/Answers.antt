@@ -1,6 +1,4 @@
 use mathlib.Core.Path.{ap, ◌∙◌}
-use borrow.Author.Rules.{rules}
-use borrow.Author.Tests.{not-true, not-false}
 use Rattle.kinds.specs.Kinds.{same}
 use Rattle.kinds.proofs.KindLaws.{no_service, service_same}
 use Rattle.kinds.proofs.is_service.Goals as goal

@@ -1,9 +1,6 @@
-use Prim.Native.Nat.{◌≤◌, ◌-◌}
-use mathlib.Core.Path.{◌≡◌, refl}
+use mathlib.Core.Path.{refl}
 use borrow.Author.Rules.{rules}
-use lib.ListN.{length, drop}
 use Rattle.kinds.proofs.KindLaws.{same_later, same_here, same_end, same_not}
-use Rattle.kinds.specs.Kinds.{same}
 use Rattle.kinds.proofs.same_bytes.Goals as goal
 
 pub returns-then-a-b : goal.returns-then-a-b

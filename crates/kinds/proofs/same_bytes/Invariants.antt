@@ -1,8 +1,6 @@
 use Prim.Native.Nat.{◌≤◌, ◌-◌}
-use mathlib.Core.Path.{◌≡◌, refl}
-use borrow.Author.Rules.{rules}
+use mathlib.Core.Path.{◌≡◌}
 use lib.ListN.{length, drop}
-use Rattle.kinds.proofs.KindLaws.{same_later, same_here, same_end, same_not}
 use Rattle.kinds.specs.Kinds.{same}
 use Rattle.kinds.proofs.same_bytes.Given as goal
 

@@ -1,4 +1,3 @@
-use borrow.Author.Rules.{rules}
 use Rattle.layout.specs.Layouts.{given_length, layout_of}
 use Rattle.layout.proofs.given_length.Goals as goal
 

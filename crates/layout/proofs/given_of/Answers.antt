@@ -1,4 +1,3 @@
-use borrow.Author.Rules.{rules}
 use Rattle.layout.proofs.given_of.Goals as goal
 
 pub returns-in-Mark : goal.returns-in-Mark

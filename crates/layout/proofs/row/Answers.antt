@@ -1,5 +1,4 @@
 use mathlib.Core.Path.{sym}
-use borrow.Author.Rules.{rules}
 use lib.ListN.{get_or-eq_default}
 use Rattle.layout.proofs.Tables.{get_d_any}
 use Rattle.layout.specs.Layouts.{row, no_field, row_at, table, layout_of}

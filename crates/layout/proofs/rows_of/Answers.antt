@@ -1,4 +1,3 @@
-use borrow.Author.Rules.{rules}
 use Rattle.layout.specs.Layouts.{rows_of, layout_of}
 use Rattle.layout.proofs.rows_of.Goals as goal
 

@@ -1,5 +1,4 @@
 use mathlib.Core.Path.{refl}
-use borrow.Author.Rules.{rules}
 use Rattle.answer.proofs.Steps.{stops, goes}
 use Rattle.line.proofs.Lines.{box_wrong, box_holds}
 use Rattle.line.proofs.check_boxes.Goals as goal

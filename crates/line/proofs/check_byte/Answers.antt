@@ -1,5 +1,4 @@
 use native.Mathlib.Omega.{arith}
-use borrow.Author.Rules.{rules}
 use Rattle.modulus.proofs.Sums.{check_is_one_digit}
 use Rattle.line.proofs.check_byte.Goals as goal
 

@@ -1,5 +1,4 @@
 use mathlib.Core.Path.{ap, ◌∙◌}
-use borrow.Author.Rules.{rules}
 use Rattle.answer.proofs.Steps.{handed, onward}
 use Rattle.barcode.specs.Codes.{modulus_of}
 use Rattle.line.proofs.check_check_digits.Goals as goal

@@ -1,5 +1,4 @@
 use mathlib.Core.Path.{sym, ◌∙◌}
-use borrow.Author.Rules.{rules}
 use Rattle.answer.proofs.Steps.{handed, onward}
 use Rattle.line.proofs.Boxes.{checks_decide}
 use Rattle.line.proofs.check_full_length.Goals as goal

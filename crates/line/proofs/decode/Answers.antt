@@ -1,5 +1,4 @@
 use mathlib.Core.Path.{sym, ◌∙◌}
-use borrow.Author.Rules.{rules}
 use Rattle.barcode.specs.Shown.{fields_of}
 use Rattle.barcode.proofs.Shown.{as_refused}
 use Rattle.line.specs.Lines.{code_of, line_check}

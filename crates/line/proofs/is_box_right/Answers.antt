@@ -1,4 +1,3 @@
-use borrow.Author.Rules.{rules}
 use Rattle.line.proofs.Lines.{box_from}
 use Rattle.line.proofs.is_box_right.Goals as goal
 

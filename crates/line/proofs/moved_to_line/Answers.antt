@@ -1,6 +1,5 @@
 use mathlib.Core.Path.{refl, ap}
 use native.Mathlib.Omega.{arith}
-use borrow.Author.Rules.{rules}
 use Rattle.answer.proofs.Steps.{moved_to}
 use Rattle.answer.specs.Refusals.{answer_place}
 use Rattle.line.specs.Lines.{in_line}

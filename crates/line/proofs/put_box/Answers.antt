@@ -1,7 +1,6 @@
 use Prim.Native.Nat.{ℕ}
 use mathlib.Core.List.{List}
 use mathlib.Core.Path.{refl, ap, ◌∙◌}
-use borrow.Author.Rules.{rules}
 use Rattle.decimal.specs.Places.{put_at}
 use Rattle.line.proofs.Lines.{boxed}
 use Rattle.line.proofs.put_box.Goals as goal

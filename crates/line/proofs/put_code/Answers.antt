@@ -1,5 +1,4 @@
 use native.Mathlib.Omega.{arith}
-use borrow.Author.Rules.{rules}
 use lib.ListN.{take, drop}
 use Rattle.line.proofs.Lines.{four_pieces, eleven}
 use Rattle.line.proofs.put_code.Goals as goal

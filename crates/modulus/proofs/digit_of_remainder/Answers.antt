@@ -1,6 +1,5 @@
 use mathlib.Core.Path.{◌≡◌}
 use native.Mathlib.Omega.{arith}
-use borrow.Author.Rules.{rules}
 use borrow.Author.Tests.{eq-eqb, ne_eqb, le-leb, lt-leb}
 use Rattle.modulus.specs.Checks.{digit_of_remainder}
 use Rattle.modulus.proofs.digit_of_remainder.Goals as goal

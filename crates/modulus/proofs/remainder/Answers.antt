@@ -1,4 +1,3 @@
-use borrow.Author.Rules.{rules}
 use Rattle.modulus.proofs.remainder.Goals as goal
 
 pub returns-in-Ten : goal.returns-in-Ten

@@ -1,10 +1,8 @@
-use Prim.Native.Nat.{◌+◌, ◌-◌, ◌*◌, ◌≤◌}
-use mathlib.Core.Path.{◌≡◌}
+use Prim.Native.Nat.{◌+◌, ◌-◌}
 use native.Mathlib.Omega.{arith}
 use borrow.Author.Rules.{rules}
-use lib.ListN.{length, get_or, drop}
+use lib.ListN.{length, get_or}
 use Rattle.modulus.proofs.Sums.{sum_step, sum_end, term_small}
-use Rattle.modulus.specs.Checks.{weighted_sum}
 use Rattle.modulus.proofs.short_sum.Goals as goal
 
 pub overflow_add-sum : goal.overflow_add-sum

@@ -1,9 +1,6 @@
 use Prim.Native.Nat.{◌+◌, ◌-◌, ◌*◌, ◌≤◌}
 use mathlib.Core.Path.{◌≡◌}
-use native.Mathlib.Omega.{arith}
-use borrow.Author.Rules.{rules}
-use lib.ListN.{length, get_or, drop}
-use Rattle.modulus.proofs.Sums.{sum_step, sum_end, term_small}
+use lib.ListN.{length, drop}
 use Rattle.modulus.specs.Checks.{weighted_sum}
 use Rattle.modulus.proofs.short_sum.Given as goal
 

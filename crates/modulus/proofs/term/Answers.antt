@@ -1,5 +1,4 @@
 use native.Mathlib.Omega.{arith}
-use borrow.Author.Rules.{rules}
 use Rattle.decimal.proofs.Numbers.{value_small}
 use Rattle.modulus.proofs.Sums.{product_small}
 use Rattle.modulus.specs.Checks.{added_by, term_of}

@@ -1,11 +1,10 @@
-use Prim.Native.Nat.{◌+◌, ◌-◌, ◌%◌, ◌≤◌}
+use Prim.Native.Nat.{◌+◌, ◌-◌, ◌%◌}
 use mathlib.Core.Path.{◌≡◌, ◌∙◌}
 use native.Mathlib.Omega.{arith}
 use borrow.Author.Rules.{rules}
 use lib.ListN.{length, take, drop}
 use Rattle.decimal.proofs.Places.{length_piece}
 use Rattle.modulus.proofs.Sums.{blocks_start, blocks_step, sum_small, remainder_small}
-use Rattle.modulus.specs.Checks.{size_of, weighted_sum}
 use Rattle.modulus.proofs.weighted_remainder.Goals as goal
 
 pub loop-end-init : goal.loop-end-init

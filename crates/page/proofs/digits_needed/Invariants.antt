@@ -1,8 +1,5 @@
 use Prim.Native.Nat.{◌+◌}
 use mathlib.Core.Path.{◌≡◌}
-use native.Mathlib.Omega.{arith}
-use borrow.Author.Rules.{rules}
-use Rattle.page.proofs.Plain.{needed_more, needed_none, needed_few}
 use Rattle.page.specs.Plain.{needed}
 use Rattle.page.proofs.digits_needed.Given as goal
 

@@ -1,6 +1,5 @@
 use mathlib.Core.Path.{sym}
 use native.Mathlib.Omega.{arith}
-use borrow.Author.Rules.{rules}
 use Rattle.page.proofs.Pages.{printed, wrong_buffer_keeps}
 use Rattle.page.proofs.Steps.{wrote_then}
 use Rattle.page.specs.Pages.{head_lines, page_of}

@@ -1,5 +1,4 @@
 use native.Mathlib.Omega.{arith}
-use borrow.Author.Rules.{rules}
 use Rattle.page.proofs.Steps.{wrote_then}
 use Rattle.page.specs.Pages.{lane_lines}
 use Rattle.page.proofs.put_lane.Goals as goal

@@ -1,9 +1,6 @@
 use Prim.Native.Nat.{◌*◌, ◌-◌, ◌≤◌}
-use native.Mathlib.Omega.{arith}
-use borrow.Author.Rules.{rules}
 use lib.ListN.{take, length}
 use Rattle.board.specs.Boards.{lanes_of}
-use Rattle.page.proofs.Pages.{lanes_start, lanes_turn, lanes_end}
 use Rattle.page.specs.Pages.{lanes_lines, most_lane}
 use Rattle.page.specs.Pieces.{Wrote}
 use Rattle.page.proofs.put_lanes.Given as goal

@@ -4,7 +4,6 @@ use native.Mathlib.Omega.{arith}
 use borrow.Author.Tests.{eq-eqb, ne_eqb}
 use Rattle.pairs.specs.Pairs.{last_number, next_number}
 use Rattle.pairs.proofs.Remembering.{one_before}
-use borrow.Author.Rules.{rules}
 use Rattle.pairs.proofs.follows.Goals as goal
 
 pub returns-then-last-eq-LAST_NUMBER : goal.returns-then-last-eq-LAST_NUMBER

@@ -1,5 +1,4 @@
 use mathlib.Core.Path.{sym, ◌∙◌}
-use borrow.Author.Rules.{rules}
 use Rattle.kinds.specs.Terms.{told}
 use Rattle.record.proofs.Shown.{accepted_is, check_passes}
 use Rattle.record.proofs.field.Goals as goal

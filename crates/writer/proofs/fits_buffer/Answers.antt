@@ -1,4 +1,3 @@
-use borrow.Author.Rules.{rules}
 use Rattle.writer.proofs.fits_buffer.Goals as goal
 
 pub returns-in-Fresh : goal.returns-in-Fresh

@@ -1,4 +1,3 @@
-use borrow.Author.Rules.{rules}
 use Rattle.writer.proofs.is_expected.Goals as goal
 
 pub returns-in-Closed : goal.returns-in-Closed

@@ -2,7 +2,6 @@ use Prim.Native.Nat.{◌≤◌}
 use mathlib.Core.List.{◌++◌}
 use mathlib.Core.Path.{◌≡◌, ap}
 use native.Mathlib.Omega.{arith}
-use borrow.Author.Rules.{rules}
 use lib.ListN.{length, drop, length-append, length-drop}
 use Rattle.writer.specs.Writers.{is_lined_buffer}
 use Rattle.file.proofs.Forms.{at_least_bare}
@@ -29,4 +28,4 @@ returns-else-out-eq-LINED c =
     let front : c.copy_from_slice.new.self ++ drop 150 out ≡ made ++ drop (length made) out = rw (c.copy_from_slice.ensures.after, c.requires.0) in
     put_bare made out c.requires.0 front
     (bare_size (length out) c.requires.1
-        (λ e. c.if-out-eq-LINED.false (omega (arith, e, ap length front, length-append made (drop (length made) out), length-drop (length made) out, c.requires.0))))
+    (λ e. c.if-out-eq-LINED.false (omega (arith, e, ap length front, length-append made (drop (length made) out), length-drop (length made) out, c.requires.0))))

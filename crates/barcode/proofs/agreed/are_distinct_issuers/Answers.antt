@@ -1,14 +1,10 @@
-use Prim.Native.Nat.{◌+◌, ◌-◌, ◌≤◌}
-use mathlib.Core.Bool.{true}
+use Prim.Native.Nat.{◌+◌, ◌-◌}
 use mathlib.Core.Path.{◌≡◌, sym, ap, ◌∙◌}
 use native.Mathlib.Omega.{arith}
 use borrow.Author.Rules.{rules}
-use borrow.Author.Tests.{not-true, not-false}
-use lib.Dec.{leb}
-use lib.ListN.{length, drop, get_or}
-use Rattle.decimal.specs.Bytes.{all}
+use lib.ListN.{get_or}
 use Rattle.barcode.specs.Agreed.{is_among}
-use Rattle.barcode.proofs.Lists.{each_once, once_none, names_none, comes_twice, one_more, next_rest, whole_rest}
+use Rattle.barcode.proofs.Lists.{once_none, names_none, comes_twice, one_more, next_rest, whole_rest}
 use Rattle.barcode.proofs.agreed.are_distinct_issuers.Goals as goal
 
 pub loop-i-init : goal.loop-i-init

@@ -1,14 +1,10 @@
-use Prim.Native.Nat.{◌+◌, ◌-◌, ◌≤◌}
+use Prim.Native.Nat.{◌≤◌}
 use mathlib.Core.Bool.{true}
-use mathlib.Core.Path.{◌≡◌, sym, ap, ◌∙◌}
-use native.Mathlib.Omega.{arith}
-use borrow.Author.Rules.{rules}
-use borrow.Author.Tests.{not-true, not-false}
+use mathlib.Core.Path.{◌≡◌}
 use lib.Dec.{leb}
-use lib.ListN.{length, drop, get_or}
+use lib.ListN.{length, drop}
 use Rattle.decimal.specs.Bytes.{all}
-use Rattle.barcode.specs.Agreed.{is_among}
-use Rattle.barcode.proofs.Lists.{each_once, once_none, names_none, comes_twice, one_more, next_rest, whole_rest}
+use Rattle.barcode.proofs.Lists.{each_once}
 use Rattle.barcode.proofs.agreed.are_distinct_issuers.Given as goal
 
 abbrev pub invariant-loop-i : goal.invariant-loop-i

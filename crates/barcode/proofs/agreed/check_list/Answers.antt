@@ -1,8 +1,7 @@
 use mathlib.Core.Bool.{and-false}
 use mathlib.Core.Path.{sym, ap, ◌∙◌}
 use lib.ListN.{length}
-use borrow.Author.Rules.{rules}
-use borrow.Author.Tests.{not-true, not-false, le-leb, lt-leb}
+use borrow.Author.Tests.{le-leb, lt-leb}
 use Rattle.decimal.proofs.Bytes.{length_zero}
 use Rattle.barcode.specs.Agreed.{most_agreed, list_answer}
 use Rattle.barcode.proofs.Lists.{list_is, empty_is_right}

@@ -1,6 +1,5 @@
 use mathlib.Core.Path.{sym}
 use native.Mathlib.Omega.{arith}
-use borrow.Author.Rules.{rules}
 use lib.Seq.{take_all, length-take-le}
 use Rattle.barcode.proofs.agreed.due_digits.Goals as goal
 

@@ -1,5 +1,4 @@
 use mathlib.Core.Path.{refl, sym, ap, ◌∙◌}
-use borrow.Author.Rules.{rules}
 use Rattle.calendar.specs.Dates.{date_of}
 use Rattle.barcode.proofs.agreed.due_of.Goals as goal
 

@@ -1,9 +1,7 @@
 use Prim.Native.Nat.{◌≤◌, ◌-◌}
-use mathlib.Core.Path.{◌≡◌, refl}
-use borrow.Author.Rules.{rules}
+use mathlib.Core.Path.{◌≡◌}
 use lib.ListN.{length, drop}
 use Rattle.barcode.specs.Agreed.{is_among}
-use Rattle.barcode.proofs.Lists.{among_here, among_later, among_none}
 use Rattle.barcode.proofs.agreed.is_among.Given as goal
 
 abbrev pub invariant-loop-i : goal.invariant-loop-i

@@ -1,5 +1,4 @@
 use mathlib.Core.Path.{sym}
-use borrow.Author.Rules.{rules}
 use Rattle.barcode.proofs.Lists.{lower_not_among}
 use Rattle.barcode.proofs.agreed.is_among_from.Goals as goal
 

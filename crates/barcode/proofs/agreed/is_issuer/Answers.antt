@@ -1,7 +1,5 @@
 use Prim.Native.Nat.{ℕ, ◌^◌}
 use mathlib.Core.Path.{sym, ap, ◌∙◌}
-use borrow.Author.Rules.{rules}
-use borrow.Author.Tests.{not-true, not-false}
 use lib.Dec.{ltb}
 use Rattle.barcode.specs.Agreed.{is_issuer}
 use Rattle.barcode.proofs.agreed.is_issuer.Goals as goal

@@ -1,6 +1,5 @@
 use mathlib.Core.Path.{sym, ◌∙◌}
 use borrow.Author.Rules.{rules}
-use borrow.Author.Tests.{not-true, not-false}
 use Rattle.barcode.proofs.Lists.{issuer_small, key_is, key_none}
 use Rattle.barcode.proofs.agreed.key_of.Goals as goal
 

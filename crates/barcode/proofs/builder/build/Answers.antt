@@ -1,5 +1,4 @@
 use mathlib.Core.Path.{sym, ◌∙◌}
-use borrow.Author.Rules.{rules}
 use lib.ListN.{length}
 use Rattle.barcode.proofs.RoundTrips.{build_length}
 use Rattle.barcode.proofs.builder.build.Goals as goal

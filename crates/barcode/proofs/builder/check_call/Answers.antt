@@ -1,4 +1,3 @@
-use borrow.Author.Rules.{rules}
 use borrow.Author.Tests.{ne_eqb}
 use Rattle.answer.proofs.Steps.{handed, onward}
 use Rattle.barcode.specs.Building.{build_answer}

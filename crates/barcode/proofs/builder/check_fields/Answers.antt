@@ -1,8 +1,6 @@
 use Prim.Native.Nat.{ℕ, ◌^◌}
 use mathlib.Core.Path.{sym, ap, ◌∙◌}
 use native.Mathlib.Omega.{arith}
-use borrow.Author.Rules.{rules}
-use borrow.Author.Tests.{not-true, not-false}
 use lib.Dec.{ltb}
 use Rattle.answer.specs.declared.Reason.TheVariants.{NoDigit}
 use Rattle.answer.specs.Orders.{behind, capped_behind, moved_by}

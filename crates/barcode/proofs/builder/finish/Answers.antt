@@ -1,4 +1,3 @@
-use borrow.Author.Rules.{rules}
 use Rattle.barcode.proofs.Building.{ranges_of, finished}
 use Rattle.barcode.proofs.builder.finish.Goals as goal
 

@@ -1,5 +1,4 @@
 use native.Mathlib.Omega.{arith}
-use borrow.Author.Rules.{rules}
 use lib.ListN.{take, drop}
 use Rattle.barcode.proofs.Codes.{general_as}
 use Rattle.modulus.proofs.Sums.{remainder_small, rule_is_one_digit}

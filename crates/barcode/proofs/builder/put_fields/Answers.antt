@@ -1,5 +1,4 @@
 use native.Mathlib.Omega.{arith}
-use borrow.Author.Rules.{rules}
 use Rattle.barcode.proofs.Codes.{issuer_end_range, segment_small, kind_small}
 use Rattle.barcode.proofs.Building.{ranges_of, pieces}
 use Rattle.barcode.proofs.builder.put_fields.Goals as goal

@@ -1,5 +1,4 @@
 use Prim.Native.Nat.{◌+◌}
-use borrow.Author.Rules.{rules}
 use Rattle.barcode.proofs.Building.{four_set}
 use Rattle.barcode.proofs.builder.put_head.Goals as goal
 

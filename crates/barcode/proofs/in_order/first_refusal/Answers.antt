@@ -1,5 +1,4 @@
 use mathlib.Core.Path.{sym, ◌∙◌}
-use borrow.Author.Rules.{rules}
 use borrow.Author.Tests.{eq-eqb, ne_eqb}
 use Rattle.answer.proofs.Steps.{stops, goes, handed}
 use Rattle.barcode.proofs.Codes.{general_wrong}

@@ -1,6 +1,4 @@
 use mathlib.Core.Path.{sym, ◌∙◌}
-use borrow.Author.Rules.{rules}
-use borrow.Author.Tests.{not-true, not-false}
 use Rattle.answer.proofs.Orders.{not_both}
 use Rattle.answer.proofs.Tests.{unequal}
 use Rattle.barcode.proofs.Codes.{good}

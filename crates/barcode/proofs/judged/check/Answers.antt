@@ -1,4 +1,3 @@
-use borrow.Author.Rules.{rules}
 use Rattle.answer.proofs.Tests.{unequal}
 use Rattle.barcode.proofs.Codes.{good}
 use Rattle.barcode.proofs.Shown.{under_due, under_refused}

@@ -1,5 +1,4 @@
 use mathlib.Core.Path.{sym, ◌∙◌}
-use borrow.Author.Rules.{rules}
 use Rattle.answer.proofs.Tests.{unequal}
 use Rattle.barcode.specs.Shown.{fields_of}
 use Rattle.barcode.proofs.Codes.{good}

@@ -1,6 +1,5 @@
 use mathlib.Core.Path.{sym, ap, ◌∙◌}
-use borrow.Author.Rules.{rules}
-use borrow.Author.Tests.{eq-eqb, ne_eqb, not-true, not-false}
+use borrow.Author.Tests.{eq-eqb, ne_eqb}
 use Rattle.answer.proofs.Steps.{stops, goes, pass, stop}
 use Rattle.barcode.specs.Codes.{is_segment, is_kind, first_three_answer}
 use Rattle.barcode.proofs.parts.check_first_three.Goals as goal

@@ -1,4 +1,3 @@
-use borrow.Author.Rules.{rules}
 use lib.ListN.{get_or-eq_default}
 use Rattle.barcode.proofs.Codes.{no_digit}
 use Rattle.barcode.proofs.parts.digit.Goals as goal

@@ -1,5 +1,4 @@
 use native.Mathlib.Omega.{arith}
-use borrow.Author.Rules.{rules}
 use Rattle.barcode.proofs.Codes.{issuer_end_range}
 use Rattle.barcode.proofs.parts.issuer_end.Goals as goal
 

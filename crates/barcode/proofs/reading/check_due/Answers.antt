@@ -1,7 +1,6 @@
 use Prim.Native.Nat.{ℕ}
 use mathlib.Core.List.{List}
 use mathlib.Core.Path.{sym, ap, ◌∙◌}
-use borrow.Author.Rules.{rules}
 use Rattle.decimal.proofs.Bytes.{length_zero}
 use Rattle.barcode.specs.Agreed.{due_answer}
 use Rattle.barcode.proofs.Lists.{due_of_none}

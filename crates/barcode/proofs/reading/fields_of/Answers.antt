@@ -1,4 +1,3 @@
-use borrow.Author.Rules.{rules}
 use Rattle.barcode.proofs.Shown.{as_fields}
 use Rattle.barcode.proofs.reading.fields_of.Goals as goal
 

@@ -1,4 +1,3 @@
-use borrow.Author.Rules.{rules}
 use Rattle.barcode.proofs.Shown.{as_free}
 use Rattle.barcode.proofs.reading.free_of.Goals as goal
 

@@ -1,4 +1,3 @@
-use borrow.Author.Rules.{rules}
 use Rattle.barcode.proofs.Codes.{as_issuer}
 use Rattle.barcode.proofs.reading.issuer_of.Goals as goal
 

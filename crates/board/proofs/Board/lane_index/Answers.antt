@@ -1,10 +1,9 @@
-use Prim.Native.Nat.{◌-◌}
 use mathlib.Core.Path.{sym, ◌∙◌}
 use borrow.Author.Rules.{rules}
 use lib.ListN.{length}
 use mathlib.Core.Path.{◌≡◌}
 use Rattle.board.specs.Lanes.{most_lanes}
-use Rattle.board.proofs.Searches.{Searched, search_starts, search_on, search_hits, search_ends}
+use Rattle.board.proofs.Searches.{search_starts, search_on, search_hits, search_ends}
 use Rattle.board.proofs.Board.lane_index.Goals as goal
 
 pub loop-i-init : goal.loop-i-init

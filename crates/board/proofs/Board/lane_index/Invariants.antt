@@ -1,8 +1,5 @@
 use Prim.Native.Nat.{◌-◌}
-use mathlib.Core.Path.{sym, ◌∙◌}
-use borrow.Author.Rules.{rules}
-use lib.ListN.{length-map}
-use Rattle.board.proofs.Searches.{Searched, search_starts, search_on, search_hits, search_ends}
+use Rattle.board.proofs.Searches.{Searched}
 use Rattle.board.proofs.Board.lane_index.Given as goal
 
 abbrev pub invariant-loop-i : goal.invariant-loop-i

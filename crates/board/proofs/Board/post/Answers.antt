@@ -1,6 +1,5 @@
 use Prim.Native.Nat.{◌≤◌}
 use native.Mathlib.Omega.{arith}
-use borrow.Author.Rules.{rules}
 use borrow.Author.Tests.{le-ltb}
 use Rattle.board.proofs.Slots.{put_back}
 use Rattle.board.specs.Boards.{lanes_of, index_of, slot_answer}

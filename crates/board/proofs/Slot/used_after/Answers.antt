@@ -1,4 +1,3 @@
-use borrow.Author.Rules.{rules}
 use borrow.Author.Tests.{lt-ltb, le-ltb}
 use Rattle.board.specs.Boards.{used_after}
 use Rattle.board.proofs.Slot.used_after.Goals as goal

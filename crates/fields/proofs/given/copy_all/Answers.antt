@@ -1,4 +1,3 @@
-use borrow.Author.Rules.{rules}
 use Rattle.fields.proofs.given.copy_all.Goals as goal
 
 pub returns : goal.returns

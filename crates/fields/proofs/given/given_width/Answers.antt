@@ -1,4 +1,3 @@
-use borrow.Author.Rules.{rules}
 use Rattle.fields.proofs.Parts.{part_order, part_width}
 use Rattle.fields.proofs.given.given_width.Goals as goal
 

@@ -1,6 +1,5 @@
 use mathlib.Core.Path.{sym, ap, ◌∙◌}
 use native.Mathlib.Omega.{arith}
-use borrow.Author.Rules.{rules}
 use lib.ListN.{length}
 use Rattle.fields.proofs.Parts.{part_ends, part_is, part_length}
 use Rattle.fields.proofs.joining.join_field.Goals as goal

@@ -1,6 +1,5 @@
 use mathlib.Core.List.{[], ◌∷◌}
 use mathlib.Core.Path.{refl, ◌∙◌}
-use borrow.Author.Rules.{rules}
 use Rattle.kinds.specs.Terms.{told}
 use Rattle.fields.proofs.Makes.{wrong_size, wrong_given, goes_on}
 use Rattle.fields.proofs.Writes.{made_copied}

@@ -1,5 +1,4 @@
 use mathlib.Core.Path.{sym, ◌∙◌}
-use borrow.Author.Rules.{rules}
 use Rattle.answer.proofs.Orders.{not_both}
 use Rattle.fields.proofs.making.make_named.Goals as goal
 

@@ -1,14 +1,12 @@
-use Prim.Native.Nat.{◌≤◌, ◌-◌}
 use mathlib.Core.List.{List, [], ◌∷◌}
 use mathlib.Core.Path.{refl, ap, ◌∙◌}
 use native.Mathlib.Omega.{arith}
 use borrow.Author.Rules.{rules}
-use lib.Seq.{slice}
 use Rattle.answer.proofs.Orders.{not_both}
 use Rattle.answer.specs.Orders.{moved_by, capped_behind}
 use Rattle.layout.specs.declared.Field.{Field}
 use Rattle.kinds.specs.Terms.{told}
-use Rattle.fields.proofs.Makes.{at_row, at_end, ends, placed, in_given, fits_part, refuses, step, Making, start}
+use Rattle.fields.proofs.Makes.{at_row, at_end, ends, placed, in_given, fits_part, refuses, step, start}
 use Rattle.record.proofs.Walks.{in_order, in_table, rows_here}
 use Rattle.fields.specs.Making.{made_of, making_answer}
 use Rattle.fields.proofs.making.make_rows.Goals as goal

@@ -1,7 +1,6 @@
-use Prim.Native.Nat.{◌≤◌, ◌-◌}
-use mathlib.Core.Path.{◌∙◌, ◌≡◌, refl}
+use mathlib.Core.Path.{◌∙◌, refl}
 use borrow.Author.Rules.{rules}
-use lib.ListN.{length-set, length, take, replicate}
+use lib.ListN.{length-set}
 use Rattle.fields.proofs.Writes.{blank_end, blank_step}
 use Rattle.fields.proofs.making.put_blanks.Goals as goal
 

@@ -1,8 +1,6 @@
 use Prim.Native.Nat.{◌≤◌, ◌-◌}
-use mathlib.Core.Path.{◌∙◌, ◌≡◌, refl}
-use borrow.Author.Rules.{rules}
-use lib.ListN.{length-set, length, take, replicate}
-use Rattle.fields.proofs.Writes.{blank_end, blank_step}
+use mathlib.Core.Path.{◌≡◌}
+use lib.ListN.{length, take, replicate}
 use Rattle.fields.proofs.making.put_blanks.Given as goal
 
 abbrev pub invariant-loop-i : goal.invariant-loop-i

@@ -1,5 +1,4 @@
 use mathlib.Core.Path.{sym, ap, ◌∙◌}
-use borrow.Author.Rules.{rules}
 use lib.ListN.{length}
 use Rattle.fields.proofs.Parts.{whole_tags, given_whole}
 use Rattle.fields.proofs.making.put_bytes.Goals as goal

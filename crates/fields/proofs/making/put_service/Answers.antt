@@ -1,4 +1,3 @@
-use borrow.Author.Rules.{rules}
 use Rattle.fields.proofs.making.put_service.Goals as goal
 
 pub returns : goal.returns

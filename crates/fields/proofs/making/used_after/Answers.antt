@@ -1,5 +1,4 @@
 use mathlib.Core.Path.{sym, ◌∙◌}
-use borrow.Author.Rules.{rules}
 use Rattle.fields.proofs.making.used_after.Goals as goal
 
 pub returns-then-is_money : goal.returns-then-is_money

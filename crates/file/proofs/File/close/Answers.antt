@@ -1,5 +1,4 @@
 use native.Mathlib.Omega.{arith}
-use borrow.Author.Rules.{rules}
 use borrow.Author.Tests.{le-leb, lt-leb}
 use Rattle.file.specs.Files.{most_payments, most_centavos, closing_answer}
 use Rattle.file.proofs.File.close.Goals as goal

@@ -1,4 +1,3 @@
-use borrow.Author.Rules.{rules}
 use lib.ListN.{length}
 use Rattle.barcode.specs.Building.{build_check, built_of}
 use Rattle.hollytrot.proofs.Steps.{crossed}

@@ -1,5 +1,4 @@
 use mathlib.Core.Path.{ap, ◌∙◌}
-use borrow.Author.Rules.{rules}
 use Rattle.hollytrot.specs.Forms.{c_answer_of}
 use Rattle.hollytrot.proofs.barcodes.hollytrot_barcode_check.Goals as goal
 

@@ -1,5 +1,4 @@
 use native.Mathlib.Omega.{arith}
-use borrow.Author.Rules.{rules}
 use Rattle.hollytrot.proofs.Steps.{free_few, at_free}
 use Rattle.hollytrot.proofs.barcodes.hollytrot_barcode_free_field.Goals as goal
 

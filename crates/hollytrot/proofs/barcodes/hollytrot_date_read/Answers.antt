@@ -1,5 +1,4 @@
 use mathlib.Core.Path.{ap, ◌∙◌}
-use borrow.Author.Rules.{rules}
 use Rattle.record.specs.Values.{day_of}
 use Rattle.hollytrot.proofs.barcodes.hollytrot_date_read.Goals as goal
 

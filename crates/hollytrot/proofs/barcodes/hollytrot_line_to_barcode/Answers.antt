@@ -1,4 +1,3 @@
-use borrow.Author.Rules.{rules}
 use Rattle.hollytrot.proofs.Steps.{crossed}
 use Rattle.hollytrot.proofs.barcodes.hollytrot_line_to_barcode.Goals as goal
 

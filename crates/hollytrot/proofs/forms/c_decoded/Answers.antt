@@ -1,4 +1,3 @@
-use borrow.Author.Rules.{rules}
 use Rattle.hollytrot.proofs.forms.c_decoded.Goals as goal
 
 pub returns-in-Read : goal.returns-in-Read

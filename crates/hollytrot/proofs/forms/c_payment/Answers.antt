@@ -1,4 +1,3 @@
-use borrow.Author.Rules.{rules}
 use Rattle.hollytrot.proofs.forms.c_payment.Goals as goal
 
 pub returns : goal.returns

@@ -1,4 +1,3 @@
-use borrow.Author.Rules.{rules}
 use Rattle.hollytrot.proofs.forms.c_record.Goals as goal
 
 pub returns-in-Header : goal.returns-in-Header

@@ -1,4 +1,3 @@
-use borrow.Author.Rules.{rules}
 use Rattle.hollytrot.proofs.forms.writer_from_c.Goals as goal
 
 pub returns : goal.returns

@@ -1,4 +1,3 @@
-use borrow.Author.Rules.{rules}
 use Rattle.hollytrot.proofs.pages.hollytrot_page.Goals as goal
 
 pub returns : goal.returns

@@ -1,5 +1,4 @@
 use mathlib.Core.Path.{ap, ◌∙◌}
-use borrow.Author.Rules.{rules}
 use Rattle.hollytrot.specs.Forms.{c_record_of}
 use Rattle.hollytrot.proofs.records.hollytrot_record_decode.Goals as goal
 

@@ -1,4 +1,3 @@
-use borrow.Author.Rules.{rules}
 use Rattle.kinds.specs.Terms.{told}
 use Rattle.hollytrot.proofs.Steps.{row_first, at_field}
 use Rattle.hollytrot.proofs.records.hollytrot_record_field.Goals as goal

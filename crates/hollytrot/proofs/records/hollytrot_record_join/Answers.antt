@@ -1,4 +1,3 @@
-use borrow.Author.Rules.{rules}
 use Rattle.hollytrot.proofs.Steps.{crossed}
 use Rattle.hollytrot.proofs.records.hollytrot_record_join.Goals as goal
 

@@ -1,4 +1,3 @@
-use borrow.Author.Rules.{rules}
 use Rattle.hollytrot.proofs.sessions.c_take_result.Goals as goal
 
 pub returns : goal.returns

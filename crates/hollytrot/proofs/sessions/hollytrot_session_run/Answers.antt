@@ -1,4 +1,3 @@
-use borrow.Author.Rules.{rules}
 use Rattle.hollytrot.proofs.sessions.hollytrot_session_run.Goals as goal
 
 pub returns : goal.returns

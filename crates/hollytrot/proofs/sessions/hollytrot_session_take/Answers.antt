@@ -1,5 +1,4 @@
 use mathlib.Core.Path.{ap, ◌∙◌}
-use borrow.Author.Rules.{rules}
 use Rattle.hollytrot.specs.Forms.{c_take_result_of}
 use Rattle.hollytrot.proofs.sessions.hollytrot_session_take.Goals as goal
 

@@ -1,4 +1,3 @@
-use borrow.Author.Rules.{rules}
 use Rattle.hollytrot.proofs.Steps.{wrote_refused, wrote_accepted}
 use Rattle.hollytrot.proofs.writers.c_write_result.Goals as goal
 

@@ -1,4 +1,3 @@
-use borrow.Author.Rules.{rules}
 use lib.ListN.{length}
 use Rattle.file.specs.Forms.{in_form}
 use Rattle.writer.specs.Writers.{is_lined_buffer, header_written, header_bytes}

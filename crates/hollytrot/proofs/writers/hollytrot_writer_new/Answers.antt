@@ -1,5 +1,4 @@
 use mathlib.Core.Path.{ap, ◌∙◌}
-use borrow.Author.Rules.{rules}
 use Rattle.hollytrot.specs.Forms.{c_writer_of}
 use Rattle.hollytrot.proofs.writers.hollytrot_writer_new.Goals as goal
 

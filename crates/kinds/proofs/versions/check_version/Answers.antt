@@ -1,5 +1,4 @@
 use mathlib.Core.Path.{sym, ◌∙◌}
-use borrow.Author.Rules.{rules}
 use Rattle.layout.specs.Layouts.{row_at, table, layout_of}
 use Rattle.kinds.specs.Terms.{version_answer}
 use Rattle.kinds.proofs.versions.check_version.Goals as goal

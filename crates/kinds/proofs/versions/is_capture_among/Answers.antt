@@ -1,5 +1,4 @@
 use mathlib.Core.Path.{sym, ◌∙◌}
-use borrow.Author.Rules.{rules}
 use Rattle.kinds.proofs.versions.is_capture_among.Goals as goal
 
 pub returns-then-in_range : goal.returns-then-in_range

@@ -1,10 +1,5 @@
-use Prim.Native.Nat.{◌+◌, ◌-◌, ◌*◌, ◌≤◌}
-use mathlib.Core.Bool.{true, ◌&&◌}
-use mathlib.Core.Path.{◌≡◌}
-use lib.Dec.{eqb}
 use Rattle.modulus.specs.declared.Modulus.TheVariants.{Ten, Eleven}
-use Rattle.modulus.specs.Columns.{are_digits, counted}
-use Rattle.modulus.proofs.Columns.{left_digits, left_sum, digits_step, sum_goes, digits_end, sum_ends}
+use Rattle.modulus.proofs.Columns.{digits_step, sum_goes, digits_end, sum_ends}
 use borrow.Author.Rules.{rules}
 use Rattle.modulus.proofs.forty.add_columns.Goals as goal
 

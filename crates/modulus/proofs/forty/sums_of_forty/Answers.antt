@@ -1,4 +1,3 @@
-use borrow.Author.Rules.{rules}
 use borrow.Author.Tests.{ne_eqb}
 use Rattle.modulus.proofs.Columns.{no_sum, both_sums_holds}
 use Rattle.modulus.proofs.forty.sums_of_forty.Goals as goal

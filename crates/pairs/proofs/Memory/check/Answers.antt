@@ -1,7 +1,7 @@
-use mathlib.Core.Path.{◌≡◌, sym, ◌∙◌}
+use mathlib.Core.Path.{◌≡◌}
 use native.Mathlib.Omega.{arith}
 use borrow.Author.Tests.{lt-ltb, le-ltb}
-use lib.ListN.{length, length-map}
+use lib.ListN.{length}
 use Rattle.pairs.specs.Pairs.{most_pairs}
 use Rattle.pairs.proofs.Remembering.{check_known, check_new}
 use borrow.Author.Rules.{rules}

@@ -1,4 +1,3 @@
-use borrow.Author.Rules.{rules}
 use Rattle.pairs.proofs.Memory.new.Goals as goal
 
 pub returns : goal.returns

@@ -1,9 +1,8 @@
-use Prim.Native.Nat.{◌-◌, min}
 use native.Mathlib.Omega.{arith}
 use mathlib.Core.Path.{◌≡◌, sym, ◌∙◌}
-use lib.ListN.{length, length-map}
+use lib.ListN.{length}
 use Rattle.pairs.specs.Pairs.{most_pairs}
-use Rattle.pairs.proofs.Searches.{Searched, search_starts, search_on, search_hits, search_ends}
+use Rattle.pairs.proofs.Searches.{search_starts, search_on, search_hits, search_ends}
 use borrow.Author.Rules.{rules}
 use Rattle.pairs.proofs.Memory.pair_index.Goals as goal
 

@@ -1,7 +1,6 @@
 use native.Mathlib.Omega.{arith}
 use borrow.Author.Tests.{lt-ltb, le-ltb}
 use Rattle.pairs.specs.Pairs.{most_pairs, pairs_of, index_of, memory_with}
-use borrow.Author.Rules.{rules}
 use Rattle.pairs.proofs.Memory.remember.Goals as goal
 
 pub returns-then-at-ge-PAIRS : goal.returns-then-at-ge-PAIRS

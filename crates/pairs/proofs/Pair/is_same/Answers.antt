@@ -2,7 +2,6 @@ use mathlib.Core.Bool.{true, false}
 use mathlib.Core.Path.{◌≡◌, sym, ◌∙◌}
 use Rattle.kinds.specs.Kinds.{same}
 use Rattle.pairs.specs.Pairs.{is_same_pair}
-use borrow.Author.Rules.{rules}
 use Rattle.pairs.proofs.Pair.is_same.Goals as goal
 
 pub returns-then-same_bytes : goal.returns-then-same_bytes

@@ -1,11 +1,9 @@
 use mathlib.Core.Path.{sym, ap, ◌∙◌}
-use borrow.Author.Tests.{not-true, not-false}
 use Rattle.barcode.specs.Shown.{accepted_issuer}
 use Rattle.barcode.proofs.Shown.{issuer_tells}
 use Rattle.layout.specs.Layouts.{row_at, table, layout_of, barcode_row}
 use Rattle.record.specs.Records.{field_bytes}
 use Rattle.record.proofs.Exact.{not_sized, not_looking, not_dated, no_payee, pays_it}
-use borrow.Author.Rules.{rules}
 use Rattle.record.proofs.fast.accepted_payment.Goals as goal
 
 pub returns-then-rec-ne-LENGTH : goal.returns-then-rec-ne-LENGTH

@@ -1,7 +1,6 @@
 use Rattle.decimal.specs.declared.Class.TheVariants.{Digit, Text}
 use Rattle.decimal.specs.Bytes.{is_of}
 use Rattle.record.proofs.FastPath.{six_flags}
-use borrow.Author.Rules.{rules}
 use Rattle.record.proofs.fast.column_error_bit.Goals as goal
 
 pub returns : goal.returns

@@ -1,11 +1,9 @@
 use mathlib.Core.Path.{sym, ◌∙◌}
-use borrow.Author.Tests.{not-true, not-false}
 use Rattle.barcode.proofs.Shown.{read_tells}
 use Rattle.layout.specs.Layouts.{row_at, table, layout_of, barcode_row}
 use Rattle.kinds.specs.Terms.{told}
 use Rattle.record.specs.Records.{field_bytes}
 use Rattle.record.proofs.Exact.{not_sized, not_looking, no_payment_date, no_credit_date, both_dates, no_code, shows_it}
-use borrow.Author.Rules.{rules}
 use Rattle.record.proofs.fast.decode_payment.Goals as goal
 
 pub returns-then-rec-ne-LENGTH : goal.returns-then-rec-ne-LENGTH

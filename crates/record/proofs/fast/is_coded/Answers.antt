@@ -1,10 +1,8 @@
-use borrow.Author.Rules.{rules}
 use Prim.Native.Nat.{ℕ}
 use mathlib.Core.List.{List}
 use mathlib.Core.Path.{ap, ◌∙◌}
 use lib.ListN.{get_or}
 use Rattle.kinds.specs.Kinds.{is_capture, is_form}
-use borrow.Author.Tests.{not-true, not-false}
 use Rattle.layout.specs.Layouts.{row_at, table, layout_of}
 use Rattle.record.proofs.FastPath.{capture_fails, form_is}
 use Rattle.record.proofs.fast.is_coded.Goals as goal

@@ -1,10 +1,8 @@
 use Prim.Native.Nat.{ℕ}
 use mathlib.Core.List.{List}
 use mathlib.Core.Path.{sym, ap, ◌∙◌}
-use borrow.Author.Tests.{not-true, not-false}
 use Rattle.calendar.specs.Dates.{date_of, is_found}
 use Rattle.layout.specs.Layouts.{row_at, table, layout_of}
-use borrow.Author.Rules.{rules}
 use Rattle.record.proofs.fast.is_dated.Goals as goal
 
 pub returns-then-not-is_date_text : goal.returns-then-not-is_date_text

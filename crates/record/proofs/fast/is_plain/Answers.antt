@@ -1,11 +1,9 @@
 use mathlib.Core.Path.{ap, ◌∙◌}
 use native.Mathlib.Omega.{arith}
-use borrow.Author.Tests.{not-true, not-false}
 use lib.ListN.{length}
 use Rattle.layout.specs.Layouts.{row_at, table, layout_of}
 use Rattle.record.proofs.FastPath.{parts_fail, blanks_are}
 use Rattle.record.proofs.FieldBytes.{places_length}
-use borrow.Author.Rules.{rules}
 use Rattle.record.proofs.fast.is_plain.Goals as goal
 
 pub parts_hold-requires : goal.parts_hold-requires

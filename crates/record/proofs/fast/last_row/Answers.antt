@@ -1,5 +1,4 @@
 use mathlib.Core.Path.{ap, ◌∙◌}
-use borrow.Author.Rules.{rules}
 use lib.ListN.{length}
 use Rattle.record.proofs.FastPath.{last_sixteen}
 use Rattle.record.proofs.fast.last_row.Goals as goal

@@ -1,6 +1,4 @@
 use mathlib.Core.Path.{sym, ◌∙◌}
-use borrow.Author.Tests.{not-true, not-false}
-use borrow.Author.Rules.{rules}
 use Rattle.record.proofs.fast.looks_like_payment.Goals as goal
 
 pub returns-then-not-is_payment : goal.returns-then-not-is_payment

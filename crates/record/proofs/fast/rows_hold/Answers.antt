@@ -1,9 +1,5 @@
-use Prim.Native.Nat.{◌-◌, ◌≤◌}
-use mathlib.Core.Bool.{◌&&◌}
-use mathlib.Core.Path.{◌≡◌, refl}
-use lib.Dec.{eqb}
-use Rattle.record.specs.FastPath.{rows_hold}
-use Rattle.record.proofs.FastPath.{from, rows_step, rows_end}
+use mathlib.Core.Path.{refl}
+use Rattle.record.proofs.FastPath.{rows_step, rows_end}
 use borrow.Author.Rules.{rules}
 use Rattle.record.proofs.fast.rows_hold.Goals as goal
 

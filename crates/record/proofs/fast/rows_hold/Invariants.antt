@@ -1,10 +1,9 @@
 use Prim.Native.Nat.{◌-◌, ◌≤◌}
 use mathlib.Core.Bool.{◌&&◌}
-use mathlib.Core.Path.{◌≡◌, refl}
+use mathlib.Core.Path.{◌≡◌}
 use lib.Dec.{eqb}
 use Rattle.record.specs.FastPath.{rows_hold}
-use Rattle.record.proofs.FastPath.{from, rows_step, rows_end}
-use borrow.Author.Rules.{rules}
+use Rattle.record.proofs.FastPath.{from}
 use Rattle.record.proofs.fast.rows_hold.Given as goal
 
 abbrev pub invariant-loop-i : goal.invariant-loop-i

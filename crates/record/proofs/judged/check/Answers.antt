@@ -1,5 +1,4 @@
 use mathlib.Core.Path.{sym, ◌∙◌}
-use borrow.Author.Rules.{rules}
 use Rattle.record.proofs.Exact.{paid_accepted}
 use Rattle.record.proofs.judged.check.Goals as goal
 

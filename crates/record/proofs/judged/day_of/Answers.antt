@@ -1,4 +1,3 @@
-use borrow.Author.Rules.{rules}
 use Rattle.record.proofs.judged.day_of.Goals as goal
 
 pub returns-in-NoDate : goal.returns-in-NoDate

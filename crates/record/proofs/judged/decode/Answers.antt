@@ -1,5 +1,4 @@
 use mathlib.Core.Path.{sym, ◌∙◌}
-use borrow.Author.Rules.{rules}
 use Rattle.record.proofs.Exact.{seen_shown}
 use Rattle.record.proofs.judged.decode.Goals as goal
 

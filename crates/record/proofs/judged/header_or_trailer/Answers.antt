@@ -1,7 +1,6 @@
 use mathlib.Core.List.{[]}
 use mathlib.Core.Path.{sym, ◌∙◌}
 use native.Mathlib.Omega.{arith}
-use borrow.Author.Rules.{rules}
 use lib.ListN.{get_or}
 use Rattle.layout.specs.declared.Record.TheVariants.{Header, Trailer}
 use Rattle.layout.specs.Layouts.{named_by}

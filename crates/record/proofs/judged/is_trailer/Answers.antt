@@ -1,5 +1,4 @@
 use mathlib.Core.Path.{sym, ◌∙◌}
-use borrow.Author.Rules.{rules}
 use Rattle.record.proofs.judged.is_trailer.Goals as goal
 
 pub returns-in-Header : goal.returns-in-Header

@@ -1,6 +1,5 @@
 use mathlib.Core.List.{[]}
 use mathlib.Core.Path.{ap, ◌∙◌}
-use borrow.Author.Rules.{rules}
 use Rattle.layout.specs.Layouts.{row_at, table, layout_of}
 use Rattle.kinds.specs.Terms.{told}
 use Rattle.record.specs.Values.{day_of}

@@ -1,5 +1,4 @@
 use mathlib.Core.List.{[]}
-use borrow.Author.Rules.{rules}
 use Rattle.layout.specs.Layouts.{row_at, table, layout_of}
 use Rattle.kinds.specs.Terms.{told}
 use Rattle.record.proofs.Shown.{trailer_read}

@@ -1,5 +1,4 @@
 use mathlib.Core.Path.{ap, ◌∙◌}
-use borrow.Author.Rules.{rules}
 use Rattle.barcode.specs.Shown.{decoded_under}
 use Rattle.record.proofs.parts.barcode_in.Goals as goal
 

@@ -1,5 +1,4 @@
 use mathlib.Core.Path.{ap, ◌∙◌}
-use borrow.Author.Rules.{rules}
 use Rattle.calendar.specs.Dates.{date_of}
 use Rattle.record.proofs.parts.date_in.Goals as goal
 

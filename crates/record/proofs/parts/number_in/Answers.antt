@@ -1,5 +1,4 @@
 use mathlib.Core.Path.{ap, ◌∙◌}
-use borrow.Author.Rules.{rules}
 use Rattle.decimal.specs.LowHalves.{low_number_of}
 use Rattle.record.proofs.parts.number_in.Goals as goal
 

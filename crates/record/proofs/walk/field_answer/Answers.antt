@@ -1,7 +1,6 @@
 use Prim.Native.Nat.{◌-◌}
 use mathlib.Core.Path.{ap, ◌∙◌}
 use native.Mathlib.Omega.{arith}
-use borrow.Author.Rules.{rules}
 use Rattle.answer.specs.Orders.{moved_by, capped_behind}
 use Rattle.answer.proofs.Orders.{behind_is_exact}
 use Rattle.kinds.proofs.KindLaws.{kind_place}

@@ -1,12 +1,7 @@
-use Prim.Native.Nat.{◌≤◌, ◌-◌}
-use mathlib.Core.Path.{sym, ◌∙◌, ◌≡◌, refl}
+use mathlib.Core.Path.{sym, ◌∙◌, refl}
 use native.Mathlib.Omega.{arith}
 use borrow.Author.Rules.{rules}
-use lib.Seq.{slice}
-use Rattle.answer.specs.Orders.{first_refusal}
 use Rattle.record.proofs.Walks.{later, here, none, in_order, in_table, row_placed, walked}
-use Rattle.kinds.specs.Terms.{told}
-use Rattle.record.specs.Records.{field_answer}
 use Rattle.record.proofs.walk.layout_answer.Goals as goal
 
 pub loop-i-init : goal.loop-i-init

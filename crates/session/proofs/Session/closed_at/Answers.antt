@@ -1,4 +1,3 @@
-use borrow.Author.Rules.{rules}
 use Rattle.session.proofs.Session.closed_at.Goals as goal
 
 pub returns : goal.returns

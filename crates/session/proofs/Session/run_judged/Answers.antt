@@ -1,11 +1,10 @@
-use Prim.Native.Nat.{◌+◌, ◌-◌, ◌≤◌, ◌<◌}
-use mathlib.Core.Path.{◌≡◌, refl, ap, ◌∙◌}
+use Prim.Native.Nat.{◌+◌, ◌<◌}
+use mathlib.Core.Path.{refl, ap, ◌∙◌}
 use native.Mathlib.Omega.{arith}
 use borrow.Author.Rules.{rules}
-use lib.ListN.{length, drop}
-use Rattle.answer.specs.declared.Answer.TheVariants.{Accepted}
+use lib.ListN.{length}
 use Rattle.session.proofs.Runs.{counts_none, least_some, cut_ends, cut_grows, run_paid, run_stops, run_goes, run_ends}
-use Rattle.session.specs.Runs.{files_closed, add_counts, run_under}
+use Rattle.session.specs.Runs.{files_closed, run_under}
 use Rattle.session.specs.LeadingPayments.{with_leading}
 use Rattle.session.proofs.Session.run_judged.Goals as goal
 

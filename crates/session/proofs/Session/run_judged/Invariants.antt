@@ -1,12 +1,8 @@
-use Prim.Native.Nat.{◌+◌, ◌-◌, ◌≤◌, ◌<◌}
-use mathlib.Core.Path.{◌≡◌, refl, ap, ◌∙◌}
-use native.Mathlib.Omega.{arith}
-use borrow.Author.Rules.{rules}
+use Prim.Native.Nat.{◌-◌, ◌≤◌}
+use mathlib.Core.Path.{◌≡◌}
 use lib.ListN.{length, drop}
 use Rattle.answer.specs.declared.Answer.TheVariants.{Accepted}
-use Rattle.session.proofs.Runs.{counts_none, least_some, cut_ends, cut_grows, run_paid, run_stops, run_goes, run_ends}
-use Rattle.session.specs.Runs.{files_closed, add_counts, run_under}
-use Rattle.session.specs.LeadingPayments.{with_leading}
+use Rattle.session.specs.Runs.{add_counts, run_under}
 use Rattle.session.proofs.Session.run_judged.Given as goal
 
 abbrev pub invariant-loop-at : goal.invariant-loop-at

@@ -1,5 +1,4 @@
 use mathlib.Core.Path.{sym, ◌∙◌}
-use borrow.Author.Rules.{rules}
 use Rattle.session.proofs.Session.take.Goals as goal
 
 pub returns-in-Accepted : goal.returns-in-Accepted

@@ -1,5 +1,4 @@
 use mathlib.Core.Path.{refl, ap, ◌∙◌}
-use borrow.Author.Rules.{rules}
 use Rattle.pairs.specs.declared.Pair.{Pair}
 use Rattle.session.specs.Sessions.{header_result}
 use Rattle.session.proofs.Steps.{decoded_as}

@@ -1,20 +1,15 @@
-use Prim.Native.Nat.{◌-◌}
-use mathlib.Core.Logic.{⊎_elim}
 use mathlib.Core.Path.{◌≡◌, refl, sym, ◌∙◌}
 use native.Mathlib.Omega.{arith}
 use borrow.Author.Rules.{rules}
-use borrow.Author.Tests.{not-true, not-false}
-use lib.ListN.{length, length-map, length-set}
+use lib.ListN.{length-set}
 use Rattle.board.specs.Boards.{lanes_of, index_of}
-use Rattle.board.specs.Lanes.{most_lanes}
 use Rattle.board.specs.Searches.{cache_length}
-use Rattle.board.proofs.Searches.{Searched, search_on, search_hits, search_ends}
-use Rattle.board.proofs.Caches.{Caches, zeros_cache, cached_starts, caches_on}
+use Rattle.board.proofs.Searches.{search_on, search_hits, search_ends}
+use Rattle.board.proofs.Caches.{zeros_cache, cached_starts, caches_on}
 use Rattle.file.proofs.Forms.{at_least_bare}
 use Rattle.session.proofs.Payments.{next_told, one_more}
 use Rattle.session.proofs.Runs.{counts_none}
 use Rattle.session.specs.Runs.{run_under}
-use Rattle.session.specs.LeadingPayments.{LeadingPaymentsOf}
 use Rattle.session.proofs.Session.take_leading_payments.Goals as goal
 use Rattle.session.proofs.Session.take_leading_payments.Goals.{then-loop-at-test+else-not-is_of, else-loop-at-test}
 
@@ -66,7 +61,7 @@ loop-payment-preserved c =
     let a = c.args in
     let found : l.at ≡ index_of p.issuer (lanes_of o.work) =
     elim c.loop-at-test.branch [
-      then-loop-at-test+else-not-is_of w ↦ search_hits o.work o.invariant.0 p.issuer to l.at l.invariant w.loop-at-test.true (sym w.is_of.ensures ∙ w.if-not-is_of.false)
+      | then-loop-at-test+else-not-is_of w ↦ search_hits o.work o.invariant.0 p.issuer to l.at l.invariant w.loop-at-test.true (sym w.is_of.ensures ∙ w.if-not-is_of.false)
       | else-loop-at-test w ↦ search_ends o.work o.invariant.0 p.issuer to l.at l.invariant w.loop-at-test.false
     ] in
     let posted = c.post_at-posted.ensures in

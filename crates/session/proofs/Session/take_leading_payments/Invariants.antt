@@ -1,19 +1,10 @@
 use Prim.Native.Nat.{◌-◌}
-use mathlib.Core.Logic.{⊎_elim}
-use mathlib.Core.Path.{◌≡◌, refl, sym, ◌∙◌}
-use native.Mathlib.Omega.{arith}
-use borrow.Author.Rules.{rules}
-use borrow.Author.Tests.{not-true, not-false}
-use lib.ListN.{length, length-map, length-set}
-use Rattle.board.specs.Boards.{lanes_of, index_of}
+use mathlib.Core.Path.{◌≡◌}
+use lib.ListN.{length}
 use Rattle.board.specs.Lanes.{most_lanes}
 use Rattle.board.specs.Searches.{cache_length}
-use Rattle.board.proofs.Searches.{Searched, search_on, search_hits, search_ends}
-use Rattle.board.proofs.Caches.{Caches, zeros_cache, cached_starts, caches_on}
-use Rattle.file.proofs.Forms.{at_least_bare}
-use Rattle.session.proofs.Payments.{next_told, one_more}
-use Rattle.session.proofs.Runs.{counts_none}
-use Rattle.session.specs.Runs.{run_under}
+use Rattle.board.proofs.Searches.{Searched}
+use Rattle.board.proofs.Caches.{Caches}
 use Rattle.session.specs.LeadingPayments.{LeadingPaymentsOf}
 use Rattle.session.proofs.Session.take_leading_payments.Given as goal
 

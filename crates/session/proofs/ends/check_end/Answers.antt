@@ -1,6 +1,4 @@
 use mathlib.Core.Path.{sym, ◌∙◌}
-use borrow.Author.Rules.{rules}
-use borrow.Author.Tests.{not-true, not-false}
 use Rattle.file.proofs.Forms.{closed_ends, bare_ends, lined_ends}
 use Rattle.session.proofs.ends.check_end.Goals as goal
 

@@ -1,6 +1,5 @@
 use mathlib.Core.Path.{ap, ◌∙◌}
 use native.Mathlib.Omega.{arith}
-use borrow.Author.Rules.{rules}
 use Rattle.file.specs.Forms.{length_of}
 use Rattle.file.proofs.Forms.{at_least_bare}
 use Rattle.session.proofs.ends.cut_length.Goals as goal

@@ -1,7 +1,5 @@
 use mathlib.Core.Path.{sym, ◌∙◌}
 use native.Mathlib.Omega.{arith}
-use borrow.Author.Rules.{rules}
-use borrow.Author.Tests.{not-true, not-false}
 use Rattle.answer.proofs.Tests.{never}
 use Rattle.file.proofs.Forms.{fits_short, fits_bare_length}
 use Rattle.session.proofs.Lengths.{fits_closed, fits_bare, fits_lined}

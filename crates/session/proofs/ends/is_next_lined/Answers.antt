@@ -1,5 +1,4 @@
 use mathlib.Core.Path.{sym}
-use borrow.Author.Rules.{rules}
 use lib.Seq.{length-take-le}
 use Rattle.session.proofs.Lengths.{piece_open, piece_short, piece_ahead}
 use Rattle.session.proofs.ends.is_next_lined.Goals as goal

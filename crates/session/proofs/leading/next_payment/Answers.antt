@@ -1,8 +1,6 @@
 use Prim.Native.Nat.{◌+◌}
 use mathlib.Core.Path.{sym, ◌∙◌}
 use native.Mathlib.Omega.{arith}
-use borrow.Author.Rules.{rules}
-use borrow.Author.Tests.{not-false}
 use Rattle.file.proofs.Forms.{at_least_bare}
 use Rattle.session.proofs.Lengths.{needs_least, needs_record}
 use Rattle.session.proofs.Payments.{next_is}

@@ -3,7 +3,6 @@ use mathlib.Core.List.{List}
 use mathlib.Core.Path.{ap₂}
 use Rattle.layout.specs.Layouts.{row_at, table, layout_of}
 use Rattle.pairs.specs.declared.Pair.{Pair}
-use borrow.Author.Rules.{rules}
 use Rattle.session.proofs.opening.pair_numbered.Goals as goal
 
 pub returns : goal.returns

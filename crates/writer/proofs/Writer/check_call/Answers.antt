@@ -1,6 +1,5 @@
 use mathlib.Core.Path.{sym, ◌∙◌}
-use borrow.Author.Rules.{rules}
-use borrow.Author.Tests.{eq-eqb, ne_eqb, not-true, not-false}
+use borrow.Author.Tests.{eq-eqb, ne_eqb}
 use Rattle.writer.proofs.Writer.check_call.Goals as goal
 
 pub returns-then-not-fits_buffer : goal.returns-then-not-fits_buffer

@@ -1,4 +1,3 @@
-use borrow.Author.Rules.{rules}
 use Rattle.writer.proofs.Writer.finish.Goals as goal
 
 pub put_in_form-requires : goal.put_in_form-requires
