@@ -105,14 +105,14 @@ pieces i kind amount rest old fit n {w} {r} {s} {one} {two} {three} {four} ew e1
 
 -- the free field's length, as the code counts it
 module _ (s : ℕ) (rest : List ℕ) {e : ℕ} (ee : e ≡ issuer_end s) where
-  free-width : width_of (free s) ≡ 44 - e
-  free-width = omega arith
+  free_width : width_of (free s) ≡ 44 - e
+  free_width = omega arith
 
   pub free_wrong : (length rest ≡ 44 - e → ⊥) → eqb (length rest) (width_of (free s)) ≡ false
-  free_wrong h = ne_eqb _ _ (λ q. h (q ∙ free-width))
+  free_wrong h = ne_eqb _ _ (λ q. h (q ∙ free_width))
 
   pub free_right : length rest ≡ 44 - e → eqb (length rest) (width_of (free s)) ≡ true
-  free_right h = eq-eqb _ _ (h ∙ sym free-width)
+  free_right h = eq-eqb _ _ (h ∙ sym free_width)
 
 -- The code that was written.
 module _ (i : Issuer) (kind amount : ℕ) (rest : List ℕ) (fit : WithinRanges i kind amount rest) where

@@ -118,14 +118,14 @@ once_drop (k ∷ ks) (suc i) h =
     once_cons k ks ∙ ap (λ (t : Bool). names_issuer k && (not (is_among k ks) && t)) (once_drop ks i h) ∙ rw (and-false, and-false)
 
 module _ (keys : List ℕ) (i : ℕ) (h : i < length keys) where
-  once-at : each_once (drop i keys) ≡ (names_issuer (get_or keys i 0) && (not (is_among (get_or keys i 0) (drop (i + 1) keys)) && each_once (drop (i + 1) keys)))
-  once-at = ap each_once (drop-cons keys i 0 h) ∙ rw add-one (once_cons (get_or keys i 0) (drop (suc i) keys))
+  once_at : each_once (drop i keys) ≡ (names_issuer (get_or keys i 0) && (not (is_among (get_or keys i 0) (drop (i + 1) keys)) && each_once (drop (i + 1) keys)))
+  once_at = ap each_once (drop-cons keys i 0 h) ∙ rw add-one (once_cons (get_or keys i 0) (drop (suc i) keys))
 
   pub names_none : names_issuer (get_or keys i 0) ≡ false → false ≡ each_once keys
-  names_none e = sym (once_drop keys i (once-at ∙ rw e))
+  names_none e = sym (once_drop keys i (once_at ∙ rw e))
 
   pub comes_twice : is_among (get_or keys i 0) (drop (i + 1) keys) ≡ true → false ≡ each_once keys
-  comes_twice e = sym (once_drop keys i (once-at ∙ rw (e, and-false)))
+  comes_twice e = sym (once_drop keys i (once_at ∙ rw (e, and-false)))
 
   pub one_more : (lowest : ℕ) → names_issuer (get_or keys i 0) ≡ true → is_among (get_or keys i 0) (drop (i + 1) keys) ≡ false
       → each_once (drop (i + 1) keys) ≡ true → all (leb lowest) (drop (i + 1) keys) ≡ true
@@ -136,7 +136,7 @@ module _ (keys : List ℕ) (i : ℕ) (h : i < length keys) where
       let low : all (leb (min key lowest)) (key ∷ rest) ≡ true = (and-eq-true_iff (leb (min key lowest) key) (all (leb (min key lowest)) rest)).1
       (le-leb (min key lowest) key (omega arith), all_from_lower (min key lowest) lowest rest (omega arith) from) in
       let cons : drop i keys ≡ key ∷ rest = rw add-one (drop-cons keys i 0 h) in
-      (once-at ∙ rw (names, apart, once), rw cons low)
+      (once_at ∙ rw (names, apart, once), rw cons low)
 
 -- no key is left; the rest behind the key before an index
 pub once_none : (keys : List ℕ) (lowest : ℕ) → (each_once (drop (length keys) keys) ≡ true) × (all (leb lowest) (drop (length keys) keys) ≡ true)

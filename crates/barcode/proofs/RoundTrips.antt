@@ -91,8 +91,8 @@ heads : {a b : ℕ} {c d : List ℕ} → a ≡ b → c ≡ d → ◌≡◌ {A = 
 heads p q = cc
 
 module _ (code : List ℕ) (g : Good code) where
-  part-digits : (from count : ℕ) → from + count ≤ 44 → digits_of count (number_of (take count (drop from code))) ≡ take count (drop from code)
-  part-digits from count fits =
+  part_digits : (from count : ℕ) → from + count ≤ 44 → digits_of count (number_of (take count (drop from code))) ≡ take count (drop from code)
+  part_digits from count fits =
       let l : length (take count (drop from code)) ≡ count = length-take-le count (drop from code) (omega (arith, g.long, length-drop from code)) in
       rw l at (digits_of_number (take count (drop from code)) (all_of_part (is_of Digit) from count code g.digits))
 
@@ -105,25 +105,25 @@ module _ (code : List ℕ) (g : Good code) where
       cc (drop-drop (e - 15) 15 code, take-append-drop (e - 15) (drop 15 code)) in
       cc (drop-drop 11 4 code, take-append-drop 11 (drop 4 code))
 
-  tail-back : tail_of (issuer_of code) (number_of (part_at value code)) (free_of code) ≡ drop 4 code
-  tail-back =
+  tail_back : tail_of (issuer_of code) (number_of (part_at value code)) (free_of code) ≡ drop 4 code
+  tail_back =
       let s = digit_at 2 code in
       let range = issuer_end_range s in
       let b : issuer_end s + 1 - 1 ≡ issuer_end s = omega arith in
-      rw (part-digits 4 11 (omega arith), part-digits 15 (issuer_end s - 15) (omega arith), b) (seams (issuer_end s) range.0 range.1)
+      rw (part_digits 4 11 (omega arith), part_digits 15 (issuer_end s - 15) (omega arith), b) (seams (issuer_end s) range.0 range.1)
 
-  digit-byte : (i : ℕ) → i < 44 → 48 + value_of (get_or code i 0) ≡ get_or code i 0
-  digit-byte i h = byte_back (get_or code i 0) (all_at (is_of Digit) code i g.digits (omega (arith, g.long)))
+  digit_byte : (i : ℕ) → i < 44 → 48 + value_of (get_or code i 0) ≡ get_or code i 0
+  digit_byte i h = byte_back (get_or code i 0) (all_at (is_of Digit) code i g.digits (omega (arith, g.long)))
 
-  head-back : head_of (digit_at 2 code) (digit_at 3 code) ≡ get_or code 0 0 ∷ get_or code 1 0 ∷ get_or code 2 0 ∷ []
-  head-back =
+  head_back : head_of (digit_at 2 code) (digit_at 3 code) ≡ get_or code 0 0 ∷ get_or code 1 0 ∷ get_or code 2 0 ∷ []
+  head_back =
       let first = ((first_three_accepts code).0 g.first_three).0 in
-      let p : 48 + product ≡ get_or code 0 0 = omega (arith, first, digit-byte 0 (omega arith)) in
-      rw (digit-byte 1 (omega arith), digit-byte 2 (omega arith), p)
+      let p : 48 + product ≡ get_or code 0 0 = omega (arith, first, digit_byte 0 (omega arith)) in
+      rw (digit_byte 1 (omega arith), digit_byte 2 (omega arith), p)
 
   -- the 43 digits, and the whole
-  checked-back : gather checked code ≡ get_or code 0 0 ∷ get_or code 1 0 ∷ get_or code 2 0 ∷ drop 4 code
-  checked-back =
+  checked_back : gather checked code ≡ get_or code 0 0 ∷ get_or code 1 0 ∷ get_or code 2 0 ∷ drop 4 code
+  checked_back =
       let t : take 40 (drop 4 code) ++ [] ≡ drop 4 code = append-nil (take 40 (drop 4 code)) ∙ take_all 40 (drop 4 code) (omega (arith, g.long, length-drop 4 code)) in
       rw t (three (drop 4 code) code g.long)
     where
@@ -143,15 +143,15 @@ module _ (code : List ℕ) (g : Good code) where
       four (a ∷ b ∷ c ∷ []) h = absurd (omega arith)
       four (a ∷ b ∷ c ∷ d ∷ l) h = refl
 
-  check-back : 48 + check_for (issuer_of code) (digit_at 3 code) (number_of (part_at value code)) (free_of code) ≡ get_or code 3 0
+  check_back : 48 + check_for (issuer_of code) (digit_at 3 code) (number_of (part_at value code)) (free_of code) ≡ get_or code 3 0
   unfolding general_right
-  check-back =
+  check_back =
       let same : head_of (digit_at 2 code) (digit_at 3 code) ++ tail_of (issuer_of code) (number_of (part_at value code)) (free_of code) ≡ gather checked code
-      = joins head-back tail-back ∙ sym checked-back in
+      = joins head_back tail_back ∙ sym checked_back in
       ap (λ (l : List ℕ). 48 + check_of (modulus_of (digit_at 3 code)) l) same ∙ sym (eqb-true (get_or code 3 0) (48 + general_check code) g.general)
 
-  built-back : built_of (issuer_of code) (digit_at 3 code) (number_of (part_at value code)) (free_of code) ≡ code
-  built-back = joins head-back (heads check-back tail-back) ∙ sym whole
+  built_back : built_of (issuer_of code) (digit_at 3 code) (number_of (part_at value code)) (free_of code) ≡ code
+  built_back = joins head_back (heads check_back tail_back) ∙ sym whole
 
 part_length : (code : List ℕ) (from count : ℕ) → length code ≡ 44 → from + count ≤ 44 → length (take count (drop from code)) ≡ count
 part_length code from count n h = length-take-le count (drop from code) (omega (arith, length-drop from code))
@@ -175,34 +175,34 @@ code_is_its_fields agreed code e =
       long = part_length code (issuer_end s + 1 - 1) (44 - (issuer_end s + 1 - 1)) n (omega arith);
       digits = all_of_part (is_of Digit) (issuer_end s + 1 - 1) (44 - (issuer_end s + 1 - 1)) code g.digits;
     }) in
-    (rw (told.0, built, told.2), built-back code g)
+    (rw (told.0, built, told.2), built_back code g)
 
 pub fields_are_its_places : FieldsAreItsPlaces
 fields_are_its_places agreed code h =
     let e = sym (decoded_answers agreed code) ∙ h in
     let g = good code (check_tells agreed code e).1 in
     let range = issuer_end_range (digit_at 2 code) in
-    let shows : ShowsItsPlaces agreed code (fields_of agreed code) = record { amount = part-digits code g 4 11 (omega arith); number = part-digits code g 15 (issuer_end (digit_at 2 code) - 15) (omega arith); rest = rw e } in
+    let shows : ShowsItsPlaces agreed code (fields_of agreed code) = record { amount = part_digits code g 4 11 (omega arith); number = part_digits code g 15 (issuer_end (digit_at 2 code) - 15) (omega arith); rest = rw e } in
     rw e shows
 
 -- What was built.
 module _ (i : Issuer) (kind amount : ℕ) (rest : List ℕ) (fit : WithinRanges i kind amount rest) where
-  tail-digits : all (is_of Digit) (tail_of i amount rest) ≡ true
-  tail-digits =
+  tail_digits : all (is_of Digit) (tail_of i amount rest) ≡ true
+  tail_digits =
       let w = width_of (issuer i.segment) in
       all_joins (is_of Digit) (digits_of 11 amount) (digits_of w i.number ++ rest)
       ∙ rw ((digits_fill 11 amount).1, all_joins (is_of Digit) (digits_of w i.number) rest, (digits_fill w i.number).1, fit.digits)
 
-  built-digits : all (is_of Digit) (built_of i kind amount rest) ≡ true
-  built-digits =
+  built_digits : all (is_of Digit) (built_of i kind amount rest) ≡ true
+  built_digits =
       let check = check_is_a_digit (modulus_of kind) (head_of i.segment kind ++ tail_of i amount rest) in
-      rw ((digit_back 8 (omega arith)).0, (digit_back i.segment (segment_small i.segment fit.segment)).0, (digit_back kind (kind_small kind fit.kinds)).0, check, tail-digits)
+      rw ((digit_back 8 (omega arith)).0, (digit_back i.segment (segment_small i.segment fit.segment)).0, (digit_back kind (kind_small kind fit.kinds)).0, check, tail_digits)
 
-  built-good : Good (built_of i kind amount rest)
+  built_good : Good (built_of i kind amount rest)
   unfolding general_right
-  built-good = record {
+  built_good = record {
     long = code_length_holds i kind amount rest fit (check_for i kind amount rest);
-    digits = built-digits;
+    digits = built_digits;
     first_three = (first_three_accepts (built_of i kind amount rest)).1 (
       (digit_back 8 (omega arith)).1,
       rw (digit_back i.segment (segment_small i.segment fit.segment)).1 fit.segment,
@@ -212,21 +212,21 @@ module _ (i : Issuer) (kind amount : ℕ) (rest : List ℕ) (fit : WithinRanges 
   }
 
   -- its parts, one behind the other
-  amount-read : number_of (part_at value (built_of i kind amount rest)) ≡ amount
-  amount-read =
+  amount_read : number_of (part_at value (built_of i kind amount rest)) ≡ amount
+  amount_read =
       ap number_of (take_at (digits_of 11 amount) (digits_of (width_of (issuer i.segment)) i.number ++ rest) 11 (digits_fill 11 amount).0)
       ∙ number_of_digits 11 amount fit.amounts
 
-  behind-amount : drop 11 (tail_of i amount rest) ≡ digits_of (width_of (issuer i.segment)) i.number ++ rest
-  behind-amount = drop_at (digits_of 11 amount) (digits_of (width_of (issuer i.segment)) i.number ++ rest) 11 (digits_fill 11 amount).0
+  behind_amount : drop 11 (tail_of i amount rest) ≡ digits_of (width_of (issuer i.segment)) i.number ++ rest
+  behind_amount = drop_at (digits_of 11 amount) (digits_of (width_of (issuer i.segment)) i.number ++ rest) 11 (digits_fill 11 amount).0
 
   number_read : number_of (part_at (issuer i.segment) (built_of i kind amount rest)) ≡ i.number
   number_read =
       let w = width_of (issuer i.segment) in
-      ap (λ (l : List ℕ). number_of (take w l)) behind-amount ∙ ap number_of (take_at (digits_of w i.number) rest w (digits_fill w i.number).0) ∙ number_of_digits w i.number fit.number
+      ap (λ (l : List ℕ). number_of (take w l)) behind_amount ∙ ap number_of (take_at (digits_of w i.number) rest w (digits_fill w i.number).0) ∙ number_of_digits w i.number fit.number
 
-  free-read : part_at (free i.segment) (built_of i kind amount rest) ≡ rest
-  free-read =
+  free_read : part_at (free i.segment) (built_of i kind amount rest) ≡ rest
+  free_read =
       let e = issuer_end i.segment in
       let w = width_of (issuer i.segment) in
       let code = built_of i kind amount rest in
@@ -234,7 +234,7 @@ module _ (i : Issuer) (kind amount : ℕ) (rest : List ℕ) (fit : WithinRanges 
       let b : e + 1 - 1 ≡ e = omega arith in
       let n : 15 + w ≡ e = omega arith in
       let f : drop e code ≡ rest =
-      ap (λ (x : ℕ). drop x code) (sym n) ∙ sym (drop-drop w 15 code) ∙ ap (drop w) behind-amount ∙ drop_at (digits_of w i.number) rest w (digits_fill w i.number).0 in
+      ap (λ (x : ℕ). drop x code) (sym n) ∙ sym (drop-drop w 15 code) ∙ ap (drop w) behind_amount ∙ drop_at (digits_of w i.number) rest w (digits_fill w i.number).0 in
       rw (b, f) (take_all (44 - e) rest (omega (arith, fit.long)))
 
 -- issuer and free field are read as they were given
@@ -247,7 +247,7 @@ module _ (i : Issuer) (kind amount : ℕ) (rest : List ℕ) (fit : WithinRanges 
   pub rest_read : free_of (built_of i kind amount rest) ≡ rest
   rest_read =
       let sg = (digit_back i.segment (segment_small i.segment fit.segment)).1 in
-      rw sg (free-read i kind amount rest fit)
+      rw sg (free_read i kind amount rest fit)
 
 pub built_is_read : BuiltIsRead
 built_is_read agreed i kind amount rest e =
@@ -257,7 +257,7 @@ built_is_read agreed i kind amount rest e =
     let issuer = issuer_read i kind amount rest fit in
     let free = rest_read i kind amount rest fit in
     let due : due_answer agreed code ≡ Accepted = rw (issuer, free) told.2 in
-    let a : barcode_check agreed code ≡ Accepted = rw (told.0, accepted code (built-good i kind amount rest fit), due) in
-    let amounts = amount-read i kind amount rest fit in
+    let a : barcode_check agreed code ≡ Accepted = rw (told.0, accepted code (built_good i kind amount rest fit), due) in
+    let amounts = amount_read i kind amount rest fit in
     let kinds = (digit_back kind (kind_small kind fit.kinds)).1 in
     (rw (a, kinds, amounts, issuer, free), rw a free)

@@ -91,8 +91,8 @@ get_d_front (l ∷ ls) x zero h = refl
 get_d_front (l ∷ ls) x (suc q) h = get_d_front ls x q (omega arith)
 
 module _ (ls : List Lane) (q : ℕ) (first : FirstAt ls q) (x : Lane) where
-  first-set : (k : ℕ) → k < length ls → x.issuer ≡ (get_or ls k blank).issuer → FirstAt (set ls k x) q
-  first-set k h e i inside t =
+  first_set : (k : ℕ) → k < length ls → x.issuer ≡ (get_or ls k blank).issuer → FirstAt (set ls k x) q
+  first_set k h e i inside t =
       index_set i ls k x h e
       ∙ first i (rw (length-set ls k x) at inside)
       (ap (λ (j : Issuer). same_issuer j i) (sym (issuer_set ls k q x h e)) ∙ t)
@@ -141,7 +141,7 @@ module _ (b : Board) (full : length b.lanes ≡ most_lanes) (p : Lane) (k : ℕ)
           let hit = index_hit p.issuer (lanes_of b) (rw found at h) in
           let own : (get_or (lanes_of b) k blank).issuer ≡ p.issuer =
           same_is (get_or (lanes_of b) k blank).issuer p.issuer (rw found hit) in
-          rw ls (first-set (lanes_of b) q first e.slot.lane k h (same ∙ sym own))
+          rw ls (first_set (lanes_of b) q first e.slot.lane k h (same ∙ sym own))
 
       behind : length (lanes_of b) ≤ k → FirstAt (lanes_of after) q
       behind h =

@@ -32,16 +32,16 @@ same_is i j e =
 -- a number to which a payment adds its own, at its issuer's lane
 module _ (v : Lane → ℕ)
     (grows : (l p : Lane) → is_lane_of p.issuer l ≡ true → v (grown_lane l.tally p) ≡ v l + v p) where
-  placed-sum : (p : Lane) (ls : List Lane) → sum_by v (placed p ls) ≡ sum_by v ls + v p
-  placed-sum p [] = omega arith
-  placed-sum p (l ∷ ls) =
+  placed_sum : (p : Lane) (ls : List Lane) → sum_by v (placed p ls) ≡ sum_by v ls + v p
+  placed_sum p [] = omega arith
+  placed_sum p (l ∷ ls) =
       split (λ (m : List Lane). sum_by v m ≡ v l + sum_by v ls + v p) (is_lane_of p.issuer l)
       (λ t. omega (arith, grows l p t))
-      (λ t. omega (arith, placed-sum p ls))
+      (λ t. omega (arith, placed_sum p ls))
 
-  placed-all-sum : (ls ps : List Lane) → sum_by v (placed_all ls ps) ≡ sum_by v ls + sum_by v ps
-  placed-all-sum ls [] = omega arith
-  placed-all-sum ls (p ∷ ps) = omega (arith, placed-all-sum (placed p ls) ps, placed-sum p ls)
+  placed_all_sum : (ls ps : List Lane) → sum_by v (placed_all ls ps) ≡ sum_by v ls + sum_by v ps
+  placed_all_sum ls [] = omega arith
+  placed_all_sum ls (p ∷ ps) = omega (arith, placed_all_sum (placed p ls) ps, placed_sum p ls)
 
 pub payments_add : PaymentsAdd
 payments_add a b = refl
@@ -53,10 +53,10 @@ pub tariffs_add : TariffsAdd
 tariffs_add a b = refl
 
 pub sums_agree : SumsAgree
-sums_agree w adds ps = placed-all-sum (each w) (λ l p t. adds l.tally p.tally) [] ps ∙ omega arith
+sums_agree w adds ps = placed_all_sum (each w) (λ l p t. adds l.tally p.tally) [] ps ∙ omega arith
 
 pub own_sums_agree : OwnSumsAgree
-own_sums_agree w adds i ps = placed-all-sum (only i w) grows [] ps ∙ omega arith
+own_sums_agree w adds i ps = placed_all_sum (only i w) grows [] ps ∙ omega arith
   where
     both : (a b : Tally) (t u : Bool) → t ≡ u → cond u (w (plus a b)) 0 ≡ cond t (w a) 0 + cond u (w b) 0
     both a b true true e = adds a b
@@ -87,7 +87,7 @@ same_sum ls ms h =
 pub placed_kept : (p : Lane) (ls : List Lane) → tally_sum (placed p ls) ≡ tally_sum (p ∷ ls)
 placed_kept p ls =
     same_sum (placed p ls) (p ∷ ls)
-    (λ w adds. placed-sum (each w) (λ l q t. adds l.tally q.tally) p ls ∙ omega arith)
+    (λ w adds. placed_sum (each w) (λ l q t. adds l.tally q.tally) p ls ∙ omega arith)
 
 pub sum_is_kept : SumIsKept
 sum_is_kept ps = same_sum (lanes_from ps) ps (λ w adds. sums_agree w adds ps)

@@ -109,43 +109,43 @@ tariffs_pass_last b p =
 -- at index k: the issuer's lane or the first free one
 module _ (b : Board) (p : Lane) (s : SoundBoard b) (k : ℕ) (is : k ≡ index_of p.issuer (lanes_of b))
     (free : k < most_lanes) where
-  stored-placed : (t : Bool) → ltb k b.used ≡ t
+  stored_placed : (t : Bool) → ltb k b.used ≡ t
       → take (cond t b.used (k + 1)) (set b.lanes k (grown_lane (cond t (get_or b.lanes k blank).tally empty_tally) p))
       ≡ placed p (lanes_of b)
-  stored-placed true e =
+  stored_placed true e =
       let h : k < b.used = ltb-true k b.used e in
       let found = placed_found p (lanes_of b) (omega (arith, length_lanes b s)) in
       take-set-lt b.used b.lanes k (grown_lane (get_or b.lanes k blank).tally p) h ∙
       ap (λ (l : Lane). set (lanes_of b) k (grown_lane l.tally p)) (sym (get_or-take b.used b.lanes k blank h)) ∙
       rw (← is) at found
-  stored-placed false e =
+  stored_placed false e =
       let h = ltb-false k b.used e in
       let n = length_lanes b s in
       let last : k ≡ b.used = omega (arith, index_within p.issuer (lanes_of b)) in
       let new = placed_new p (lanes_of b) (omega arith) in
       rw (add-one k, first_grown p) (take-suc-set b.lanes k p (omega (arith, s.full)) ∙ rw last new)
 
-  stored-few : (t : Bool) → cond t b.used (k + 1) ≤ most_lanes
-  stored-few true = s.few
-  stored-few false = omega arith
+  stored_few : (t : Bool) → cond t b.used (k + 1) ≤ most_lanes
+  stored_few true = s.few
+  stored_few false = omega arith
 
 module _ (b : Board) (p : Lane) (s : SoundBoard b) where
   pub with_placed : index_of p.issuer (lanes_of b) < most_lanes → lanes_of (board_with b p) ≡ placed p (lanes_of b)
   unfolding own_of used_after
   with_placed free =
-      stored-placed b p s (index_of p.issuer (lanes_of b)) refl free
+      stored_placed b p s (index_of p.issuer (lanes_of b)) refl free
       (ltb (index_of p.issuer (lanes_of b)) b.used) refl
 
-  with-few : index_of p.issuer (lanes_of b) < most_lanes → (board_with b p).used ≤ most_lanes
+  with_few : index_of p.issuer (lanes_of b) < most_lanes → (board_with b p).used ≤ most_lanes
   unfolding used_after
-  with-few free =
-      stored-few b p s (index_of p.issuer (lanes_of b)) refl free (ltb (index_of p.issuer (lanes_of b)) b.used)
+  with_few free =
+      stored_few b p s (index_of p.issuer (lanes_of b)) refl free (ltb (index_of p.issuer (lanes_of b)) b.used)
 
   pub with_sound : Fit b p → SoundBoard (board_with b p)
   with_sound f =
       record {
         full = simp length-set s.full;
-        few = with-few f.free;
+        few = with_few f.free;
         once = rw (with_placed f.free) (placed_distinct p (lanes_of b) s.once);
         total =
             rw (with_placed f.free, placed_kept p (lanes_of b), s.total) (plus_swap (tally_sum (lanes_of b)) p.tally);

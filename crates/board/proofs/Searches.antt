@@ -40,19 +40,19 @@ module _ (b : Board) (full : length b.lanes ≡ most_lanes) (i : Issuer) where
 
   module _ (to k : ℕ) (inv : Searched b i to k) where
     -- one lane more is tested
-    lane-next : k < to → index_of i (take (to - k) (drop k (lanes_of b)))
+    lane_next : k < to → index_of i (take (to - k) (drop k (lanes_of b)))
         ≡ cond (is_lane_of i (get_or b.lanes k blank)) 0
         (suc (index_of i (take (to - (k + 1)) (drop (k + 1) (lanes_of b)))))
-    lane-next h =
+    lane_next h =
         let more : to - k ≡ suc (to - (k + 1)) = omega arith in
         let here = get_or-take b.used b.lanes k blank (omega (arith, inv.1)) in
         rw (more, drop-cons (lanes_of b) k blank (omega (arith, in_use b full, inv.1)), here, add-one k)
 
     pub search_on : k < to → is_lane_of i (get_or b.lanes k blank) ≡ false → Searched b i to (k + 1)
-    search_on h t = (omega arith, inv.1, inv.2 ∙ rw (lane-next h, t) (omega arith))
+    search_on h t = (omega arith, inv.1, inv.2 ∙ rw (lane_next h, t) (omega arith))
 
     pub search_hits : k < to → is_lane_of i (get_or b.lanes k blank) ≡ true → k ≡ index_of i (lanes_of b)
-    search_hits h t = sym (inv.2 ∙ rw (lane-next h, t) (omega arith))
+    search_hits h t = sym (inv.2 ∙ rw (lane_next h, t) (omega arith))
 
     pub search_ends : to ≤ k → k ≡ index_of i (lanes_of b)
     search_ends h = let none : to - k ≡ 0 = omega arith in sym (inv.2 ∙ rw none (omega arith))

@@ -50,8 +50,8 @@ pub sums_accept : (lane total : Tally)
     → (sums_answer lane total ≡ Accepted) ↔ ((fits lane ≡ true) × (fits total ≡ true))
 unfolding sums_answer
 sums_accept lane total =
-    let older = both-fit (payments_fit lane) (payments_fit total) received_place in
-    let tariffs = both-fit (tariff_fits lane) (tariff_fits total) tariff_place in
+    let older = both_fit (payments_fit lane) (payments_fit total) received_place in
+    let tariffs = both_fit (tariff_fits lane) (tariff_fits total) tariff_place in
     let two =
     then_accepts (require (payments_fit lane && payments_fit total) BoardTotalPassed received_place)
     (require (tariff_fits lane && tariff_fits total) BoardTotalPassed tariff_place) in (
@@ -65,9 +65,9 @@ sums_accept lane total =
           two.1 (older.1 (l.0, t.0), tariffs.1 (l.1, t.1)),
     )
   where
-    both-fit : (t u : Bool) (place : ℕ)
+    both_fit : (t u : Bool) (place : ℕ)
         → (require (t && u) BoardTotalPassed place ≡ Accepted) ↔ ((t ≡ true) × (u ≡ true))
-    both-fit t u place =
+    both_fit t u place =
         let one = require_accepts (t && u) BoardTotalPassed place in
         let both = and-eq-true_iff t u in
         (λ e. both.0 (one.0 e), λ h. one.1 (both.1 h))

@@ -70,9 +70,9 @@ module _ (bs : List ℕ) where
 -- Bytes that are a date are its spelling.
 
 module _ (bs : List ℕ) (n : length bs ≡ 8) (a : all (is_of Digit) bs ≡ true) where
-  part-spelled : (from count : ℕ) → from + count ≤ 8
+  part_spelled : (from count : ℕ) → from + count ≤ 8
       → digits_of count (number_of (take count (drop from bs))) ≡ take count (drop from bs)
-  part-spelled from count fits =
+  part_spelled from count fits =
       let l : length (take count (drop from bs)) ≡ count = length_piece from count bs (omega arith) in
       rw l at (digits_of_number (take count (drop from bs)) (all_of_part (is_of Digit) from count bs a))
 
@@ -81,7 +81,7 @@ module _ (bs : List ℕ) (n : length bs ≡ 8) (a : all (is_of Digit) bs ≡ tru
       let l : length (drop 6 bs) ≤ 2 = omega (arith, length-drop 6 bs) in
       let e : take 2 (drop 4 bs) ++ take 2 (drop 6 bs) ≡ drop 4 bs =
       cc (take_all 2 (drop 6 bs) l, drop-drop 2 4 bs, take-append-drop 2 (drop 4 bs)) in
-      rw (part-spelled 0 4 (omega arith), part-spelled 4 2 (omega arith), part-spelled 6 2 (omega arith), e) (take-append-drop 4 bs)
+      rw (part_spelled 0 4 (omega arith), part_spelled 4 2 (omega arith), part_spelled 6 2 (omega arith), e) (take-append-drop 4 bs)
 
 pub date_is_its_spelling : DateIsItsSpelling
 unfolding date_of
@@ -108,16 +108,16 @@ unfolding small
 smalls = refl
 
 module _ (y m : ℕ) where
-  few-months : 1 ≤ days_in y m → m ≤ 12
-  few-months h = go (leb m 12) refl
+  few_months : 1 ≤ days_in y m → m ≤ 12
+  few_months h = go (leb m 12) refl
     where
       go : (t : Bool) → leb m 12 ≡ t → m ≤ 12
       go true e = leb-true m 12 e
       go false e = absurd (omega (arith, no_month y m (leb-false m 12 e)))
 
-  few-days : m ≤ 12 → days_in y m ≤ 31
+  few_days : m ≤ 12 → days_in y m ≤ 31
   unfolding days_in small
-  few-days h = go (eqb m 2 && is_leap y)
+  few_days h = go (eqb m 2 && is_leap y)
     where
       go : (t : Bool) → cond t 29 (get_or months m 0) ≤ 31
       go true = omega arith
@@ -130,8 +130,8 @@ in_range d h =
     let both = (and-eq-true_iff (within 1900 2199 d.year) (within 1 n d.day)).0 h in
     let year = within_bounds 1900 2199 d.year both.0 in
     let days = within_bounds 1 n d.day both.1 in
-    let month = few-months d.year d.month (omega arith) in
-    let most = few-days d.year d.month month in
+    let month = few_months d.year d.month (omega arith) in
+    let most = few_days d.year d.month month in
     (omega arith, omega arith, omega arith)
 
 -- three stretches of digits, read back
@@ -140,8 +140,8 @@ module _ (a b c : List ℕ) (la : length a ≡ 4) (lb : length b ≡ 2) (lc : le
       → all (is_of Digit) (a ++ (b ++ c)) ≡ true
   all_three da db dc = rw (all_joins (is_of Digit) a (b ++ c), da, all_joins (is_of Digit) b c, db, dc)
 
-  spelled-three : spelled (a ++ (b ++ c)) ≡ record { year = number_of a; month = number_of b; day = number_of c }
-  spelled-three =
+  spelled_three : spelled (a ++ (b ++ c)) ≡ record { year = number_of a; month = number_of b; day = number_of c }
+  spelled_three =
       let e : drop 6 (a ++ (b ++ c)) ≡ c = cc (drop-drop 2 4 (a ++ (b ++ c)), drop_at a (b ++ c) 4 la, drop_at b c 2 lb) in
       rw (take_at a (b ++ c) 4 la, drop_at a (b ++ c) 4 la, take_at b c 2 lb, e, take_all 2 c (omega arith))
 
@@ -156,5 +156,5 @@ spelling_is_its_date d h =
     let c = digits_of 2 d.day in
     let n : length (a ++ (b ++ c)) ≡ 8 = omega (arith, length-append a (b ++ c), length-append b c) in
     let e : d ≡ spelled (a ++ (b ++ c)) =
-    rw (spelled-three a b c y.0 m.0 t.0, number_of_digits 4 d.year range.0, number_of_digits 2 d.month range.1, number_of_digits 2 d.day range.2) in
+    rw (spelled_three a b c y.0 m.0 t.0, number_of_digits 4 d.year range.0, number_of_digits 2 d.month range.1, number_of_digits 2 d.day range.2) in
     sym (judged (a ++ (b ++ c)) n (all_three a b c y.0 m.0 t.0 y.1 m.1 t.1) e (sym h))

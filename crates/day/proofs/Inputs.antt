@@ -63,8 +63,8 @@ module _ (day : RunResult) (left b : List ℕ) (bs : List (List ℕ)) (last : Li
   abbrev next : RunResult
   next = run_buffer_of day true (left ++ b)
 
-  abbrev next-left : List ℕ
-  next-left = left_of day.session (left ++ b)
+  abbrev next_left : List ℕ
+  next_left = left_of day.session (left ++ b)
 
   abbrev rest : List ℕ
   rest = bytes_of bs ++ last
@@ -72,14 +72,14 @@ module _ (day : RunResult) (left b : List ℕ) (bs : List (List ℕ)) (last : Li
   in_order : (left ++ b) ++ rest ≡ left ++ (bytes_of (b ∷ bs) ++ last)
   in_order = append_assoc left b rest ∙ ap (λ (l : List ℕ). left ++ l) (sym (append_assoc b (bytes_of bs) last))
 
-  until-buffer :
+  until_buffer :
       (a : Answer) → next.answer ≡ a
-      → run_until_refused next next-left bs last ≡ run_buffer_of next false (next-left ++ rest)
+      → run_until_refused next next_left bs last ≡ run_buffer_of next false (next_left ++ rest)
       → run_until_refused day left (b ∷ bs) last ≡ run_buffer_of day false ((left ++ b) ++ rest)
-  until-buffer Accepted e on =
-      let goes : run_until_refused day left (b ∷ bs) last ≡ run_until_refused next next-left bs last = rw e in
+  until_buffer Accepted e on =
+      let goes : run_until_refused day left (b ∷ bs) last ≡ run_until_refused next next_left bs last = rw e in
       goes ∙ on ∙ accepted_then day false (left ++ b) rest e
-  until-buffer (Refused why place) e on =
+  until_buffer (Refused why place) e on =
       let stops : run_until_refused day left (b ∷ bs) last ≡ next = rw e in
       stops ∙ refused_then day false (left ++ b) rest (not_both next.answer e)
 
@@ -89,7 +89,7 @@ until_refused :
 until_refused day left [] last = refl
 until_refused day left (b ∷ bs) last =
     let on = until_refused (run_buffer_of day true (left ++ b)) (left_of day.session (left ++ b)) bs last in
-    until-buffer day left b bs last (run_buffer_of day true (left ++ b)).answer refl on
+    until_buffer day left b bs last (run_buffer_of day true (left ++ b)).answer refl on
     ∙ ap (run_buffer_of day false) (in_order day left b bs last)
 
 pub buffers_print_one_page : BuffersPrintOnePage

@@ -91,8 +91,8 @@ module _ {t : Terms} {f : Field} {fs : List Field} {given amounts made : List �
   pub placed : InRecord f
   placed = record { start = omega (arith, here.here); order = omega (arith, here.here, here.wide); end = ends.1 }
 
-  piece-length : length (take (given_width f) (drop at given)) ≡ (given_of f.kind (width_of (stretch_of f))).to - (given_of f.kind (width_of (stretch_of f))).from
-  piece-length = length-take-le (given_width f) (drop at given) (omega (arith, length-drop at given, m.left)) ∙ sym (given_width_is f placed.start)
+  piece_length_holds : length (take (given_width f) (drop at given)) ≡ (given_of f.kind (width_of (stretch_of f))).to - (given_of f.kind (width_of (stretch_of f))).from
+  piece_length_holds = length-take-le (given_width f) (drop at given) (omega (arith, length-drop at given, m.left)) ∙ sym (given_width_is f placed.start)
 
   -- the bytes of the record up to it, and all of them
   filled : (ys : List ℕ) → length ys ≡ width_of (stretch_of f)
@@ -115,7 +115,7 @@ module _ {t : Terms} {f : Field} {fs : List Field} {given amounts made : List �
 
     pub fits_part : (x : ℕ)
         → length (written_of f.kind (length (take (f.last - done) (drop done made))) (take (at + wide - at) (drop at given)) x) ≡ length (take (f.last - done) (drop done made))
-    fits_part x = rw (width, piece) (written_length f.kind (width_of (stretch_of f)) (take (given_width f) (drop at given)) x fit.0 piece-length)
+    fits_part x = rw (width, piece) (written_length f.kind (width_of (stretch_of f)) (take (given_width f) (drop at given)) x fit.0 piece_length_holds)
 
     -- the answer of the call, in the table's words
     module _ {a : Answer} {x : ℕ} (ax : x ≡ get_or amounts used 0)
@@ -123,19 +123,19 @@ module _ {t : Terms} {f : Field} {fs : List Field} {given amounts made : List �
       amount : x ≡ get_or (drop used amounts) 0 0
       amount = let z : used + 0 ≡ used = omega arith in ax ∙ ap (λ (k : ℕ). get_or amounts k 0) (sym z) ∙ sym (get_or-drop used amounts 0 0)
 
-      answered-as : a ≡ written_answer t f.kind (width_of (stretch_of f)) (take (given_width f) (drop at given)) (get_or (drop used amounts) 0 0)
-      answered-as = q ∙ rw (width, piece, ← amount)
+      answered_as : a ≡ written_answer t f.kind (width_of (stretch_of f)) (take (given_width f) (drop at given)) (get_or (drop used amounts) 0 0)
+      answered_as = q ∙ rw (width, piece, ← amount)
 
       near : (answer_place a ≤ 151) × (done ≤ 150)
       near =
-          let l = written_length f.kind (width_of (stretch_of f)) (take (given_width f) (drop at given)) (get_or (drop used amounts) 0 0) fit.0 piece-length in
+          let l = written_length f.kind (width_of (stretch_of f)) (take (given_width f) (drop at given)) (get_or (drop used amounts) 0 0) fit.0 piece_length_holds in
           let s : width_of (stretch_of f) ≤ 150 = omega (arith, ends.1) in
-          (rw answered-as (put_place t f.kind (width_of (stretch_of f)) (take (given_width f) (drop at given)) (get_or (drop used amounts) 0 0) l s), omega (arith, ends.0, ends.1))
+          (rw answered_as (put_place t f.kind (width_of (stretch_of f)) (take (given_width f) (drop at given)) (get_or (drop used amounts) 0 0) l s), omega (arith, ends.0, ends.1))
 
       pub refuses : {b : Answer} {why : Reason} {p : ℕ} → a ≡ Refused why p → b ≡ moved_by (capped_behind done) a → b ≡ r
       refuses {b} {why} {p} e2 h =
           let z : field_made_answer t f (drop at given) (drop used amounts) ≡ Refused why (behind done p) =
-          ap (moved_by (behind (f.first - 1))) (sym answered-as ∙ e2) ∙ ap (λ (k : ℕ). Refused why (behind k p)) front in
+          ap (moved_by (behind (f.first - 1))) (sym answered_as ∙ e2) ∙ ap (λ (k : ℕ). Refused why (behind k p)) front in
           h ∙ behind_is_exact done a (omega (arith, near)) ∙ rw e2 (rw z at m.answer)
 
       pub step : {n u : ℕ} {ys : List ℕ} → a ≡ Accepted → n ≡ at + wide → u ≡ cond (is_money f.kind) (used + 1) used
@@ -143,12 +143,12 @@ module _ {t : Terms} {f : Field} {fs : List Field} {given amounts made : List �
           → Making t fs given amounts (take done made ++ (ys ++ drop (f.last - done) (drop done made))) f.last n u r whole
       step {n} {u} {ys} e2 en eu ey =
           let y : ys ≡ field_made f (drop at given) (drop used amounts) = ey ∙ rw (width, piece, ← amount) in
-          let ly : length ys ≡ width_of (stretch_of f) = rw y (written_length f.kind (width_of (stretch_of f)) (take (given_width f) (drop at given)) (get_or (drop used amounts) 0 0) fit.0 piece-length) in
+          let ly : length ys ≡ width_of (stretch_of f) = rw y (written_length f.kind (width_of (stretch_of f)) (take (given_width f) (drop at given)) (get_or (drop used amounts) 0 0) fit.0 piece_length_holds) in
           let rest = drop (f.last - done) (drop done made) in
           let tk : take f.last (take done made ++ (ys ++ rest)) ≡ take done made ++ ys = rw (← append_assoc (take done made) ys rest) (take_at (take done made ++ ys) rest f.last (filled ys ly).0) in
           let gn : drop n given ≡ drop (given_width f) (drop at given) = rw (en, e) (sym (drop-drop (given_width f) at given)) in
           let un : drop u amounts ≡ amounts_after f (drop used amounts) = rw eu (used_on (is_money f.kind) used amounts) in
-          let z : field_made_answer t f (drop at given) (drop used amounts) ≡ Accepted = ap (moved_by (behind (f.first - 1))) (sym answered-as ∙ e2) in
+          let z : field_made_answer t f (drop at given) (drop used amounts) ≡ Accepted = ap (moved_by (behind (f.first - 1))) (sym answered_as ∙ e2) in
           record {
             size = (filled ys ly).1;
             cover = here.rest;

@@ -35,13 +35,13 @@ module _ (rec : List ℕ) (n : length rec ≡ record_length) where
   length_in true = omega (arith, length-append rec line_end)
   length_in false = omega (arith, length-append rec [])
 
-  behind-in : (lined : Bool) (i : ℕ) → get_or (in_form lined rec) (record_length + i) 0 ≡ get_or (end_of lined) i 0
-  behind-in lined i = rw n at (get_or-append-add rec (end_of lined) i 0)
+  behind_in : (lined : Bool) (i : ℕ) → get_or (in_form lined rec) (record_length + i) 0 ≡ get_or (end_of lined) i 0
+  behind_in lined i = rw n at (get_or-append-add rec (end_of lined) i 0)
 
   pub ended_in : (lined : Bool) → has_line_end (in_form lined rec) ≡ lined
   unfolding has_line_end
   ended_in true =
-      rw (eq-eqb (length (in_form true rec)) lined_length (length_in true), eq-eqb (get_or (in_form true rec) record_length 0) 13 (behind-in true 0), eq-eqb (get_or (in_form true rec) 151 0) 10 (behind-in true 1))
+      rw (eq-eqb (length (in_form true rec)) lined_length (length_in true), eq-eqb (get_or (in_form true rec) record_length 0) 13 (behind_in true 0), eq-eqb (get_or (in_form true rec) 151 0) 10 (behind_in true 1))
   ended_in false = rw (ne_eqb (length (in_form false rec)) lined_length (λ e. omega (arith, length_in false, e)))
 
 -- the first byte is the record's, in what is taken too

@@ -83,40 +83,40 @@ end_within true = omega arith
 end_within false = omega arith
 
 module _ (agreed code : List ℕ) where
-  abbrev free-if : Answer → List ℕ
-  free-if a = if_accepted a (free_of code) []
+  abbrev free_if : Answer → List ℕ
+  free_if a = if_accepted a (free_of code) []
 
-  free-shown :
+  free_shown :
       (a : Answer) → barcode_check agreed code ≡ a
-      → take (length (free-if a)) (drop (code_length - length (free-if a)) code) ≡ free-if a
-  free-shown Accepted h =
+      → take (length (free_if a)) (drop (code_length - length (free_if a)) code) ≡ free_if a
+  free_shown Accepted h =
       let within = end_within (eqb (digit_at 2 code) 6) in
       free_law (issuer_end (digit_at 2 code) + 1 - 1) code within (accepted_length code (check_tells agreed code h).1)
-  free-shown (Refused why place) h = refl
+  free_shown (Refused why place) h = refl
 
 pub free_part_is_shown : FreePartIsShown
 unfolding free_part
 free_part_is_shown agreed code =
-    part_law (code_length - length (shown_free agreed code)) code (shown_free agreed code) (free-shown agreed code (barcode_check agreed code) refl)
+    part_law (code_length - length (shown_free agreed code)) code (shown_free agreed code) (free_shown agreed code (barcode_check agreed code) refl)
 
 module _ (row : ℕ) (rec : List ℕ) where
   abbrev start : ℕ
   start = (row_at row).first - 1
 
-  field-where :
+  field_where :
       (t : Bool) → let x = cond t (field_bytes (row_at row) rec) [] in take (length x) (drop start rec) ≡ x
-  field-where true = taken ((row_at row).last - start) (drop start rec)
-  field-where false = refl
+  field_where true = taken ((row_at row).last - start) (drop start rec)
+  field_where false = refl
 
-  field-shown :
+  field_shown :
       (a : Answer) (n : MaybeRecord)
       → let x = if_accepted a (field_in n row rec) [] in take (length x) (drop start rec) ≡ x
-  field-shown (Refused why place) n = refl
-  field-shown Accepted Other = refl
-  field-shown Accepted (Is r) = field-where (leb (rows_of r).from row && ltb row (rows_of r).to)
+  field_shown (Refused why place) n = refl
+  field_shown Accepted Other = refl
+  field_shown Accepted (Is r) = field_where (leb (rows_of r).from row && ltb row (rows_of r).to)
 
 pub field_part_is_shown : FieldPartIsShown
 unfolding field_part
 field_part_is_shown t row rec =
-    let here = field-shown row rec (record_check t rec) (named_by (get_or rec 0 0)) in
+    let here = field_shown row rec (record_check t rec) (named_by (get_or rec 0 0)) in
     part_law ((row_at row).first - 1) rec (shown_field t row rec) here

@@ -65,27 +65,27 @@ module _ (agreed : List ℕ) (s : Session) (files : List Filed) (rec : List ℕ)
   unfolding figures_answer
   trailer_answer_holds f h = rw (h.taken, h.total)
 
-  opening-answer : (o : Option Opened) → Agrees s (record { accepted = files; opened = o })
+  opening_answer : (o : Option Opened) → Agrees s (record { accepted = files; opened = o })
       → memory_answer s.memory (pair_in rec) ≡ header_state_answer files rec
-  opening-answer o h =
+  opening_answer o h =
       let few : length (remembered files) ≤ most_pairs =
       omega (arith, ap length h.memory, in_use s.memory h.sound_memory.whole) in
       ap (λ qs. pair_answer qs (pair_in rec)) h.memory ∙ header_answer_holds files rec few
 
-  record-answer : (o : Option Opened) (n : MaybeRecord) (a : Answer) → Agrees s (record { accepted = files; opened = o })
+  record_answer_holds : (o : Option Opened) (n : MaybeRecord) (a : Answer) → Agrees s (record { accepted = files; opened = o })
       → require (session_expects s.opened n) NotExpected 1 then session_answer s rec (shown_unless_refused a (record_shown agreed n rec))
       ≡ require (ledger_expects o n) NotExpected 1 then a then state_answer files o n rec
-  record-answer none (Is Header) Accepted h = rw h.opened (opening-answer none h)
-  record-answer none (Is Header) (Refused why p) h = rw h.opened
-  record-answer none (Is Payment) a h = rw h.opened
-  record-answer none (Is Trailer) a h = rw h.opened
-  record-answer none Other a h = refl
-  record-answer (some f) (Is Header) a h = rw h.opened
-  record-answer (some f) (Is Payment) Accepted h = rw h.opened (payment_answer_holds f h)
-  record-answer (some f) (Is Payment) (Refused why p) h = rw h.opened
-  record-answer (some f) (Is Trailer) Accepted h = rw h.opened (trailer_answer_holds f h)
-  record-answer (some f) (Is Trailer) (Refused why p) h = rw h.opened
-  record-answer (some f) Other a h = refl
+  record_answer_holds none (Is Header) Accepted h = rw h.opened (opening_answer none h)
+  record_answer_holds none (Is Header) (Refused why p) h = rw h.opened
+  record_answer_holds none (Is Payment) a h = rw h.opened
+  record_answer_holds none (Is Trailer) a h = rw h.opened
+  record_answer_holds none Other a h = refl
+  record_answer_holds (some f) (Is Header) a h = rw h.opened
+  record_answer_holds (some f) (Is Payment) Accepted h = rw h.opened (payment_answer_holds f h)
+  record_answer_holds (some f) (Is Payment) (Refused why p) h = rw h.opened
+  record_answer_holds (some f) (Is Trailer) Accepted h = rw h.opened (trailer_answer_holds f h)
+  record_answer_holds (some f) (Is Trailer) (Refused why p) h = rw h.opened
+  record_answer_holds (some f) Other a h = refl
 
 -- a record with its end
 pub answer_agrees : (agreed : List ℕ) (s : Session) (k : Ledger) (rec : List ℕ) → Agrees s k → take_answer agreed s rec ≡ ledger_answer agreed k rec
@@ -100,7 +100,7 @@ answer_agrees agreed s k rec h =
     let expects = require (session_expects s.opened n) NotExpected 1 in
     let met = require (ledger_expects k.opened n) NotExpected 1 in
     let same : expects then (shown then ending) ≡ met then (own then (state then ending)) =
-    sym (then_groups expects shown ending) ∙ ap (λ (a : Answer). a then ending) (record-answer agreed s k.accepted body k.opened n own h)
+    sym (then_groups expects shown ending) ∙ ap (λ (a : Answer). a then ending) (record_answer_holds agreed s k.accepted body k.opened n own h)
     ∙ then_groups met (own then state) ending ∙ ap (λ (a : Answer). met then a) (then_groups own state ending) in
     rw (first_in rec, terms, ← h.opened, ← h.lined)
     (ap (λ (a : Answer). require (fits_length s.opened s.file.lined rec) WrongLength 0 then a) same)
@@ -154,8 +154,8 @@ module _ (agreed : List ℕ) (s : Session) (files : List Filed) (ended : Bool) (
 
   module _ (f : Opened) (h : Agrees s (record { accepted = files; opened = some f })) where
     -- the open file's number is remembered
-    remembers-file : Remembers (memory_with s.memory s.opening) (files ++ (filed_with f rec ∷ []))
-    remembers-file =
+    remembers_file : Remembers (memory_with s.memory s.opening) (files ++ (filed_with f rec ∷ []))
+    remembers_file =
         record {
           memory =
               (pair_is_remembered s.memory s.opening h.sound_memory.whole (h.room h.opened)).0
@@ -168,7 +168,7 @@ module _ (agreed : List ℕ) (s : Session) (files : List Filed) (ended : Bool) (
     closes =
         at_rest s.work (memory_with s.memory s.opening) (files ++ (filed_with f rec ∷ [])) none
         (rw (records_joined files (filed_with f rec ∷ []), append-nil f.payments) h.work) h.sound_work
-        remembers-file never refl
+        remembers_file never refl
 
     more : all_records (with_record files (some f) (Is Payment) ended rec) ≡ (payment_records files ++ f.payments) ++ (rec ∷ [])
     more = sym (append_assoc (payment_records files) f.payments (rec ∷ []))

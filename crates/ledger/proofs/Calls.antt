@@ -75,8 +75,8 @@ module _ (s : Session) (k : Ledger) (h : Agrees s k) where
         ≡ length (ledger_after k (map (taking agreed) (records_taken agreed k recs))).accepted - length k.accepted
     bytes : r.bytes ≡ length (bytes_of (records_taken agreed k recs))
 
-  run-agrees : (agreed : List ℕ) → RightList agreed → (recs : List (List ℕ)) → SameRun agreed recs (run_all agreed s recs)
-  run-agrees agreed list recs =
+  run_agrees : (agreed : List ℕ) → RightList agreed → (recs : List (List ℕ)) → SameRun agreed recs (run_all agreed s recs)
+  run_agrees agreed list recs =
       let r = run_all agreed s recs in
       let t = run_on agreed list recs s k h in
       let q = same_records agreed r.records recs k r.answer t.accepted t.answer t.whole in
@@ -101,30 +101,30 @@ module _ (s : Session) (k : Ledger) (h : Agrees s k) where
         bytes = rw none;
       }
 
-  any-run : (agreed : List ℕ) (more : Bool) (bytes : List ℕ) → SameRun agreed (ledger_pieces agreed k more bytes) (run_of agreed s more bytes)
-  any-run agreed more bytes =
+  any_run : (agreed : List ℕ) (more : Bool) (bytes : List ℕ) → SameRun agreed (ledger_pieces agreed k more bytes) (run_of agreed s more bytes)
+  any_run agreed more bytes =
       let pieces = ledger_pieces agreed k more bytes in
       ⊎_elim (λ list.
-      rw (run_right agreed s more bytes list, same_pieces agreed list s k more bytes h) (run-agrees agreed list pieces))
+      rw (run_right agreed s more bytes list, same_pieces agreed list s k more bytes h) (run_agrees agreed list pieces))
       (λ wrong. rw (run_wrong agreed s more bytes wrong) (run_refused agreed wrong pieces)) (one_list_refusal agreed)
 
-  call-steps : (call : Call) → session_call s call ≡ session_after s (steps_of_call k call)
-  call-steps (stepping step) = refl
-  call-steps (running agreed more bytes) = (any-run agreed more bytes).session
-  call-steps finishing = refl
+  call_steps : (call : Call) → session_call s call ≡ session_after s (steps_of_call k call)
+  call_steps (stepping step) = refl
+  call_steps (running agreed more bytes) = (any_run agreed more bytes).session
+  call_steps finishing = refl
 
-  call-agrees : (call : Call) → Agrees (session_call s call) (ledger_call k call)
-  call-agrees call =
-      subst (λ (x : Session). Agrees x (ledger_call k call)) (sym (call-steps call))
+  call_agrees : (call : Call) → Agrees (session_call s call) (ledger_call k call)
+  call_agrees call =
+      subst (λ (x : Session). Agrees x (ledger_call k call)) (sym (call_steps call))
       (steps_agree (steps_of_call k call) s k h)
 
-  reply-agrees : (call : Call) → session_reply s call ≡ ledger_reply k call
-  reply-agrees (stepping (taking agreed rec)) = ap answered (check_agrees agreed s k rec h)
-  reply-agrees (stepping abandoning) = refl
-  reply-agrees (running agreed more bytes) =
-      let t = any-run agreed more bytes in
+  reply_agrees : (call : Call) → session_reply s call ≡ ledger_reply k call
+  reply_agrees (stepping (taking agreed rec)) = ap answered (check_agrees agreed s k rec h)
+  reply_agrees (stepping abandoning) = refl
+  reply_agrees (running agreed more bytes) =
+      let t = any_run agreed more bytes in
       rw (t.answer, t.records, t.files, t.bytes)
-  reply-agrees finishing = ap (λ (t : Bool). answered (require (not t) FileOpen 0)) h.opened
+  reply_agrees finishing = ap (λ (t : Bool). answered (require (not t) FileOpen 0)) h.opened
 
 -- Any calls.
 
@@ -132,14 +132,14 @@ calls_agree_from : (calls : List Call) (s : Session) (k : Ledger) → Agrees s k
     → Agrees (session_after_calls s calls) (ledger_after_calls k calls)
 calls_agree_from [] s k h = h
 calls_agree_from (call ∷ calls) s k h =
-    calls_agree_from calls (session_call s call) (ledger_call k call) (call-agrees s k h call)
+    calls_agree_from calls (session_call s call) (ledger_call k call) (call_agrees s k h call)
 
 replies_from : (calls : List Call) (s : Session) (k : Ledger) → Agrees s k
     → session_replies s calls ≡ ledger_replies k calls
 replies_from [] s k h = refl
 replies_from (call ∷ calls) s k h =
-    ap₂ (λ (r : Reply) (rest : List Reply). r ∷ rest) (reply-agrees s k h call)
-    (replies_from calls (session_call s call) (ledger_call k call) (call-agrees s k h call))
+    ap₂ (λ (r : Reply) (rest : List Reply). r ∷ rest) (reply_agrees s k h call)
+    (replies_from calls (session_call s call) (ledger_call k call) (call_agrees s k h call))
 
 session_joined : (xs ys : List Step) (s : Session) → session_after s (xs ++ ys) ≡ session_after (session_after s xs) ys
 session_joined [] ys s = refl
@@ -157,8 +157,8 @@ steps_from (call ∷ calls) s k h =
     let next = ledger_call k call in
     let own = steps_of_call k call in
     let later = steps_of_calls next calls in
-    let t = steps_from calls (session_call s call) next (call-agrees s k h call) in (
-      t.0 ∙ ap (λ (x : Session). session_after x later) (call-steps s k h call) ∙ sym (session_joined own later s),
+    let t = steps_from calls (session_call s call) next (call_agrees s k h call) in (
+      t.0 ∙ ap (λ (x : Session). session_after x later) (call_steps s k h call) ∙ sym (session_joined own later s),
       t.1 ∙ sym (ledger_joined own later k),
     )
 

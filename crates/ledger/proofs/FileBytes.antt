@@ -77,7 +77,7 @@ pieces_are_the_records agreed s lined (rec ∷ recs) form h =
     let n = h.0.0 in
     let own : length (in_form lined rec) ≡ length_of lined = length_in rec n lined in
     let size : piece_length s bytes ≡ length_of lined =
-    ap length_of (piece-form s.opened refl) in
+    ap length_of (piece_form s.opened refl) in
     let piece : piece_of s bytes ≡ in_form lined rec =
     ap (λ (k : ℕ). take k bytes) size ∙ take_at (in_form lined rec) rest (length_of lined) own in
     let left : drop (piece_length s bytes) bytes ≡ rest =
@@ -88,9 +88,9 @@ pieces_are_the_records agreed s lined (rec ∷ recs) form h =
     ∙ ap (λ (rs : List (List ℕ)). in_form lined rec ∷ rs)
     (pieces_are_the_records agreed (take_under agreed s (in_form lined rec)).session lined recs (keeps (take_answer agreed s (in_form lined rec))) h.1)
   where
-    piece-form : (t : Bool) → s.opened ≡ t → is_next_lined s.opened s.file.lined (in_form lined rec ++ bytes_of (all_in_form lined recs)) ≡ lined
-    piece-form true e = rw e (form e)
-    piece-form false e = rw e (ahead lined rec recs h.0.0 h.1)
+    piece_form : (t : Bool) → s.opened ≡ t → is_next_lined s.opened s.file.lined (in_form lined rec ++ bytes_of (all_in_form lined recs)) ≡ lined
+    piece_form true e = rw e (form e)
+    piece_form false e = rw e (ahead lined rec recs h.0.0 h.1)
 
     keeps : (a : Answer) → (if_accepted a (next_session agreed s (in_form lined rec)) s).opened ≡ true
         → (if_accepted a (next_session agreed s (in_form lined rec)) s).file.lined ≡ lined

@@ -65,13 +65,13 @@ module _ (agreed : List ℕ) (s : Session) (closed : s.opened ≡ false) (lined 
       refusal_keeps_session agreed s (in_form lined rec)
       (λ x. unequal (rw (closed, named) at (taken_right agreed s (in_form lined rec) x).expected) e)
 
-  rest-not-taken : (recs : List (List ℕ)) (z : List ℕ) → Each (IsRight t Payment) recs → IsRight t Trailer z
+  rest_not_taken : (recs : List (List ℕ)) (z : List ℕ) → Each (IsRight t Payment) recs → IsRight t Trailer z
       → session_after s (map (taking agreed) (all_in_form lined (recs ++ (z ∷ [])))) ≡ s
-  rest-not-taken [] z h last = not_taken Trailer z refl last
-  rest-not-taken (rec ∷ recs) z h last =
+  rest_not_taken [] z h last = not_taken Trailer z refl last
+  rest_not_taken (rec ∷ recs) z h last =
       ap (λ (x : Session). session_after x (map (taking agreed) (all_in_form lined (recs ++ (z ∷ [])))))
       (not_taken Payment rec refl h.0)
-      ∙ rest-not-taken recs z h.1 last
+      ∙ rest_not_taken recs z h.1 last
 
 each_at : {A : Type 0} (P : A → Type 0) (xs : List A) (x : A) (ys : List A) → Each P (xs ++ (x ∷ ys)) → P x
 each_at P [] x ys h = h.0
@@ -115,13 +115,13 @@ module _ (steps : List Step) (agreed : List ℕ) (lined : Bool) (before : List F
       ∙ ap (λ (x : TakeResult). x.answer) header_refused in
       run_right agreed s false (bytes_of all) right ∙ ap (run_all agreed s) pieces ∙ rw answer
 
-  session-stays : session_after s (file_of agreed lined f.header f.payments f.trailer) ≡ s
-  session-stays =
+  session_stays : session_after s (file_of agreed lined f.header f.payments f.trailer) ≡ s
+  session_stays =
       ap (λ (x : TakeResult). session_after x.session (map (taking agreed) (all_in_form lined (f.payments ++ (f.trailer ∷ []))))) header_refused
-      ∙ rest-not-taken agreed s closed lined t f.payments f.trailer sound.whole.payments sound.whole.trailer
+      ∙ rest_not_taken agreed s closed lined t f.payments f.trailer sound.whole.payments sound.whole.trailer
 
-  shown-once : shown_lanes steps ≡ lanes_from (lanes_of_records (payment_records before ++ (f.payments ++ payment_records after)))
-  shown-once =
+  shown_once : shown_lanes steps ≡ lanes_from (lanes_of_records (payment_records before ++ (f.payments ++ payment_records after)))
+  shown_once =
       lanes_are_the_payments steps
       ∙ ap (λ (files : List Filed). lanes_from (lanes_of_records (payment_records files))) are
       ∙ ap (λ (recs : List (List ℕ)). lanes_from (lanes_of_records recs)) (records_joined before (f ∷ after))
@@ -130,8 +130,8 @@ pub file_again_is_refused : FileAgainIsRefused
 file_again_is_refused steps agreed lined before f after right none_open are not-next = (
   header_refused steps agreed lined before f after right none_open are not-next,
   run_refused steps agreed lined before f after right none_open are not-next,
-  session-stays steps agreed lined before f after right none_open are not-next,
-  shown-once steps agreed lined before f after right none_open are not-next,
+  session_stays steps agreed lined before f after right none_open are not-next,
+  shown_once steps agreed lined before f after right none_open are not-next,
 )
 
 pub file_twice_is_refused : FileTwiceIsRefused

@@ -104,25 +104,25 @@ module _ (agreed : List ℕ) (s u : Session) (h : Twins s u) (rec : List ℕ) (n
       answer_in agreed s true rec n h.lined ∙ answer_bare agreed s rec ∙ ap (λ (x : Session). body_answer agreed x rec) h.same
       ∙ sym (answer_bare agreed u rec) ∙ sym (bare_answer agreed u rec n h.bare)
 
-  one-terms : session_terms agreed s ≡ session_terms agreed u
-  one-terms = ap (session_terms agreed) h.same
+  one_terms : session_terms agreed s ≡ session_terms agreed u
+  one_terms = ap (session_terms agreed) h.same
 
-  twins-left : (a : Answer) → Twins (if_accepted a (next_session agreed s (in_form true rec)) s) (if_accepted a (next_session agreed u rec) u)
-  twins-left (Refused why p) = h
-  twins-left Accepted =
+  twins_left : (a : Answer) → Twins (if_accepted a (next_session agreed s (in_form true rec)) s) (if_accepted a (next_session agreed u rec) u)
+  twins_left (Refused why p) = h
+  twins_left Accepted =
       let d = decoded_record_under (session_terms agreed u) rec in
-      let lined : next_session agreed s (in_form true rec) ≡ session_with s true rec d = next_in agreed s true rec n h.lined ∙ rw one-terms in
+      let lined : next_session agreed s (in_form true rec) ≡ session_with s true rec d = next_in agreed s true rec n h.lined ∙ rw one_terms in
       rw (lined, bare_next agreed u rec n h.bare) (twins_next s u rec d h)
 
-  twins-taken : Twins (take_of agreed s (in_form true rec)).session (take_of agreed u rec).session
-  twins-taken = rw one_answer (twins-left (take_of agreed u rec).answer)
+  twins_taken : Twins (take_of agreed s (in_form true rec)).session (take_of agreed u rec).session
+  twins_taken = rw one_answer (twins_left (take_of agreed u rec).answer)
 
 both_agree : (agreed : List ℕ) (recs : List (List ℕ)) (s u : Session) → Twins s u → Each (λ (rec : List ℕ). length rec ≡ record_length) recs
     → (answers_of s (map (taking agreed) (all_in_form true recs)) ≡ answers_of u (map (taking agreed) recs))
     × (as_bare (session_after s (map (taking agreed) (all_in_form true recs))) ≡ as_bare (session_after u (map (taking agreed) recs)))
 both_agree agreed [] s u h n = (refl, h.same)
 both_agree agreed (rec ∷ recs) s u h n =
-    let later = both_agree agreed recs (take_of agreed s (in_form true rec)).session (take_of agreed u rec).session (twins-taken agreed s u h rec n.0) n.1 in
+    let later = both_agree agreed recs (take_of agreed s (in_form true rec)).session (take_of agreed u rec).session (twins_taken agreed s u h rec n.0) n.1 in
     (ap₂ (λ (a : Answer) (rest : List Answer). (list_answer agreed then a) ∷ rest) (one_answer agreed s u h rec n.0) later.0, later.1)
 
 pub forms_agree : FormsAgree

@@ -171,9 +171,9 @@ in_order (h ∷ hs) seen qs sees = go (is_pair_seen h seen) refl (in_order hs)
     grown : (t : Bool) → is_pair_seen h seen ≡ t → map unnumbered next ≡ map unnumbered qs ++ cond t [] (pair_alone h ∷ [])
     grown t e = remembering_pairs (pair_in h) qs ∙ rw (sees h, e)
 
-    known-then : (seen' : List (List ℕ)) → ((a : List ℕ) → is_pair_seen a seen' ≡ cond (are_of_one_pair h a) true (is_pair_seen a seen))
+    known_then : (seen' : List (List ℕ)) → ((a : List ℕ) → is_pair_seen a seen' ≡ cond (are_of_one_pair h a) true (is_pair_seen a seen))
         → Sees seen' next
-    known-then seen' more a = known_more a h qs ∙ ap (cond (are_of_one_pair h a) true) (sees a) ∙ sym (more a)
+    known_then seen' more a = known_more a h qs ∙ ap (cond (are_of_one_pair h a) true) (sees a) ∙ sym (more a)
 
     stays : is_pair_seen h seen ≡ true → (a : List ℕ) → is_pair_seen a seen ≡ cond (are_of_one_pair h a) true (is_pair_seen a seen)
     stays e a = split (λ (t : Bool). is_pair_seen a seen ≡ t) (are_of_one_pair h a) (seen_again a h seen e) (λ f. refl)
@@ -182,11 +182,11 @@ in_order (h ∷ hs) seen qs sees = go (is_pair_seen h seen) refl (in_order hs)
         → map unnumbered (remembered_after next hs)
         ≡ map unnumbered qs ++ map pair_alone (cond t (first_of_pairs seen hs) (h ∷ first_of_pairs (seen ++ (h ∷ [])) hs))
     go true e later =
-        later seen next (known-then seen (stays e))
+        later seen next (known_then seen (stays e))
         ∙ ap (λ (ps : List Pair). ps ++ map pair_alone (first_of_pairs seen hs)) (grown true e ∙ append-nil (map unnumbered qs))
     go false e later =
         let more = map pair_alone (first_of_pairs (seen ++ (h ∷ [])) hs) in
-        later (seen ++ (h ∷ [])) next (known-then (seen ++ (h ∷ [])) (λ a. seen_more a h seen))
+        later (seen ++ (h ∷ [])) next (known_then (seen ++ (h ∷ [])) (λ a. seen_more a h seen))
         ∙ ap (λ (ps : List Pair). ps ++ more) (grown false e)
         ∙ append_assoc (map unnumbered qs) (pair_alone h ∷ []) more
 
@@ -215,8 +215,8 @@ remembered_joined files f =
 
 -- 26 and 27 are the memory's, if it has no more pairs than it can have.
 module _ (files : List Filed) (a : List ℕ) (few : length (remembered files) ≤ most_pairs) where
-  pairs-with : length (first_of_pairs [] (headers_of files ++ (a ∷ []))) ≡ length (remembering (pair_in a) (remembered files))
-  pairs-with =
+  pairs_with : length (first_of_pairs [] (headers_of files ++ (a ∷ []))) ≡ length (remembering (pair_in a) (remembered files))
+  pairs_with =
       sym (count_pairs (headers_of files ++ (a ∷ []))) ∙ ap length (after_joined (headers_of files) (a ∷ []) [])
 
   room_by : (o : Option ℕ)
@@ -229,7 +229,7 @@ module _ (files : List Filed) (a : List ℕ) (few : length (remembered files) �
       ≡ leb (length (first_of_pairs [] (headers_of files ++ (a ∷ [])))) most_pairs
   room =
       room_by (remembered_for (pair_in a) (remembered files))
-      ∙ ap (λ (n : ℕ). leb n most_pairs) (sym (pairs-with ∙ remembering_length (pair_in a) (remembered files)))
+      ∙ ap (λ (n : ℕ). leb n most_pairs) (sym (pairs_with ∙ remembering_length (pair_in a) (remembered files)))
 
   pub header_answer_holds : pair_answer (remembered files) (pair_in a) ≡ header_state_answer files a
   header_answer_holds =

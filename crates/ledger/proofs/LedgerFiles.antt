@@ -55,10 +55,10 @@ each_last P [] x h p = (p, tt)
 each_last P (y ∷ xs) x h p = (h.0, each_last P xs x h.1 p)
 
 module _ (files : List Filed) (ended : Bool) (rec : List ℕ) (all : Each SoundFile files) where
-  with-payment : (f : Opened) → Right f → record_answer (header_terms [] f.header) rec ≡ Accepted → named_by (get_or rec 0 0) ≡ Is Payment
+  with_payment : (f : Opened) → Right f → record_answer (header_terms [] f.header) rec ≡ Accepted → named_by (get_or rec 0 0) ≡ Is Payment
       → state_answer files (some f) (Is Payment) rec ≡ Accepted
       → Kept (with_record files (some f) (Is Payment) ended rec)
-  with-payment f h own n e =
+  with_payment f h own n e =
       let room = passed (ltb (length f.payments) most_payments) FileFull 1 e in
       let less =
       passed (leb (received_in f.payments + received_by rec) most_centavos) FileTotalPassed received_place
@@ -76,10 +76,10 @@ module _ (files : List Filed) (ended : Bool) (rec : List ℕ) (all : Each SoundF
             };
       }
 
-  with-trailer : (f : Opened) → Right f → record_answer (header_terms [] f.header) rec ≡ Accepted → named_by (get_or rec 0 0) ≡ Is Trailer
+  with_trailer : (f : Opened) → Right f → record_answer (header_terms [] f.header) rec ≡ Accepted → named_by (get_or rec 0 0) ≡ Is Trailer
       → state_answer files (some f) (Is Trailer) rec ≡ Accepted
       → Kept (with_record files (some f) (Is Trailer) ended rec)
-  with-trailer f h own n e =
+  with_trailer f h own n e =
       record {
         files =
             each_last SoundFile files (filed_with f rec) all
@@ -103,8 +103,8 @@ module _ (files : List Filed) (ended : Bool) (rec : List ℕ) (all : Each SoundF
   with_record_holds none (Is Trailer) own h is x e = absurd (false≢true x)
   with_record_holds none Other own h is x e = absurd (false≢true x)
   with_record_holds (some f) (Is Header) own h is x e = absurd (false≢true x)
-  with_record_holds (some f) (Is Payment) own h is x e = with-payment f h own is e
-  with_record_holds (some f) (Is Trailer) own h is x e = with-trailer f h own is e
+  with_record_holds (some f) (Is Payment) own h is x e = with_payment f h own is e
+  with_record_holds (some f) (Is Trailer) own h is x e = with_trailer f h own is e
   with_record_holds (some f) Other own h is x e = absurd (false≢true x)
 
 -- after any steps from a fresh ledger
@@ -124,8 +124,8 @@ ledger_files_are_whole steps = (kept steps).files
 pub open_files_have_a_version : OpenFilesHaveAVersion
 open_files_have_a_version steps = go (ledger_of steps) (kept steps).opened (session_agrees steps)
   where
-    file-is : {f : File} → f.taken ≡ 0 → f.total ≡ 0 → f.version ≡ 0 → f.lined ≡ false → f ≡ no_file
-    file-is e g h l i = record { taken = e i; total = g i; version = h i; lined = l i }
+    file_is : {f : File} → f.taken ≡ 0 → f.total ≡ 0 → f.version ≡ 0 → f.lined ≡ false → f ≡ no_file
+    file_is e g h l i = record { taken = e i; total = g i; version = h i; lined = l i }
 
     by : (o : Option Opened) (k : Ledger) → k.opened ≡ o → RightIfOpen o → Agrees (reached steps) k
         → ((reached steps).opened ≡ true → is_version (reached steps).file.version ≡ true)
@@ -133,7 +133,7 @@ open_files_have_a_version steps = go (ledger_of steps) (kept steps).opened (sess
     by none k e right h = (
       λ t. absurd (false≢true (sym (h.opened ∙ ap is_open e) ∙ t)),
       λ t.
-          file-is (h.taken ∙ ap (λ (x : Option Opened). length (open_records x)) e)
+          file_is (h.taken ∙ ap (λ (x : Option Opened). length (open_records x)) e)
           (h.total ∙ ap (λ (x : Option Opened). received_in (open_records x)) e)
           (h.version ∙ ap open_version e) (h.lined ∙ ap is_open_lined e),
     )

@@ -56,8 +56,8 @@ module _ (agreed rec : List ℕ) (recs : List (List ℕ)) (s next : Session) (k 
   one : 1 + r.records ≡ suc r.records
   one = omega arith
 
-  steps-more : steps_of agreed (rec ∷ recs) (add_counts 1 c (length rec) r) ≡ taking agreed rec ∷ steps_of agreed recs r
-  steps-more = ap (λ (m : ℕ). map (taking agreed) (take m (rec ∷ recs))) one
+  steps_more : steps_of agreed (rec ∷ recs) (add_counts 1 c (length rec) r) ≡ taking agreed rec ∷ steps_of agreed recs r
+  steps_more = ap (λ (m : ℕ). map (taking agreed) (take m (rec ∷ recs))) one
 
   more : (take_of agreed s rec).session ≡ next → ledger_step k (taking agreed rec) ≡ after → ledger_check agreed k rec ≡ Accepted
       → length after.accepted ≡ length k.accepted + c → RunOn agreed next after recs r
@@ -65,14 +65,14 @@ module _ (agreed rec : List ℕ) (recs : List (List ℕ)) (s next : Session) (k 
   more followed noted e grown t =
       let steps = steps_of agreed recs r in
       let same : ledger_after k (steps_of agreed (rec ∷ recs) (add_counts 1 c (length rec) r)) ≡ ledger_after after steps =
-      ap (ledger_after k) steps-more ∙ ap (λ (b : Ledger). ledger_after b steps) noted in
+      ap (ledger_after k) steps_more ∙ ap (λ (b : Ledger). ledger_after b steps) noted in
       record {
         session =
             t.session ∙ ap (λ (x : Session). session_after x steps) (sym followed)
-            ∙ ap (session_after s) (sym steps-more);
+            ∙ ap (session_after s) (sym steps_more);
         files = omega (arith, t.files, grown) ∙ ap (λ (b : Ledger). length b.accepted) (sym same);
         accepted =
-            subst (λ (all : List Step). AllAccepted (ledger_answers k all)) (sym steps-more)
+            subst (λ (all : List Step). AllAccepted (ledger_answers k all)) (sym steps_more)
             (e, subst (λ (b : Ledger). AllAccepted (ledger_answers b steps)) (sym noted) t.accepted);
         answer = t.answer ∙ ap₂ (next_ledger_answer agreed) (sym same) (ap (λ (m : ℕ). drop m (rec ∷ recs)) (sym one));
         whole = λ x. omega (arith, t.whole x);

@@ -79,23 +79,23 @@ from_the_board false u board e = absurd (omega (arith, ap answer_number e))
 
 -- nor do a header, a trailer and a record alone: it is a payment that is right in itself
 module _ (agreed : List ℕ) (s : Session) (rec : List ℕ) where
-  of-a-payment : (m : MaybeRecord) (own : Answer) → answer_number own ≤ 12
+  of_a_payment : (m : MaybeRecord) (own : Answer) → answer_number own ≤ 12
       → session_answer s rec (shown_unless_refused own (record_shown agreed m rec)) ≡ past_tariff
       → (own ≡ Accepted) × (m ≡ Is Payment) × (pay_answer s (lane_of_record rec) ≡ past_tariff)
   unfolding figures_answer
-  of-a-payment m (Refused why p) low e = absurd (omega (arith, low, ap answer_number e))
-  of-a-payment (Is Payment) Accepted low e = (refl, refl, e)
-  of-a-payment (Is Header) Accepted low e =
+  of_a_payment m (Refused why p) low e = absurd (omega (arith, low, ap answer_number e))
+  of_a_payment (Is Payment) Accepted low e = (refl, refl, e)
+  of_a_payment (Is Header) Accepted low e =
       let pair = pair_in rec in
       let last = remembered_for pair (pairs_of s.memory) in
       two_tests (follows last pair.sequence) (has_room last (length (pairs_of s.memory))) NotFollowing PairsFull
       sequence_place agreement_place (λ h. omega arith) (λ h. omega arith) e
-  of-a-payment (Is Trailer) Accepted low e =
+  of_a_payment (Is Trailer) Accepted low e =
       let shown = trailer_shown rec in
       let true-ones = figures_of s.file in
       two_tests (eqb shown.count true-ones.count) (eqb shown.total true-ones.total) CountDiffers TotalDiffers
       count_place total_place (λ h. omega arith) (λ h. omega arith) e
-  of-a-payment Other Accepted low e = absurd (omega (arith, ap answer_number e))
+  of_a_payment Other Accepted low e = absurd (omega (arith, ap answer_number e))
 
 pub tariffs_are_asked_last : TariffsAreAskedLast
 unfolding file_answer end_answer
@@ -111,7 +111,7 @@ tariffs_are_asked_last agreed s rec =
           let fits = behind_test (fits_length s.opened s.file.lined rec) WrongLength 0 _ (λ h. omega arith) listed.1 in
           let met = behind_test (session_expects s.opened (named_by (get_or rec 0 0))) NotExpected 1 _ (λ h. omega arith) fits.1 in
           let answered = before_end (session_answer s body (decoded_record_under t body)) (s.opened && s.file.lined) (has_line_end rec) met.1 in
-          let paid = of-a-payment agreed s body (named_by (get_or body 0 0)) own (own_refusals_up_to_twelve t body) answered in
+          let paid = of_a_payment agreed s body (named_by (get_or body 0 0)) own (own_refusals_up_to_twelve t body) answered in
           let named : named_by (get_or rec 0 0) ≡ Is Payment = ap named_by (sym (first_in rec)) ∙ paid.1 in
           let opened : s.opened ≡ true = rw named at met.0 in
           let file =

@@ -80,25 +80,25 @@ module _ (agreed : List ℕ) (list : RightList agreed) (s : Session) (is_open : 
       taken agreed list (inside b f) lined Trailer z (right_under_any_terms t (told f.version agreed) Trailer z refl right) is_open (λ e. sym form)
 
   module _ (b : Board) (f : File) (form : f.lined ≡ lined) (rec : List ℕ) (h : IsRight (told f.version agreed) Payment rec) where
-    payment-takes : take_of agreed (inside b f) (in_form lined rec)
+    payment_takes : take_of agreed (inside b f) (in_form lined rec)
         ≡ take_result (pay_answer (inside b f) (lane_of_record rec)) (session_with_payment (inside b f) (lane_of_record rec)) (inside b f)
-    payment-takes = taken agreed list (inside b f) lined Payment rec h is_open (λ e. sym form)
+    payment_takes = taken agreed list (inside b f) lined Payment rec h is_open (λ e. sym form)
 
-    payment-next : pay_answer (inside b f) (lane_of_record rec) ≡ Accepted
+    payment_next : pay_answer (inside b f) (lane_of_record rec) ≡ Accepted
         → (take_of agreed (inside b f) (in_form lined rec)).session
         ≡ inside (board_with b (lane_of_record rec)) (file_with f (received_by rec))
-    payment-next e =
-        ap (λ (t : TakeResult). t.session) payment-takes ∙
+    payment_next e =
+        ap (λ (t : TakeResult). t.session) payment_takes ∙
         accepted_takes (pay_answer (inside b f) (lane_of_record rec))
         (session_with_payment (inside b f) (lane_of_record rec)) (inside b f) e
 
-  rest-accepts : (recs : List (List ℕ)) (b : Board) (f : File) → f.lined ≡ lined → Each (IsRight (told f.version agreed) Payment) recs
+  rest_accepts : (recs : List (List ℕ)) (b : Board) (f : File) → f.lined ≡ lined → Each (IsRight (told f.version agreed) Payment) recs
       → AllAccepted (answers_of (inside b f) (rest agreed lined z recs)) ↔ Passes z b f recs
-  rest-accepts [] b f form h = (
+  rest_accepts [] b f form h = (
     λ e. (refl, refl, sym (ap (λ (x : TakeResult). x.answer) (closing b f form)) ∙ e.0),
     λ p. (ap (λ (x : TakeResult). x.answer) (closing b f form) ∙ p.2, tt),
   )
-  rest-accepts (rec ∷ recs) b f form h =
+  rest_accepts (rec ∷ recs) b f form h =
       let two = then_accepts (file_answer f (received_by rec)) (post_answer b (lane_of_record rec)) in
       let files =
       then_accepts (file_answer f (received_by rec))
@@ -106,33 +106,33 @@ module _ (agreed : List ℕ) (list : RightList agreed) (s : Session) (is_open : 
       let boards =
       then_accepts (post_answer b (lane_of_record rec))
       (post_answers (board_with b (lane_of_record rec)) (lanes_of_records recs)) in
-      let later = rest-accepts recs (board_with b (lane_of_record rec)) (file_with f (received_by rec)) form h.1 in
-      let step = ap (λ (t : TakeResult). t.answer) (payment-takes b f form rec h.0) in (
+      let later = rest_accepts recs (board_with b (lane_of_record rec)) (file_with f (received_by rec)) form h.1 in
+      let step = ap (λ (t : TakeResult). t.answer) (payment_takes b f form rec h.0) in (
         λ e.
             let one : pay_answer (inside b f) (lane_of_record rec) ≡ Accepted = sym step ∙ e.0 in
-            let t = later.0 (rw (payment-next b f form rec h.0 one) at e.1) in
+            let t = later.0 (rw (payment_next b f form rec h.0 one) at e.1) in
             (files.1 ((two.0 one).0, t.0), boards.1 ((two.0 one).1, t.1), t.2),
         λ t.
             let one : pay_answer (inside b f) (lane_of_record rec) ≡ Accepted =
             two.1 ((files.0 t.0).0, (boards.0 t.1).0) in
-            (step ∙ one, rw (payment-next b f form rec h.0 one) (later.1 ((files.0 t.0).1, (boards.0 t.1).1, t.2))),
+            (step ∙ one, rw (payment_next b f form rec h.0 one) (later.1 ((files.0 t.0).1, (boards.0 t.1).1, t.2))),
       )
 
-  left-rest : (recs : List (List ℕ)) (b : Board) (f : File) → f.lined ≡ lined → Each (IsRight (told f.version agreed) Payment) recs
+  left_rest : (recs : List (List ℕ)) (b : Board) (f : File) → f.lined ≡ lined → Each (IsRight (told f.version agreed) Payment) recs
       → AllAccepted (answers_of (inside b f) (rest agreed lined z recs))
       → session_after (inside b f) (rest agreed lined z recs)
       ≡ closed_at (board_with_all b (lanes_of_records recs)) (memory_with s.memory s.opening)
-  left-rest [] b f form h e =
+  left_rest [] b f form h e =
       let one : figures_answer f (figures_in (trailer_shown z)) ≡ Accepted =
       sym (ap (λ (t : TakeResult). t.answer) (closing b f form)) ∙ e.0 in
       ap (λ (t : TakeResult). t.session) (closing b f form)
       ∙ accepted_takes (figures_answer f (figures_in (trailer_shown z))) (session_closed (inside b f)) (inside b f) one
-  left-rest (rec ∷ recs) b f form h e =
+  left_rest (rec ∷ recs) b f form h e =
       let one : pay_answer (inside b f) (lane_of_record rec) ≡ Accepted =
-      sym (ap (λ (t : TakeResult). t.answer) (payment-takes b f form rec h.0)) ∙ e.0 in
-      let next = payment-next b f form rec h.0 one in
+      sym (ap (λ (t : TakeResult). t.answer) (payment_takes b f form rec h.0)) ∙ e.0 in
+      let next = payment_next b f form rec h.0 one in
       ap (λ (s : Session). session_after s (rest agreed lined z recs)) next ∙
-      left-rest recs (board_with b (lane_of_record rec)) (file_with f (received_by rec)) form h.1
+      left_rest recs (board_with b (lane_of_record rec)) (file_with f (received_by rec)) form h.1
       (rw next at e.1)
 
 -- The file from its header on.
@@ -179,7 +179,7 @@ module _ (agreed : List ℕ) (s : Session) (lined : Bool) (a : List ℕ) (recs :
       × (file_answers (fresh_file (version_in a) lined) (received_each recs) ≡ Accepted)
       × (post_answers s.shown (lanes_of_records recs) ≡ Accepted) × TrueFigures recs z)
   accepted_file =
-      let all = rest-accepts agreed whole.list start refl lined (header_terms agreed a) z whole.trailer recs s.shown (fresh_file (version_in a) lined) refl whole.payments in
+      let all = rest_accepts agreed whole.list start refl lined (header_terms agreed a) z whole.trailer recs s.shown (fresh_file (version_in a) lined) refl whole.payments in
       let figures = true_figures (version_in a) lined recs z in (
         λ e.
             let passes = sym answered ∙ e.0 in
@@ -194,7 +194,7 @@ module _ (agreed : List ℕ) (s : Session) (lined : Bool) (a : List ℕ) (recs :
   posted_file e =
       let next = begun (sym answered ∙ e.0) in
       ap (λ (x : Session). session_after x (rest agreed lined z recs)) next ∙
-      left-rest agreed whole.list start refl lined (header_terms agreed a) z whole.trailer recs s.shown (fresh_file (version_in a) lined) refl whole.payments (rw next at e.1)
+      left_rest agreed whole.list start refl lined (header_terms agreed a) z whole.trailer recs s.shown (fresh_file (version_in a) lined) refl whole.payments (rw next at e.1)
 
 pub file_accepted : FileAccepted
 file_accepted = accepted_file

@@ -115,19 +115,19 @@ module _ (agreed : List ℕ) (lined : Bool) (header : List ℕ) (gs : List Given
       accepted_takes (header_answer fresh_writer header (length_of lined)) (opened (fresh_file (values.version_in (header_bytes header)) (is_lined_buffer (length_of lined)))) fresh_writer c.opens
       ∙ ap (λ (t : Bool). opened (fresh_file (values.version_in (header_bytes header)) t)) (form_of_length lined)
 
-  all-written : AllWritten agreed fresh gs
-  all-written = write_all agreed c.list fresh gs (subst (λ (w : Writer). PaymentsWritten agreed w gs) opens c.pays)
+  all_written : AllWritten agreed fresh gs
+  all_written = write_all agreed c.list fresh gs (subst (λ (w : Writer). PaymentsWritten agreed w gs) opens c.pays)
 
   abbrev last : Writer
   last = writer_after_payments agreed (opened_by lined header) gs
 
-  file-is : last.file ≡ record { taken = length (written_records gs); total = received_in (written_records gs); version = fresh.version; lined = lined }
-  file-is =
-      ap (λ (w : Writer). (writer_after_payments agreed w gs).file) opens ∙ ap (λ (w : Writer). w.file) all-written.leaves
+  file_is : last.file ≡ record { taken = length (written_records gs); total = received_in (written_records gs); version = fresh.version; lined = lined }
+  file_is =
+      ap (λ (w : Writer). (writer_after_payments agreed w gs).file) opens ∙ ap (λ (w : Writer). w.file) all_written.leaves
       ∙ holds_all fresh.version lined (written_records gs)
 
-  trailer-made : make_answer (writer_terms [] last) Trailer (count_bytes last) ((figures_of last.file).total ∷ 0 ∷ []) record_length ≡ Accepted
-  trailer-made =
+  trailer_made : make_answer (writer_terms [] last) Trailer (count_bytes last) ((figures_of last.file).total ∷ 0 ∷ []) record_length ≡ Accepted
+  trailer_made =
       let make = make_answer (writer_terms [] last) Trailer (count_bytes last) ((figures_of last.file).total ∷ 0 ∷ []) record_length in
       let own =
       ((then_accepts (call_answer last Trailer (given_length Trailer) (length_of lined))
@@ -143,22 +143,22 @@ module _ (agreed : List ℕ) (lined : Bool) (header : List ℕ) (gs : List Given
   whole =
       let t = header_terms agreed (header_bytes header) in
       let a = right (writer_terms [] fresh_writer) Header header (0 ∷ 0 ∷ []) header_made in
-      let z = right (writer_terms [] last) Trailer (count_bytes last) ((figures_of last.file).total ∷ 0 ∷ []) trailer-made in
+      let z = right (writer_terms [] last) Trailer (count_bytes last) ((figures_of last.file).total ∷ 0 ∷ []) trailer_made in
       record {
         list = c.list;
         header = right_under_any_terms (writer_terms [] fresh_writer) t Header (header_bytes header) refl a;
-        payments = all-written.each;
+        payments = all_written.each;
         trailer = right_under_any_terms (writer_terms [] last) t Trailer (trailer_after agreed lined header gs) refl z;
       }
 
   figures : TrueFigures (written_records gs) (trailer_after agreed lined header gs)
   figures =
       let shows = trailer_shows_the_figures last (length_of lined) c.closes in
-      (shows.0 ∙ ap (λ (f : File). f.taken + 2) file-is, shows.1 ∙ ap (λ (f : File). f.total) file-is)
+      (shows.0 ∙ ap (λ (f : File). f.taken + 2) file_is, shows.1 ∙ ap (λ (f : File). f.total) file_is)
 
   limits : (length (written_records gs) ≤ most_payments) × (received_in (written_records gs) ≤ most_centavos)
   limits =
-      let both = (fresh_file_takes fresh.version lined (received_each (written_records gs))).0 all-written.fits in
+      let both = (fresh_file_takes fresh.version lined (received_each (written_records gs))).0 all_written.fits in
       (subst (λ (n : ℕ). n ≤ most_payments) (counted (written_records gs)) both.0, subst (λ (n : ℕ). n ≤ most_centavos) (received_each_holds (written_records gs)) both.1)
 
 pub closed_file_is_whole : ClosedFileIsWhole
@@ -170,8 +170,8 @@ module _ (agreed : List ℕ) (lined : Bool) (header : List ℕ) (gs : List Given
   in_its_form =
       ap (λ (t : Bool). file_of agreed t (header_bytes header) (written_records gs) (trailer_after agreed lined header gs)) (sym (form_of_length lined))
 
-  bytes-in-form : bytes_of (all_in_form lined (records_of (header_bytes header) (written_records gs) (trailer_after agreed lined header gs))) ≡ written_bytes agreed lined header gs
-  bytes-in-form =
+  bytes_in_form : bytes_of (all_in_form lined (records_of (header_bytes header) (written_records gs) (trailer_after agreed lined header gs))) ≡ written_bytes agreed lined header gs
+  bytes_in_form =
       ap (λ (t : Bool). bytes_of (all_in_form t (records_of (header_bytes header) (written_records gs) (trailer_after agreed lined header gs)))) (sym (form_of_length lined))
 
 all_accepted : (agreed : List ℕ) (lined : Bool) (header : List ℕ) (gs : List GivenPayment) → Closed agreed lined header gs → FewIssuers gs
@@ -197,7 +197,7 @@ closed_file_bytes_run agreed lined header gs c few =
     let z = trailer_after agreed lined header gs in
     let own = whole agreed lined header gs c in
     let run =
-    ap (run_of agreed fresh_session false) (sym (bytes-in-form agreed lined header gs)) ∙ file_bytes_run agreed fresh_session lined a recs z refl own all in
+    ap (run_of agreed fresh_session false) (sym (bytes_in_form agreed lined header gs)) ∙ file_bytes_run agreed fresh_session lined a recs z refl own all in
     let given : length recs ≡ length gs = simp length-map in
     let shows = fresh_board_holds (lanes_of_records recs) ((file_accepted agreed fresh_session lined a recs z refl own).0 all).2 in (
       ap (λ (r : RunResult). r.answer) run,
@@ -252,8 +252,8 @@ module _ (agreed : List ℕ) (s : Session) (lined : Bool) (a : List ℕ) (recs :
   head : (header_answer fresh_writer header (length_of lined) ≡ Accepted) × (header_bytes header ≡ a) × (opened_by lined header ≡ opened start)
   head = fields_write_the_header (header_terms agreed a) fresh_writer lined a (record_asked (header_terms agreed a) a w.list w.header.0) w.header.1 refl
 
-  pays-all : PaymentsWritten agreed (opened_by lined header) gs
-  pays-all = subst (λ (x : Writer). PaymentsWritten agreed x gs) (sym head.2) again.pays
+  pays_all : PaymentsWritten agreed (opened_by lined header) gs
+  pays_all = subst (λ (x : Writer). PaymentsWritten agreed x gs) (sym head.2) again.pays
 
   -- the writer after them
   abbrev full : File
@@ -274,6 +274,6 @@ fields_write_the_file agreed s lined a recs z closed w e =
     let again = again agreed s lined a recs z closed w e in
     let tail = tail agreed s lined a recs z closed w e in
     let head = head agreed s lined a recs z closed w e in (
-      record { list = w.list; opens = head.0; pays = pays-all agreed s lined a recs z closed w e; closes = tail.0 },
+      record { list = w.list; opens = head.0; pays = pays_all agreed s lined a recs z closed w e; closes = tail.0 },
       sym (in_its_form agreed lined (joined_of Header a) (map given_by recs)) ∙ rw (tail.1, head.1, again.same),
     )

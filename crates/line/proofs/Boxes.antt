@@ -129,15 +129,15 @@ sound_digits : (line : List ℕ) → SoundLine line → all (is_of Digit) line �
 sound_digits line s =
     let m = modulus_of (digit_at 3 line) in
     let g = good (code_of line) s.code in
-    let parts : (plan : List Stretch) → all (is_of Digit) (gather plan line) ≡ true → all (is_of Digit) (with_checks m plan line) ≡ true = plan-digits m line in
+    let parts : (plan : List Stretch) → all (is_of Digit) (gather plan line) ≡ true → all (is_of Digit) (with_checks m plan line) ≡ true = plan_digits m line in
     ap (all (is_of Digit)) (sym (sound_boxes line s)) ∙ parts boxes g.digits
   where
-    plan-digits : (m : Modulus) (line : List ℕ) (plan : List Stretch) → all (is_of Digit) (gather plan line) ≡ true → all (is_of Digit) (with_checks m plan line) ≡ true
-    plan-digits m line [] h = refl
-    plan-digits m line (b ∷ plan) h =
+    plan_digits : (m : Modulus) (line : List ℕ) (plan : List Stretch) → all (is_of Digit) (gather plan line) ≡ true → all (is_of Digit) (with_checks m plan line) ≡ true
+    plan_digits m line [] h = refl
+    plan_digits m line (b ∷ plan) h =
         let both = (and-eq-true_iff (all (is_of Digit) (part_at b line)) (all (is_of Digit) (gather plan line))).0 (sym (all_joins (is_of Digit) (part_at b line) (gather plan line)) ∙ h) in
         all_joins (is_of Digit) (checked_box m (part_at b line)) (with_checks m plan line)
-        ∙ rw (checked_digits m (part_at b line) both.0, plan-digits m line plan both.1)
+        ∙ rw (checked_digits m (part_at b line) both.0, plan_digits m line plan both.1)
 
 -- a line whose check digits are right is sound
 pub checks_sound : (line : List ℕ) → length line ≡ 48 → checks_answer line ≡ Accepted → SoundLine line

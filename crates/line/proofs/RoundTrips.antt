@@ -45,20 +45,20 @@ module _ (code : List ℕ) (n : length code ≡ 44) where
   abbrev box : ℕ → List ℕ
   box from = checked_box (modulus_of (digit_at 3 code)) (at from code)
 
-  part-long : (from : ℕ) → from + 11 ≤ 44 → length (at from code) ≡ 11
-  part-long from h = at_length from code (omega arith)
+  part_long : (from : ℕ) → from + 11 ≤ 44 → length (at from code) ≡ 11
+  part_long from h = at_length from code (omega arith)
 
-  box-long : (from : ℕ) → from + 11 ≤ 44 → length (box from) ≡ 12
-  box-long from h = checked_length (modulus_of (digit_at 3 code)) (at from code) (part-long from h)
+  box_long : (from : ℕ) → from + 11 ≤ 44 → length (box from) ≡ 12
+  box_long from h = checked_length (modulus_of (digit_at 3 code)) (at from code) (part_long from h)
 
-  line-long : length (line_of code) ≡ 48
-  line-long =
+  line_long : length (line_of code) ≡ 48
+  line_long =
       omega (
         arith,
-        box-long 0 (omega arith),
-        box-long 11 (omega arith),
-        box-long 22 (omega arith),
-        box-long 33 (omega arith),
+        box_long 0 (omega arith),
+        box_long 11 (omega arith),
+        box_long 22 (omega arith),
+        box_long 33 (omega arith),
         length-append (box 0) (box 11 ++ (box 22 ++ (box 33 ++ []))),
         length-append (box 11) (box 22 ++ (box 33 ++ [])),
         length-append (box 22) (box 33 ++ []),
@@ -74,15 +74,15 @@ module _ (code : List ℕ) (n : length code ≡ 44) where
   shows here there rest h e =
       let x = 48 + check_of (modulus_of (digit_at 3 code)) (at there code) in
       record {
-        part = ap (take 11) e ∙ box_part (at there code) rest x (part-long there h);
-        byte = sym (get_or-drop here (line_of code) 11 0) ∙ ap (λ (l : List ℕ). get_or l 11 0) e ∙ box_check (at there code) rest x (part-long there h);
+        part = ap (take 11) e ∙ box_part (at there code) rest x (part_long there h);
+        byte = sym (get_or-drop here (line_of code) 11 0) ∙ ap (λ (l : List ℕ). get_or l 11 0) e ∙ box_check (at there code) rest x (part_long there h);
       }
 
   all_shown : Shows 0 0 × Shows 12 11 × Shows 24 22 × Shows 36 33
   all_shown =
-      let l0 = box-long 0 (omega arith) in
-      let l1 = box-long 11 (omega arith) in
-      let l2 = box-long 22 (omega arith) in (
+      let l0 = box_long 0 (omega arith) in
+      let l1 = box_long 11 (omega arith) in
+      let l2 = box_long 22 (omega arith) in (
         shows 0 0 (box 11 ++ (box 22 ++ (box 33 ++ []))) (omega arith) refl,
         shows 12 11 (box 22 ++ (box 33 ++ [])) (omega arith) (second 12 (box 0) (box 11) (box 22) (box 33) l0 l1 l2),
         shows 24 22 (box 33 ++ []) (omega arith) (third 12 (box 0) (box 11) (box 22) (box 33) l0 l1 l2),
@@ -94,16 +94,16 @@ module _ (code : List ℕ) (n : length code ≡ 44) where
       let s = all_shown in
       joins s.0.part (joins s.1.part (joins s.2.part (joins s.3.part refl))) ∙ cut 11 code n
 
-  same-modulus : modulus_of (digit_at 3 (line_of code)) ≡ modulus_of (digit_at 3 code)
-  same-modulus =
-      ap (λ (x : ℕ). modulus_of (value_of x)) (sym (code_byte (line_of code) 2 line-long (omega arith)) ∙ ap (λ (l : List ℕ). get_or l 2 0) code_back)
+  same_modulus : modulus_of (digit_at 3 (line_of code)) ≡ modulus_of (digit_at 3 code)
+  same_modulus =
+      ap (λ (x : ℕ). modulus_of (value_of x)) (sym (code_byte (line_of code) 2 line_long (omega arith)) ∙ ap (λ (l : List ℕ). get_or l 2 0) code_back)
 
-  box-shown : (here there : ℕ) → Shows here there → box_right (modulus_of (digit_at 3 (line_of code))) (line_of code) (record { first = here + 1; last = here + 11 }) ≡ true
+  box_shown : (here there : ℕ) → Shows here there → box_right (modulus_of (digit_at 3 (line_of code))) (line_of code) (record { first = here + 1; last = here + 11 }) ≡ true
   unfolding box_right
-  box-shown here there s =
+  box_shown here there s =
       let a : here + 1 - 1 ≡ here = omega arith in
       let b : here + 11 - here ≡ 11 = omega arith in
-      rw (same-modulus, a, b) (eq-eqb _ _ (s.byte ∙ ap (λ (l : List ℕ). 48 + check_of (modulus_of (digit_at 3 code)) l) (sym s.part)))
+      rw (same_modulus, a, b) (eq-eqb _ _ (s.byte ∙ ap (λ (l : List ℕ). 48 + check_of (modulus_of (digit_at 3 code)) l) (sym s.part)))
 
 pub code_to_line_and_back : CodeToLineAndBack
 code_to_line_and_back agreed code e =
@@ -112,8 +112,8 @@ code_to_line_and_back agreed code e =
     let s = all_shown code n in
     let back = code_back code n in
     let accepted : AcceptedLine agreed (line_of code) = record {
-      long = line-long code n;
-      checks = (box-shown code n 0 0 s.0, (box-shown code n 12 11 s.1, (box-shown code n 24 22 s.2, (box-shown code n 36 33 s.3, tt))));
+      long = line_long code n;
+      checks = (box_shown code n 0 0 s.0, (box_shown code n 12 11 s.1, (box_shown code n 24 22 s.2, (box_shown code n 36 33 s.3, tt))));
       code = ap (barcode_check agreed) back ∙ e;
     } in
     ((accepted_is_boxes_and_code agreed (line_of code)).1 accepted, back)

@@ -80,9 +80,9 @@ module _ (p : Pair) where
       go false k later = later (omega arith)
 
   -- storing at the index that was found, or behind the last, is `remembering`
-  stored-found : (qs : List Pair) → index_of p qs < length qs → set qs (index_of p qs) p ≡ remembering p qs
-  stored-found [] h = absurd (omega arith)
-  stored-found (q ∷ qs) h = go (is_same_pair q p) h (stored-found qs)
+  stored_found : (qs : List Pair) → index_of p qs < length qs → set qs (index_of p qs) p ≡ remembering p qs
+  stored_found [] h = absurd (omega arith)
+  stored_found (q ∷ qs) h = go (is_same_pair q p) h (stored_found qs)
     where
       go : (t : Bool) → cond t 0 (suc (index_of p qs)) < suc (length qs)
           → (index_of p qs < length qs → set qs (index_of p qs) p ≡ remembering p qs)
@@ -90,9 +90,9 @@ module _ (p : Pair) where
       go true k later = refl
       go false k later = ap (λ (rs : List Pair). q ∷ rs) (later (omega arith))
 
-  stored-new : (qs : List Pair) → length qs ≤ index_of p qs → qs ++ (p ∷ []) ≡ remembering p qs
-  stored-new [] h = refl
-  stored-new (q ∷ qs) h = go (is_same_pair q p) h (stored-new qs)
+  stored_new : (qs : List Pair) → length qs ≤ index_of p qs → qs ++ (p ∷ []) ≡ remembering p qs
+  stored_new [] h = refl
+  stored_new (q ∷ qs) h = go (is_same_pair q p) h (stored_new qs)
     where
       go : (t : Bool) → suc (length qs) ≤ cond t 0 (suc (index_of p qs))
           → (length qs ≤ index_of p qs → qs ++ (p ∷ []) ≡ remembering p qs)
@@ -111,8 +111,8 @@ one_before n last positive = go (eqb (n - 1) last) refl
 -- The memory at the index that a search found.
 
 module _ (m : Memory) (full : length m.pairs ≡ most_pairs) (p : Pair) {at : ℕ} (is : at ≡ index_of p (pairs_of m)) where
-  known-here : at < min m.used most_pairs → remembered_for p (pairs_of m) ≡ some (get_or m.pairs at past).sequence
-  known-here h =
+  known_here : at < min m.used most_pairs → remembered_for p (pairs_of m) ≡ some (get_or m.pairs at past).sequence
+  known_here h =
       found_number p (pairs_of m) (omega (arith, is, in_use m full))
       ∙ rw (← is) (ap (λ (q : Pair). some q.sequence) (get_or-take m.used m.pairs at past (omega arith)))
 
@@ -123,7 +123,7 @@ module _ (m : Memory) (full : length m.pairs ≡ most_pairs) (p : Pair) {at : �
       → t ≡ eqb p.sequence (next_number (get_or m.pairs at past).sequence)
       → require t NotFollowing sequence_place ≡ memory_answer m p
   check_known {t} h e =
-      let all : memory_answer m p ≡ require t NotFollowing sequence_place then Accepted = rw (known-here h, e) in
+      let all : memory_answer m p ≡ require t NotFollowing sequence_place then Accepted = rw (known_here h, e) in
       sym (all ∙ then_accepted (require t NotFollowing sequence_place))
 
   pub check_new : min m.used most_pairs ≤ at → require (ltb at most_pairs) PairsFull agreement_place ≡ memory_answer m p
@@ -140,12 +140,12 @@ module _ (m : Memory) (full : length m.pairs ≡ most_pairs) (p : Pair) {at : �
       go true e =
           let used = ltb-true at m.used e in
           take-set-lt m.used m.pairs at p used
-          ∙ rw is (stored-found p (pairs_of m) (omega (arith, is, in_use m full)))
+          ∙ rw is (stored_found p (pairs_of m) (omega (arith, is, in_use m full)))
       go false e =
           let used = ltb-false at m.used e in
           let last : length (pairs_of m) ≡ at = omega (arith, is, index_within p (pairs_of m), in_use m full) in
           let all : at ≡ m.used = omega (arith, is, index_within p (pairs_of m), in_use m full) in
-          rw (add-one at) (take-suc-set m.pairs at p (omega (arith, full)) ∙ rw all (stored-new p (pairs_of m) (omega (arith, is, last))))
+          rw (add-one at) (take-suc-set m.pairs at p (omega (arith, full)) ∙ rw all (stored_new p (pairs_of m) (omega (arith, is, last))))
 
 -- By the pair.
 

@@ -37,17 +37,17 @@ module _ (m : Memory) (full : length m.pairs ≡ most_pairs) (p : Pair) where
 
   module _ (k : ℕ) (inv : Searched m p k) where
     -- one pair more is tested
-    pair-next : k < min m.used most_pairs → index_of p (drop k (pairs_of m))
+    pair_next : k < min m.used most_pairs → index_of p (drop k (pairs_of m))
         ≡ cond (is_same_pair (get_or m.pairs k past) p) 0 (suc (index_of p (drop (k + 1) (pairs_of m))))
-    pair-next h =
+    pair_next h =
         let here = get_or-take m.used m.pairs k past (omega arith) in
         rw (drop-cons (pairs_of m) k past (omega (arith, in_use m full)), here, add-one k)
 
     pub search_on : k < min m.used most_pairs → is_same_pair (get_or m.pairs k past) p ≡ false → Searched m p (k + 1)
-    search_on h t = (omega arith, inv.1 ∙ rw (pair-next h, t) (omega arith))
+    search_on h t = (omega arith, inv.1 ∙ rw (pair_next h, t) (omega arith))
 
     pub search_hits : k < min m.used most_pairs → is_same_pair (get_or m.pairs k past) p ≡ true → k ≡ index_of p (pairs_of m)
-    search_hits h t = sym (inv.1 ∙ rw (pair-next h, t) (omega arith))
+    search_hits h t = sym (inv.1 ∙ rw (pair_next h, t) (omega arith))
 
     pub search_ends : min m.used most_pairs ≤ k → k ≡ index_of p (pairs_of m)
     search_ends h =

@@ -87,11 +87,11 @@ expected w call e =
 
 -- in an open file of this form: its length, and what is written
 module _ (w : Writer) (call : WriterCall) (opened : w.stage ≡ stage.Open) (e : answer_to w call ≡ Accepted) where
-  right-size : size_of call ≡ length_of w.file.lined
-  right-size = open_call_size w (kind_of call) (given_to call) (size_of call) opened (called w call e)
+  right_size : size_of call ≡ length_of w.file.lined
+  right_size = open_call_size w (kind_of call) (given_to call) (size_of call) opened (called w call e)
 
-  right-form : {lined : Bool} → w.file.lined ≡ lined → is_lined_buffer (size_of call) ≡ lined
-  right-form f = ap is_lined_buffer right-size ∙ form_of_length w.file.lined ∙ f
+  right_form : {lined : Bool} → w.file.lined ≡ lined → is_lined_buffer (size_of call) ≡ lined
+  right_form f = ap is_lined_buffer right_size ∙ form_of_length w.file.lined ∙ f
 
 -- A payment more at the end of those written.
 
@@ -168,23 +168,23 @@ moves agreed w recs (payment list g size) lent (writing lined h gs o f a p l q) 
     let answer = payment_check agreed last g.fields g.received g.tariff (length_of last.file.lined) in
     let paid : answer ≡ Accepted =
     ap (λ (v : Writer). payment_check agreed v g.fields g.received g.tariff (length_of v.file.lined)) (sym l)
-    ∙ ap (payment_check agreed w g.fields g.received g.tariff) (sym (right-size w call o e))
+    ∙ ap (payment_check agreed w g.fields g.received g.tariff) (sym (right_size w call o e))
     ∙ ap (λ (l : List ℕ). payment_check l w g.fields g.received g.tariff size) (sym lent) ∙ e in
     let after : next w call ≡ files.writer_after_payments agreed (opened_by lined h) (gs ++ (g ∷ [])) =
     ap (λ (v : Writer). next v call) l
     ∙ sym (accepted_takes answer (next last call) last paid)
     ∙ sym (after_more agreed (opened_by lined h) gs g) in
     writing lined h (gs ++ (g ∷ [])) o f a (pays_more agreed (opened_by lined h) gs g p paid) after
-    (added lined (is_lined_buffer size) (header_bytes h ∷ written_records gs) (record_of g) (right-form w call o e f) q
+    (added lined (is_lined_buffer size) (header_bytes h ∷ written_records gs) (record_of g) (right_form w call o e f) q
     ∙ ap (λ (rs : List (List ℕ)). all_in_form lined (header_bytes h ∷ rs)) (sym (map-append record_of gs (g ∷ []))))
 moves agreed w recs (trailer size) lent (writing lined h gs o f a p l q) e =
     let call = trailer size in
     let last = files.writer_after_payments agreed (opened_by lined h) gs in
-    let size_is : size ≡ length_of lined = right-size w call o e ∙ ap length_of f in
+    let size_is : size ≡ length_of lined = right_size w call o e ∙ ap length_of f in
     let shut : trailer_answer last (length_of lined) ≡ Accepted =
     ap (λ (v : Writer). trailer_answer v (length_of lined)) (sym l) ∙ ap (trailer_answer w) (sym size_is) ∙ e in
     ended lined h gs refl (λ list. record { list = list; opens = a; pays = p; closes = shut })
-    (added lined (is_lined_buffer size) (header_bytes h ∷ written_records gs) (trailer_bytes w) (right-form w call o e f) q
+    (added lined (is_lined_buffer size) (header_bytes h ∷ written_records gs) (trailer_bytes w) (right_form w call o e f) q
     ∙ ap (λ (v : Writer). all_in_form lined (records_of (header_bytes h) (written_records gs) (trailer_bytes v))) l)
 moves agreed w recs (header given size) lent (ended lined h gs o c q) e = astray stage.Closed w (header given size) o refl e
 moves agreed w recs (payment list g size) lent (ended lined h gs o c q) e = astray stage.Closed w (payment list g size) o refl e

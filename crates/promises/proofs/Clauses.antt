@@ -17,8 +17,8 @@ module _ (w : World) where
   itself : (φ : Type 0) → Gives (says φ) φ
   itself φ = id⊢ w.𝓤 (says φ)
 
-  from-both : (P Q : Pr w) (φ χ ψ : Type 0) → Gives P φ → Gives Q χ → (φ → χ → ψ) → Gives (both P Q) ψ
-  from-both P Q φ χ ψ p q f =
+  from_both : (P Q : Pr w) (φ χ ψ : Type 0) → Gives P φ → Gives Q χ → (φ → χ → ψ) → Gives (both P Q) ψ
+  from_both P Q φ χ ψ p q f =
       fact_use w.𝓤 φ (via w.𝓤 P (fst∗ w.𝓤 P Q) p) (λ x.
       fact_use w.𝓤 χ (via w.𝓤 Q (snd∗ w.𝓤 P Q) q) (λ y. fact_i w.𝓤 ψ (both P Q) (f x y)))
 
@@ -26,21 +26,21 @@ module _ (w : World) where
   abbrev pub clauses : Type 0 → Type 0 → Pr w
   clauses φ χ = both (says φ) (says χ)
 
-  abbrev pub bounded-clauses : Type 0 → Type 0 → Type 0 → Pr w
-  bounded-clauses φ χ β = both (says φ) (clauses χ β)
+  abbrev pub bounded_clauses : Type 0 → Type 0 → Type 0 → Pr w
+  bounded_clauses φ χ β = both (says φ) (clauses χ β)
 
-  without-bound : (χ β : Type 0) → Gives (clauses χ β) χ
-  without-bound χ β = fst∗ w.𝓤 (says χ) (says β)
+  without_bound : (χ β : Type 0) → Gives (clauses χ β) χ
+  without_bound χ β = fst∗ w.𝓤 (says χ) (says β)
 
   -- of one outcome
   pub by_one : (φ ψ : Type 0) → (φ → ψ) → Gives (says φ) ψ
   by_one φ ψ f = fact_mono w.𝓤 φ ψ f
 
   pub by_two : (φ χ ψ : Type 0) → (φ → χ → ψ) → Gives (clauses φ χ) ψ
-  by_two φ χ ψ f = from-both (says φ) (says χ) φ χ ψ (itself φ) (itself χ) f
+  by_two φ χ ψ f = from_both (says φ) (says χ) φ χ ψ (itself φ) (itself χ) f
 
-  pub by_bounded : (φ χ β ψ : Type 0) → (φ → χ → ψ) → Gives (bounded-clauses φ χ β) ψ
-  by_bounded φ χ β ψ f = from-both (says φ) (clauses χ β) φ χ ψ (itself φ) (without-bound χ β) f
+  pub by_bounded : (φ χ β ψ : Type 0) → (φ → χ → ψ) → Gives (bounded_clauses φ χ β) ψ
+  by_bounded φ χ β ψ f = from_both (says φ) (clauses χ β) φ χ ψ (itself φ) (without_bound χ β) f
 
   -- of two outcomes
   pub one : (φ φ' ψ : Type 0) → (φ → φ' → ψ) → Gives (both (says φ) (says φ')) ψ
@@ -48,12 +48,12 @@ module _ (w : World) where
 
   pub two : (φ χ φ' χ' ψ : Type 0) → (φ × χ → φ' × χ' → ψ) → Gives (both (clauses φ χ) (clauses φ' χ')) ψ
   two φ χ φ' χ' ψ f =
-      from-both (clauses φ χ) (clauses φ' χ') (φ × χ) (φ' × χ') ψ
+      from_both (clauses φ χ) (clauses φ' χ') (φ × χ) (φ' × χ') ψ
       (by_two φ χ (φ × χ) (λ x y. (x, y))) (by_two φ' χ' (φ' × χ') (λ x y. (x, y))) f
 
   pub bounded :
       (φ χ β φ' χ' β' ψ : Type 0) → (φ × χ → φ' × χ' → ψ)
-      → Gives (both (bounded-clauses φ χ β) (bounded-clauses φ' χ' β')) ψ
+      → Gives (both (bounded_clauses φ χ β) (bounded_clauses φ' χ' β')) ψ
   bounded φ χ β φ' χ' β' ψ f =
-      from-both (bounded-clauses φ χ β) (bounded-clauses φ' χ' β') (φ × χ) (φ' × χ') ψ
+      from_both (bounded_clauses φ χ β) (bounded_clauses φ' χ' β') (φ × χ) (φ' × χ') ψ
       (by_bounded φ χ β (φ × χ) (λ x y. (x, y))) (by_bounded φ' χ' β' (φ' × χ') (λ x y. (x, y))) f

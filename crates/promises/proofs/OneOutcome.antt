@@ -12,7 +12,7 @@ use Rattle.answer.specs.Orders.{if_accepted}
 use Rattle.writer.specs.declared.WriteResult.{WriteResult}
 use Rattle.promises.specs.OneOutcome as outcomes
 use Rattle.promises.specs.OneOutcome.{OneOutcome}
-use Rattle.promises.proofs.Clauses.{says, both, Gives, clauses, bounded-clauses, one, two, bounded}
+use Rattle.promises.proofs.Clauses.{says, both, Gives, clauses, bounded_clauses, one, two, bounded}
 
 -- two that are given by one equation
 same : {A : Type 0} {x r r' : A} → r ≡ x → r' ≡ x → r ≡ r'
@@ -62,11 +62,11 @@ module _ (before behind : ℕ) (w : World) where
   fixed A x r r' y b b' =
       two w _ _ _ _ _ (λ p p'. (same p.0 p'.0, ap (around before behind) (same p.1 p'.1)))
 
-  fixed-bounded :
+  fixed_bounded :
       (A : Type 0) (x r r' : A) (y b b' : List ℕ) (β β' : Type 0)
-      → Gives w (both w (bounded-clauses w (r ≡ x) (b ≡ y) β) (bounded-clauses w (r' ≡ x) (b' ≡ y) β'))
+      → Gives w (both w (bounded_clauses w (r ≡ x) (b ≡ y) β) (bounded_clauses w (r' ≡ x) (b' ≡ y) β'))
       (Equal r r' b b')
-  fixed-bounded A x r r' y b b' β β' =
+  fixed_bounded A x r r' y b b' β β' =
       bounded w _ _ _ _ _ _ _ (λ p p'. (same p.0 p'.0, ap (around before behind) (same p.1 p'.1)))
 
   module _ (new old b b' : List ℕ) where
@@ -134,7 +134,7 @@ of_writer_holds : outcomes.WriterOutcomes
 of_writer_holds = search (value, written 1 0, written 2 0, written 5 0)
 
 of_page_holds : outcomes.PageOutcomes
-of_page_holds = search (fixed-bounded 5 0)
+of_page_holds = search (fixed_bounded 5 0)
 
 of_hollytrot_holds : outcomes.HollytrotOutcomes
 of_hollytrot_holds = search (value, fixed 2 0, fixed 3 0, fixed 4 0, fixed 5 0)

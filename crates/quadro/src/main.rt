@@ -1,6 +1,7 @@
 // quadro reads return files from standard input, and prints the page of the board shown at the input's end or at the
 // first refusal (SPEC.md, "The program quadro"). A day is the run over all input so far.
 #![tactic(auto)]
+
 ghost use Rattle.std.specs.Prelude.{◌≡◌, ◌-◌, ◌≤◌, length, take, drop};
 ghost use Rattle.answer.specs.declared.Answer.TheVariants.{Accepted};
 ghost use Rattle.day.specs.Days.{fresh_day, run_buffer_of, ended_of};

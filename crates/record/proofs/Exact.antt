@@ -151,30 +151,30 @@ pub not_sized : (t : Terms) (rec : List ℕ) → (length rec ≡ record_length �
 not_sized t rec h = unseen t rec (λ a p. h (accepted_is t rec a).0)
 
 module _ (t : Terms) (rec : List ℕ) (n : length rec ≡ record_length) where
-  right-when : record_answer t rec ≡ Accepted → is_payment (named_by (get_or rec 0 0)) ≡ true → Right t rec
-  right-when a p = seen t rec n (payment_named _ p) a
+  right_when : record_answer t rec ≡ Accepted → is_payment (named_by (get_or rec 0 0)) ≡ true → Right t rec
+  right_when a p = seen t rec n (payment_named _ p) a
 
   pub not_looking : looks_like_payment t.version rec ≡ false → Unseen t rec
   not_looking f =
-      unseen t rec (λ a p. let r = right-when a p in unequal ((and-eq-true_iff (is_payment (named_by (get_or rec 0 0))) (is_plain rec && is_coded t.version rec)).1 (p, (and-eq-true_iff (is_plain rec) (is_coded t.version rec)).1 (r.0, r.1))) f)
+      unseen t rec (λ a p. let r = right_when a p in unequal ((and-eq-true_iff (is_payment (named_by (get_or rec 0 0))) (is_plain rec && is_coded t.version rec)).1 (p, (and-eq-true_iff (is_plain rec) (is_coded t.version rec)).1 (r.0, r.1))) f)
 
   pub not_dated : is_dated rec ≡ false → Unseen t rec
-  not_dated f = unseen t rec (λ a p. unequal (right-when a p).2 f)
+  not_dated f = unseen t rec (λ a p. unequal (right_when a p).2 f)
 
   pub no_payment_date : date_of (field_bytes (row_at paid_row) rec) ≡ days.NoDate → Unseen t rec
-  no_payment_date e = unseen t rec (λ a p. unequal ((dated t rec).0 (right-when a p).2).0 (ap is_found e))
+  no_payment_date e = unseen t rec (λ a p. unequal ((dated t rec).0 (right_when a p).2).0 (ap is_found e))
 
   pub no_credit_date : date_of (field_bytes (row_at credited_row) rec) ≡ days.NoDate → Unseen t rec
-  no_credit_date e = unseen t rec (λ a p. unequal ((dated t rec).0 (right-when a p).2).1 (ap is_found e))
+  no_credit_date e = unseen t rec (λ a p. unequal ((dated t rec).0 (right_when a p).2).1 (ap is_found e))
 
   pub both_dates : {p c : Date} → date_of (field_bytes (row_at paid_row) rec) ≡ days.On p → date_of (field_bytes (row_at credited_row) rec) ≡ days.On c → is_dated rec ≡ true
   both_dates e f = (dated t rec).1 (ap is_found e, ap is_found f)
 
   pub no_payee : NoIssuer ≡ accepted_issuer t.agreed (field_bytes (row_at barcode_row) rec) → Unseen t rec
-  no_payee e = unseen t rec (λ a p. let k = rw (right-when a p).3 at e in let z : ◌≡◌ {A = ℕ} 0 1 = cc in omega arith)
+  no_payee e = unseen t rec (λ a p. let k = rw (right_when a p).3 at e in let z : ◌≡◌ {A = ℕ} 0 1 = cc in omega arith)
 
   pub no_code : {why : Reason} {place : ℕ} → read.Refused why place ≡ decoded_under t.agreed (field_bytes (row_at barcode_row) rec) → Unseen t rec
-  no_code e = unseen t rec (λ a p. let k = rw (right-when a p).3 at e in let z : ◌≡◌ {A = ℕ} 0 1 = cc in omega arith)
+  no_code e = unseen t rec (λ a p. let k = rw (right_when a p).3 at e in let z : ◌≡◌ {A = ℕ} 0 1 = cc in omega arith)
 
   module _ (looks : looks_like_payment t.version rec ≡ true) (dates : is_dated rec ≡ true) (right : barcode_under t.agreed (field_bytes (row_at barcode_row) rec) ≡ Accepted) where
     looked : (named_by (get_or rec 0 0) ≡ Is Payment) × (is_plain rec ≡ true) × (is_coded t.version rec ≡ true)

@@ -29,16 +29,16 @@ use Rattle.record.specs.Values.{has_row}
 
 -- The rows of any table: the row accepts, the row refuses, there is no row left.
 module _ {A : Type 0} (question : A → Answer) (rows : List A) (d : A) (i to : ℕ) where
-  rows-cons : i < to → to ≤ length rows → first_refusal question (slice i to rows) ≡ question (get_or rows i d) then first_refusal question (slice (i + 1) to rows)
-  rows-cons h k = rw (slice-cons i to rows d h k, add-one)
+  rows_cons : i < to → to ≤ length rows → first_refusal question (slice i to rows) ≡ question (get_or rows i d) then first_refusal question (slice (i + 1) to rows)
+  rows_cons h k = rw (slice-cons i to rows d h k, add-one)
 
   pub later : {r : Answer} → i < to → to ≤ length rows → question (get_or rows i d) ≡ Accepted → first_refusal question (slice i to rows) ≡ r
       → first_refusal question (slice (i + 1) to rows) ≡ r
-  later h k e q = rw (rows-cons h k, e) at q
+  later h k e q = rw (rows_cons h k, e) at q
 
   pub here : {r a : Answer} {why : Reason} {at : ℕ} → i < to → to ≤ length rows → a ≡ question (get_or rows i d) → a ≡ Refused why at
       → first_refusal question (slice i to rows) ≡ r → a ≡ r
-  here {why = why} {at = at} h k e f q = let g : question (get_or rows i d) ≡ Refused why at = sym e ∙ f in f ∙ (rw (rows-cons h k, g) at q)
+  here {why = why} {at = at} h k e f q = let g : question (get_or rows i d) ≡ Refused why at = sym e ∙ f in f ∙ (rw (rows_cons h k, g) at q)
 
 pub none : {A : Type 0} (question : A → Answer) (rows : List A) (i to : ℕ) {r : Answer} → i ≤ to → to ≤ i → first_refusal question (slice i to rows) ≡ r
     → Accepted ≡ r

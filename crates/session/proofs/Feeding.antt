@@ -184,15 +184,15 @@ module _ (agreed : List ℕ) (s : Session) (front rest : List ℕ) (enough : lin
   same_size : piece_length s (front ++ rest) ≡ size
   same_size = ap (λ (l : List ℕ). length_of (is_taken_lined s.opened s.file.lined l)) (take-append-le lined_length front rest enough)
 
-  same-piece : piece_of s (front ++ rest) ≡ piece_of s front
-  same-piece = ap (λ (n : ℕ). take n (front ++ rest)) same_size ∙ take-append-le size front rest short
+  same_piece : piece_of s (front ++ rest) ≡ piece_of s front
+  same_piece = ap (λ (n : ℕ). take n (front ++ rest)) same_size ∙ take-append-le size front rest short
 
   same_left : drop (piece_length s (front ++ rest)) (front ++ rest) ≡ drop size front ++ rest
   same_left = ap (λ (n : ℕ). drop n (front ++ rest)) same_size ∙ drop-append-le size front rest short
 
-  whole-left : (more : Bool) → least_left more ≤ length (front ++ rest)
-  whole-left true = omega (arith, enough, length-append front rest)
-  whole-left false = omega (arith, enough, length-append front rest)
+  whole_left : (more : Bool) → least_left more ≤ length (front ++ rest)
+  whole_left true = omega (arith, enough, length-append front rest)
+  whole_left false = omega (arith, enough, length-append front rest)
 
   -- behind the first piece, of either
   abbrev after : Bool → List ℕ → RunResult
@@ -200,14 +200,14 @@ module _ (agreed : List ℕ) (s : Session) (front rest : List ℕ) (enough : lin
 
   goes_on : (more : Bool) → take_answer agreed s (piece_of s front) ≡ Accepted → run_under agreed s more (front ++ rest) ≡ after more (drop size front ++ rest)
   goes_on more e =
-      run_on agreed s more (front ++ rest) (whole-left more) (ap (take_answer agreed s) same-piece ∙ e)
-      ∙ ap₂ (λ (r left : List ℕ). add_counts 1 (closed_by r) (length r) (run_under agreed (next_session agreed s r) more left)) same-piece same_left
+      run_on agreed s more (front ++ rest) (whole_left more) (ap (take_answer agreed s) same_piece ∙ e)
+      ∙ ap₂ (λ (r left : List ℕ). add_counts 1 (closed_by r) (length r) (run_under agreed (next_session agreed s r) more left)) same_piece same_left
 
-  stops-too : (more : Bool) {why : Reason} {p : ℕ} → take_answer agreed s (piece_of s front) ≡ Refused why p
+  stops_too : (more : Bool) {why : Reason} {p : ℕ} → take_answer agreed s (piece_of s front) ≡ Refused why p
       → run_under agreed s true front ≡ run_under agreed s more (front ++ rest)
-  stops-too more e =
+  stops_too more e =
       run_refused agreed s true front enough refl e
-      ∙ sym (run_refused agreed s more (front ++ rest) (whole-left more) (ap (take_answer agreed s) (sym same-piece)) e)
+      ∙ sym (run_refused agreed s more (front ++ rest) (whole_left more) (ap (take_answer agreed s) (sym same_piece)) e)
 
   left_behind : (n : ℕ) → drop n (drop size front) ≡ drop (length (piece_of s front) + n) front
   left_behind n = drop-drop n size front ∙ ap (λ (k : ℕ). drop (k + n) front) (sym (length-take-le size front short))
@@ -233,7 +233,7 @@ feeding agreed s more front rest =
     ))
     (λ s front enough why p e. (
       λ a. not_both (take_answer agreed s (piece_of s front)) e (ap (λ (r : RunResult). r.answer) (sym (run_refused agreed s true front enough refl e)) ∙ a),
-      λ a. stops-too agreed s front rest enough more e,
+      λ a. stops_too agreed s front rest enough more e,
     ))
     (λ s front enough e later.
     let goes = run_on agreed s true front enough e in

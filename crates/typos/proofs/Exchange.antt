@@ -43,8 +43,8 @@ module _ (line : List ℕ) (i : ℕ) (f : Passed Ten line) (h : i + 1 < 48) (ne 
   other : (j : ℕ) → j ≢ i → j ≢ i + 1 → get_or (exchanged line i) j 0 ≡ get_or line j 0
   other j n o = get_or-set_other (set line i x) (i + 1) j b 0 o ∙ get_or-set_other line i j x 0 n
 
-  first-now : get_or (exchanged line i) i 0 ≡ x
-  first-now =
+  first_now : get_or (exchanged line i) i 0 ≡ x
+  first_now =
       get_or-set_other (set line i x) (i + 1) i b 0 (λ e. omega arith)
       ∙ get_or-set_same line i x 0 (omega arith)
 
@@ -58,30 +58,30 @@ module _ (line : List ℕ) (i : ℕ) (f : Passed Ten line) (h : i + 1 < 48) (ne 
       = cc (t.sets (set line i x) b once, s.sets line x f.long) in
       rw e (rw (eb, ex) at (exchange_keeps 0 (piece line) j (t.inside line f.long) (rw eb left) (rw ex right) (rw (eb, ex) ne)))
 
-  box-keeps : (r : i % 12 < 10)
+  box_keeps : (r : i % 12 < 10)
       → (remainder_of Ten (part_at (box_of i) (exchanged line i)) ≡ remainder_of Ten (part_at (box_of i) line)) ↔ ZeroAndNine b x
-  box-keeps r =
+  box_keeps r =
       let n = i / 12 in
       let j : i + 1 - 12 * n ≡ i - 12 * n + 1 = omega arith in
       keeps (part_at (box_at n)) (i - 12 * n) (in_box n i (omega arith) (omega arith, omega arith)) (rw j at (in_box n (i + 1) (omega arith) (omega arith, omega arith)))
 
-  whole-keeps : (r : i % 12 < 10) → 4 ≤ i → (remainder_of Ten (whole_of (exchanged line i)) ≡ remainder_of Ten (whole_of line)) ↔ ZeroAndNine b x
-  whole-keeps r l =
+  whole_keeps : (r : i % 12 < 10) → 4 ≤ i → (remainder_of Ten (whole_of (exchanged line i)) ≡ remainder_of Ten (whole_of line)) ↔ ZeroAndNine b x
+  whole_keeps r l =
       keeps whole_of (seat i) (in_whole i (omega arith) (omega arith) (λ e. omega arith))
       (rw (next_seat i (omega arith) (omega arith)) at (in_whole (i + 1) (omega arith) (omega arith) (λ e. omega arith)))
 
   -- the first of the two is no check of a box: it would change alone
-  first-is-digit : Passed Ten (exchanged line i) → i % 12 ≢ 11
-  first-is-digit g check =
+  first_is_digit : Passed Ten (exchanged line i) → i % 12 ≢ 11
+  first_is_digit g check =
       let n = i / 12 in
       let at : 12 * n + 11 ≡ i = omega arith in
       let w = part_beside (box_at n) (set line i x) (i + 1) b (inr (omega arith)) ∙ part_beside (box_at n) line i x (inr (omega arith)) in
       let c = alone Ten (part_at (box_at n)) line (12 * n + 11) (exchanged line i) w (f.boxed n (omega arith)) (g.boxed n (omega arith)) in
-      ne (cc first-now)
+      ne (cc first_now)
 
   -- nor is the second: the first would change alone in the whole code
-  second-is-digit : Passed Ten (exchanged line i) → i % 12 ≢ 10
-  second-is-digit g last =
+  second_is_digit : Passed Ten (exchanged line i) → i % 12 ≢ 10
+  second_is_digit g last =
       let w = whole_beside (set line i x) (i + 1) b (omega arith) in
       let c = same_check Ten whole_of line 3 (exchanged line i) (other 3 (λ e. omega arith) (λ e. omega arith)) f.general g.general in
       let same = in_whole i (omega arith) (omega arith) (λ e. omega arith) in
@@ -90,10 +90,10 @@ module _ (line : List ℕ) (i : ℕ) (f : Passed Ten line) (h : i + 1 < 48) (ne 
   only : Passed Ten (exchanged line i) → ZeroAndNine b x × InOneBox i
   only g =
       let n = i / 12 in
-      let r : i % 12 < 10 = omega (arith, first-is-digit g, second-is-digit g) in
+      let r : i % 12 < 10 = omega (arith, first_is_digit g, second_is_digit g) in
       let stays = other (12 * n + 11) (λ e. omega arith) (λ e. omega arith) in
       let c = same_check Ten (part_at (box_at n)) line (12 * n + 11) (exchanged line i) stays (f.boxed n (omega arith)) (g.boxed n (omega arith)) in
-      ((box-keeps r).0 (check_shows_ten _ _ (omega arith) (omega arith) c), omega arith)
+      ((box_keeps r).0 (check_shows_ten _ _ (omega arith) (omega arith) c), omega arith)
 
   -- the general check itself and the digit behind it
   fourth : i ≡ 3 → ZeroAndNine b x → Right Ten whole_of 3 (exchanged line i)
@@ -104,7 +104,7 @@ module _ (line : List ℕ) (i : ℕ) (f : Passed Ten line) (h : i + 1 < 48) (ne 
       let q : whole_of (exchanged line i) ≡ set (whole_of line) (seat (i + 1)) b = cc (s.sets (set line i x) b once) in
       let moved = rw (s.byte line f.long) at (sum_set Ten 0 (whole_of line) (seat (i + 1)) b k (omega (arith, s.inside line f.long))) in
       let was = ap (λ (n : ℕ). get_or line n 0) e ∙ f.general in
-      ap (λ (n : ℕ). get_or (exchanged line i) n 0) (sym e) ∙ first-now ∙ turned b x _ _ (0 + k) z moved was ∙ ap (λ (l : List ℕ). 48 + check_of Ten l) (sym q)
+      ap (λ (n : ℕ). get_or (exchanged line i) n 0) (sym e) ∙ first_now ∙ turned b x _ _ (0 + k) z moved was ∙ ap (λ (l : List ℕ). 48 + check_of Ten l) (sym q)
 
   when : Names Ten line → ZeroAndNine b x → i % 12 < 10 → Passed Ten (exchanged line i)
   when t z r =
@@ -114,9 +114,9 @@ module _ (line : List ℕ) (i : ℕ) (f : Passed Ten line) (h : i + 1 < 48) (ne 
       let others : (q : ℕ) → q ≢ n → BoxRight Ten q line → BoxRight Ten q (exchanged line i) = λ q ne o.
       other_box Ten (set line i x) (i + 1) b q (λ e. ne (omega arith)) (other_box Ten line i x q ne o) in
       let stays = other (12 * n + 11) (λ e. omega arith) (λ e. omega arith) in
-      let own = right_again Ten (part_at (box_at n)) line (12 * n + 11) (exchanged line i) stays (ap (digit_of_remainder Ten) ((box-keeps r).1 z)) (f.boxed n (omega arith)) in
+      let own = right_again Ten (part_at (box_at n)) line (12 * n + 11) (exchanged line i) stays (ap (digit_of_remainder Ten) ((box_keeps r).1 z)) (f.boxed n (omega arith)) in
       let later : 3 < i → Right Ten whole_of 3 (exchanged line i) = λ l.
-      right_again Ten whole_of line 3 (exchanged line i) (other 3 (λ e. omega arith) (λ e. omega arith)) (ap (digit_of_remainder Ten) ((whole-keeps r l).1 z)) f.general in
+      right_again Ten whole_of line 3 (exchanged line i) (other 3 (λ e. omega arith) (λ e. omega arith)) (ap (digit_of_remainder Ten) ((whole_keeps r l).1 z)) f.general in
       record {
         long = length-set (set line i x) (i + 1) b ∙ once;
         digits = all_set (is_of Digit) (set line i x) (i + 1) b (all_set (is_of Digit) line i x f.digits right) left;

@@ -38,9 +38,9 @@ module _ (line : List ℕ) (i d : ℕ) (f : Passed Eleven line) (h : i < 48) (ne
   digit = all_at (is_of Digit) line i f.digits (omega arith)
 
   -- the check of a piece that has the digit holds again exactly when the piece's remainder moves between 0 and 1
-  holds-again : (piece : List ℕ → List ℕ) (at j : ℕ) → at ≢ i → SameByte 48 piece i j → Right Eleven piece at line
+  holds_again : (piece : List ℕ → List ℕ) (at j : ℕ) → at ≢ i → SameByte 48 piece i j → Right Eleven piece at line
       → Right Eleven piece at (set line i d) ↔ BetweenZeroAndOne (remainder_of Eleven (piece line)) (remainder_of Eleven (piece (set line i d)))
-  holds-again piece at j other s r =
+  holds_again piece at j other s r =
       let stays : get_or (set line i d) at 0 ≡ get_or line at 0 = get_or-set_other line i at d 0 other in
       let shows = check_shows_eleven (remainder_of Eleven (piece line)) (remainder_of Eleven (piece (set line i d))) (omega arith) (omega arith) in (
         λ r'.
@@ -49,13 +49,13 @@ module _ (line : List ℕ) (i d : ℕ) (f : Passed Eleven line) (h : i < 48) (ne
         λ z. right_again Eleven piece line at (set line i d) stays (sym (shows.1 (inr z))) r,
       )
 
-  in-the-box : (r : i % 12 < 11) → BoxRight Eleven (i / 12) (set line i d) ↔ BetweenZeroAndOne (box_remainder Eleven i line) (box_remainder Eleven i (set line i d))
-  in-the-box r =
-      holds-again (part_at (box_of i)) (12 * (i / 12) + 11) (i - 12 * (i / 12)) (λ e. omega arith) (in_box (i / 12) i (omega arith) (omega arith, omega arith))
+  in_the_box : (r : i % 12 < 11) → BoxRight Eleven (i / 12) (set line i d) ↔ BetweenZeroAndOne (box_remainder Eleven i line) (box_remainder Eleven i (set line i d))
+  in_the_box r =
+      holds_again (part_at (box_of i)) (12 * (i / 12) + 11) (i - 12 * (i / 12)) (λ e. omega arith) (in_box (i / 12) i (omega arith) (omega arith, omega arith))
       (f.boxed (i / 12) (omega arith))
 
-  in-the-whole : (r : i % 12 < 11) → i ≢ 3 → Right Eleven whole_of 3 (set line i d) ↔ BetweenZeroAndOne (code_remainder Eleven line) (code_remainder Eleven (set line i d))
-  in-the-whole r three = holds-again whole_of 3 (seat i) (λ e. three (sym e)) (in_whole i h r three) f.general
+  in_the_whole : (r : i % 12 < 11) → i ≢ 3 → Right Eleven whole_of 3 (set line i d) ↔ BetweenZeroAndOne (code_remainder Eleven line) (code_remainder Eleven (set line i d))
+  in_the_whole r three = holds_again whole_of 3 (seat i) (λ e. three (sym e)) (in_whole i h r three) f.general
 
   only : Passed Eleven (set line i d) → NoCheck i × BothMove i line (set line i d)
   only g =
@@ -66,7 +66,7 @@ module _ (line : List ℕ) (i d : ℕ) (f : Passed Eleven line) (h : i < 48) (ne
         get_or-set_same line i d 0 (omega arith),
       )
       ) in
-      ((three, omega arith), ((in-the-box r).0 (g.boxed (i / 12) (omega arith)), (in-the-whole r three).0 g.general))
+      ((three, omega arith), ((in_the_box r).0 (g.boxed (i / 12) (omega arith)), (in_the_whole r three).0 g.general))
 
 pub one_changed_digit_under_eleven : OneChangedDigitUnderEleven
 one_changed_digit_under_eleven line i d p t h ne hd first second t' =
@@ -78,7 +78,7 @@ one_changed_digit_under_eleven line i d p t h ne hd first second t' =
             long = length-set line i d ∙ f.long;
             digits = all_set (is_of Digit) line i d f.digits hd;
             first_three = (first_three_accepts (set line i d)).1 (first, second, kind_of_eleven (digit_at 3 (set line i d)) (value_small _) t');
-            boxed = boxes_again Eleven line (set line i d) (i / 12) (other_box Eleven line i d) ((in-the-box line i d f h ne hd r).1 w.1.0) f.boxed;
-            general = (in-the-whole line i d f h ne hd r w.0.0).1 w.1.1;
+            boxed = boxes_again Eleven line (set line i d) (i / 12) (other_box Eleven line i d) ((in_the_box line i d f h ne hd r).1 w.1.0) f.boxed;
+            general = (in_the_whole line i d f h ne hd r w.0.0).1 w.1.1;
           }),
     )

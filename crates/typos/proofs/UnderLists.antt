@@ -18,24 +18,24 @@ use Rattle.typos.proofs.OneEleven.{one_changed_digit_under_eleven}
 
 -- the two laws
 module _ (agreed line : List ℕ) where
-  accepted-passes : AcceptedUnder agreed line → Passes line
-  accepted-passes e = (line_tells agreed line e).1
+  accepted_passes : AcceptedUnder agreed line → Passes line
+  accepted_passes e = (line_tells agreed line e).1
 
-  or-passes : AcceptedOrNoDate agreed line → Passes line
-  or-passes h = ⊎_elim accepted-passes (no_due_date_passes_checks agreed line) h
+  or_passes : AcceptedOrNoDate agreed line → Passes line
+  or_passes h = ⊎_elim accepted_passes (no_due_date_passes_checks agreed line) h
 
   module _ (right : RightList agreed) where
-    passes-or : Passes line → AcceptedOrNoDate agreed line
-    passes-or e = ⊎_elim (λ a. inl a) (λ r. inr (ap answer_number r)) (line_accepted_or_no_due_date agreed line right e).0
+    passes_or : Passes line → AcceptedOrNoDate agreed line
+    passes_or e = ⊎_elim (λ a. inl a) (λ r. inr (ap answer_number r)) (line_accepted_or_no_due_date agreed line right e).0
 
-    passes-accepted : NotAgreed agreed line → Passes line → AcceptedUnder agreed line
-    passes-accepted n e = (line_accepted_or_no_due_date agreed line right e).1 n
+    passes_accepted : NotAgreed agreed line → Passes line → AcceptedUnder agreed line
+    passes_accepted n e = (line_accepted_or_no_due_date agreed line right e).1 n
 
     -- what holds exactly when the checks pass
     both : {C : Type 0} → (Passes line ↔ C) → AcceptedExactly agreed line C
     both h = (
-      (λ e. h.0 (or-passes e), λ c. passes-or (h.1 c)),
-      λ n. (λ e. h.0 (accepted-passes e), λ c. passes-accepted n (h.1 c)),
+      (λ e. h.0 (or_passes e), λ c. passes_or (h.1 c)),
+      λ n. (λ e. h.0 (accepted_passes e), λ c. passes_accepted n (h.1 c)),
     )
 
 pub accepted_by_checks : AcceptedByChecks
@@ -48,12 +48,12 @@ accepted_by_checks agreed line right =
 
 pub one_changed_digit_under_a_list : OneChangedDigitUnderAList
 one_changed_digit_under_a_list agreed line i d e names inside changes still h =
-    one_changed_digit_is_refused line i d (accepted-passes agreed line e) names inside changes still (or-passes agreed (set line i d) h)
+    one_changed_digit_is_refused line i d (accepted_passes agreed line e) names inside changes still (or_passes agreed (set line i d) h)
 
 pub exchange_under_a_list : ExchangeUnderAList
 exchange_under_a_list agreed line i e names inside differ still =
-    both agreed (exchanged line i) (line_tells agreed line e).0 (exchange_of_neighbours line i (accepted-passes agreed line e) names inside differ still)
+    both agreed (exchanged line i) (line_tells agreed line e).0 (exchange_of_neighbours line i (accepted_passes agreed line e) names inside differ still)
 
 pub one_changed_digit_under_eleven_and_a_list : OneChangedDigitUnderElevenAndAList
 one_changed_digit_under_eleven_and_a_list agreed line i d e names inside changes digit first second still =
-    both agreed (set line i d) (line_tells agreed line e).0 (one_changed_digit_under_eleven line i d (accepted-passes agreed line e) names inside changes digit first second still)
+    both agreed (set line i d) (line_tells agreed line e).0 (one_changed_digit_under_eleven line i d (accepted_passes agreed line e) names inside changes digit first second still)

@@ -85,12 +85,12 @@ moneys [] amounts = []
 moneys (f ∷ fs) amounts = cond (is_money f.kind) (get_or amounts 0 0 ∷ moneys fs (amounts_after f amounts)) (moneys fs (amounts_after f amounts))
 
 module _ (t : Terms) (f : Field) (given xs ys : List ℕ) where
-  put-accepts : (l : List ℕ) → field_made_answer t f given l ≡ Accepted → written_answer t f.kind (width_of (stretch_of f)) (take (given_width f) given) (get_or l 0 0) ≡ Accepted
-  put-accepts l e = (moved_accepts (behind (f.first - 1)) (written_answer t f.kind (width_of (stretch_of f)) (take (given_width f) given) (get_or l 0 0))).0 e
+  put_accepts : (l : List ℕ) → field_made_answer t f given l ≡ Accepted → written_answer t f.kind (width_of (stretch_of f)) (take (given_width f) given) (get_or l 0 0) ≡ Accepted
+  put_accepts l e = (moved_accepts (behind (f.first - 1)) (written_answer t f.kind (width_of (stretch_of f)) (take (given_width f) given) (get_or l 0 0))).0 e
 
-  amount-back : field_made_answer t f given xs ≡ Accepted → field_made_answer t f given ys ≡ Accepted → field_made f given xs ≡ field_made f given ys → is_money f.kind ≡ true → get_or xs 0 0 ≡ get_or ys 0 0
-  amount-back a b e y =
-      same_amount t f.kind (width_of (stretch_of f)) (take (given_width f) given) (get_or xs 0 0) (get_or ys 0 0) y (put-accepts xs a) (put-accepts ys b) e
+  amount_back : field_made_answer t f given xs ≡ Accepted → field_made_answer t f given ys ≡ Accepted → field_made f given xs ≡ field_made f given ys → is_money f.kind ≡ true → get_or xs 0 0 ≡ get_or ys 0 0
+  amount_back a b e y =
+      same_amount t f.kind (width_of (stretch_of f)) (take (given_width f) given) (get_or xs 0 0) (get_or ys 0 0) y (put_accepts xs a) (put_accepts ys b) e
 
 amounts_back : (t : Terms) (rows : List Field) (given xs ys : List ℕ) → making_answer t rows given xs ≡ Accepted → making_answer t rows given ys ≡ Accepted
     → made_of rows given xs ≡ made_of rows given ys → moneys rows xs ≡ moneys rows ys
@@ -102,7 +102,7 @@ amounts_back t (f ∷ fs) given xs ys a b e =
     let cut =
     split (field_made f given xs) (field_made f given ys) (made_of fs rest (amounts_after f xs)) (made_of fs rest (amounts_after f ys))
     (same_length (width_of (stretch_of f)) (take (given_width f) given) (get_or xs 0 0) (get_or ys 0 0) f.kind) e in
-    cons_if (is_money f.kind) (get_or xs 0 0) (get_or ys 0 0) (moneys fs (amounts_after f xs)) (moneys fs (amounts_after f ys)) (amount-back t f given xs ys pa.0 pb.0 cut.0)
+    cons_if (is_money f.kind) (get_or xs 0 0) (get_or ys 0 0) (moneys fs (amounts_after f xs)) (moneys fs (amounts_after f ys)) (amount_back t f given xs ys pa.0 pb.0 cut.0)
     (amounts_back t fs rest (amounts_after f xs) (amounts_after f ys) pa.1 pb.1 cut.1)
 
 -- what was made has the amounts it was made of

@@ -27,15 +27,15 @@ pub fitting_size : (stage : Stage) (lined : Bool) (size : ℕ) → fits_buffer s
     → size ≡ length_of (is_lined_buffer size)
 fitting_size stage lined size = go stage
   where
-    of-form : (form : Bool) → eqb size (length_of form) ≡ true → size ≡ length_of (is_lined_buffer size)
-    of-form form t =
+    of_form : (form : Bool) → eqb size (length_of form) ≡ true → size ≡ length_of (is_lined_buffer size)
+    of_form form t =
         let e = eqb-true size (length_of form) t in
         e ∙ ap length_of (sym (form_of_length form) ∙ ap is_lined_buffer (sym e))
 
     go : (s : Stage) → fits_buffer s lined size ≡ true → size ≡ length_of (is_lined_buffer size)
-    go Fresh t = ⊎_elim (of-form false) (of-form true) (or_cases (eqb size record_length) (eqb size lined_length) t)
-    go Open t = of-form lined t
-    go Closed t = of-form lined t
+    go Fresh t = ⊎_elim (of_form false) (of_form true) (or_cases (eqb size record_length) (eqb size lined_length) t)
+    go Open t = of_form lined t
+    go Closed t = of_form lined t
 
 -- a buffer that is not one of 152 is one of 150
 pub bare_size : (size : ℕ) → size ≡ length_of (is_lined_buffer size) → (size ≡ lined_length → ⊥) → size ≡ record_length

@@ -102,40 +102,40 @@ unwritten = replicate record_length 0
 -- A: the call, then the fields.
 module _ (w : Writer) (given out : List ℕ) {call making a : Answer} {made : List ℕ} (c : call ≡ call_answer w Header (length given) (length out))
     (m : making ≡ make_answer (writer_terms [] w) Header given (0 ∷ 0 ∷ []) record_length) (b : made ≡ if_accepted making (header_bytes given) unwritten) (t : a ≡ call then making) where
-  header-answers : a ≡ header_answer w given (length out)
-  header-answers = t ∙ rw (c, m)
+  header_answers : a ≡ header_answer w given (length out)
+  header_answers = t ∙ rw (c, m)
 
   header_made : header_answer w given (length out) ≡ Accepted → made ≡ header_bytes given
-  header_made h = b ∙ accepted_takes making (header_bytes given) unwritten ((then_accepts call making).0 (sym t ∙ header-answers ∙ h)).1
+  header_made h = b ∙ accepted_takes making (header_bytes given) unwritten ((then_accepts call making).0 (sym t ∙ header_answers ∙ h)).1
 
   pub header_ends : {v : ℕ} {f : File} {r : WriteResult} {new : List ℕ}
       → v ≡ version_in made → f ≡ fresh_file v (is_lined_buffer (length out))
       → r ≡ write_result a (record { stage = Open; file = f }) w → new ≡ if_accepted a (in_buffer out made) out
       → (r ≡ header_written w given (length out)) × (new ≡ if_accepted r.answer (in_buffer out (header_bytes given)) out)
-  header_ends ev ef = finished w out header-answers (λ h. rw (ef, ev, header_made h)) header_made
+  header_ends ev ef = finished w out header_answers (λ h. rw (ef, ev, header_made h)) header_made
 
 -- G: the call, the fields, then the file's limits.
 module _ (agreed : List ℕ) (w : Writer) (given : List ℕ) (received tariff : ℕ) (out : List ℕ) {call making both a : Answer} {made : List ℕ} {taken : FileResult}
     (c : call ≡ call_answer w Payment (length given) (length out)) (m : making ≡ make_answer (writer_terms agreed w) Payment given (received ∷ tariff ∷ []) record_length)
     (b : made ≡ if_accepted making (payment_bytes given received tariff) unwritten) (k : taken ≡ file_result_of w.file received)
     (s : both ≡ making then taken.answer) (t : a ≡ call then both) where
-  payment-answers : a ≡ payment_answer agreed w given received tariff (length out)
-  payment-answers = t ∙ rw (s, c, m, k)
+  payment_answers : a ≡ payment_answer agreed w given received tariff (length out)
+  payment_answers = t ∙ rw (s, c, m, k)
 
-  payment-parts : payment_answer agreed w given received tariff (length out) ≡ Accepted → (making ≡ Accepted) × (taken.answer ≡ Accepted)
-  payment-parts h = (then_accepts making taken.answer).0 (sym s ∙ ((then_accepts call both).0 (sym t ∙ payment-answers ∙ h)).1)
+  payment_parts : payment_answer agreed w given received tariff (length out) ≡ Accepted → (making ≡ Accepted) × (taken.answer ≡ Accepted)
+  payment_parts h = (then_accepts making taken.answer).0 (sym s ∙ ((then_accepts call both).0 (sym t ∙ payment_answers ∙ h)).1)
 
-  payment-counted : payment_answer agreed w given received tariff (length out) ≡ Accepted
+  payment_counted : payment_answer agreed w given received tariff (length out) ≡ Accepted
       → ◌≡◌ {A = Writer} (record { stage = w.stage; file = taken.file }) (record { stage = w.stage; file = file_with w.file received })
-  payment-counted h =
-      let accepted = sym (ap (λ (f : FileResult). f.answer) k) ∙ (payment-parts h).1 in
+  payment_counted h =
+      let accepted = sym (ap (λ (f : FileResult). f.answer) k) ∙ (payment_parts h).1 in
       rw (ap (λ (f : FileResult). f.file) k ∙ accepted_takes (file_answer w.file received) (file_with w.file received) w.file accepted)
 
   pub payment_ends : {r : WriteResult} {new : List ℕ}
       → r ≡ write_result a (record { stage = w.stage; file = taken.file }) w → new ≡ if_accepted a (in_buffer out made) out
       → (r ≡ payment_under agreed w given received tariff (length out))
       × (new ≡ if_accepted r.answer (in_buffer out (payment_bytes given received tariff)) out)
-  payment_ends = finished w out payment-answers payment-counted (λ h. b ∙ accepted_takes making (payment_bytes given received tariff) unwritten (payment-parts h).0)
+  payment_ends = finished w out payment_answers payment_counted (λ h. b ∙ accepted_takes making (payment_bytes given received tariff) unwritten (payment_parts h).0)
 
 -- Z: the call, the file's limits, then its own figures.
 six : 6 ≡ given_length Trailer
@@ -149,33 +149,33 @@ module _ (w : Writer) (out digits : List ℕ) {call width making both a : Answer
     (m : making ≡ make_answer (writer_terms [] w) Trailer count (closed.figures.total ∷ 0 ∷ []) record_length)
     (b : made ≡ if_accepted making (made_of (layout_of Trailer) count (closed.figures.total ∷ 0 ∷ [])) unwritten)
     (s : both ≡ closed.answer then making) (t : a ≡ call then both) where
-  figures-are : closing_answer w.file ≡ Accepted → closed.figures ≡ figures_of w.file
-  figures-are h = ap (λ (r : CloseResult). r.figures) k ∙ accepted_takes (closing_answer w.file) (figures_of w.file) (record { count = 0; total = 0 }) h
+  figures_are : closing_answer w.file ≡ Accepted → closed.figures ≡ figures_of w.file
+  figures_are h = ap (λ (r : CloseResult). r.figures) k ∙ accepted_takes (closing_answer w.file) (figures_of w.file) (record { count = 0; total = 0 }) h
 
-  count-is : closing_answer w.file ≡ Accepted → count ≡ count_bytes w
-  count-is h =
+  count_is : closing_answer w.file ≡ Accepted → count ≡ count_bytes w
+  count_is h =
       let x = (figures_of w.file).count in
-      let e : closed.figures.count ≡ x = ap (λ (f : Figures). f.count) (figures-are h) in
+      let e : closed.figures.count ≡ x = ap (λ (f : Figures). f.count) (figures_are h) in
       let fits : closed.figures.count < 10 ^ 6 = rw e (figures_fit w.file ((closing_accepts w.file).0 h)).0 in
       number_put 0 6 closed.figures.count digits (omega arith) fits q p
       ∙ put_whole (digits_of 6 closed.figures.count) digits ((digits_fill 6 closed.figures.count).0 ∙ sym n) ∙ ap (digits_of 6) e ∙ ap (λ (d : ℕ). digits_of d x) six
 
-  trailer-answers : a ≡ trailer_answer w (length out)
-  trailer-answers =
+  trailer_answers : a ≡ trailer_answer w (length out)
+  trailer_answers =
       let call-is : call ≡ call_answer w Trailer (given_length Trailer) (length out) = c ∙ ap (λ (d : ℕ). call_answer w Trailer d (length out)) six in
       let make = make_answer (writer_terms [] w) Trailer (count_bytes w) ((figures_of w.file).total ∷ 0 ∷ []) record_length in
       let rest : both ≡ closing_answer w.file then make =
       s ∙ rw (ap (λ (r : CloseResult). r.answer) k)
-      (then_if (closing_answer w.file) (λ h. m ∙ rw (count-is h, figures-are h))) in
+      (then_if (closing_answer w.file) (λ h. m ∙ rw (count_is h, figures_are h))) in
       t ∙ rw (call-is, rest)
 
-  trailer-made : trailer_answer w (length out) ≡ Accepted → made ≡ trailer_bytes w
-  trailer-made h =
-      let parts = (then_accepts closed.answer making).0 (sym s ∙ ((then_accepts call both).0 (sym t ∙ trailer-answers ∙ h)).1) in
+  trailer_made : trailer_answer w (length out) ≡ Accepted → made ≡ trailer_bytes w
+  trailer_made h =
+      let parts = (then_accepts closed.answer making).0 (sym s ∙ ((then_accepts call both).0 (sym t ∙ trailer_answers ∙ h)).1) in
       let closes = sym (ap (λ (r : CloseResult). r.answer) k) ∙ parts.0 in
-      b ∙ accepted_takes making (made_of (layout_of Trailer) count (closed.figures.total ∷ 0 ∷ [])) unwritten parts.1 ∙ rw (count-is closes, figures-are closes)
+      b ∙ accepted_takes making (made_of (layout_of Trailer) count (closed.figures.total ∷ 0 ∷ [])) unwritten parts.1 ∙ rw (count_is closes, figures_are closes)
 
   pub trailer_ends : {r : WriteResult} {new : List ℕ}
       → r ≡ write_result a (record { stage = Closed; file = w.file }) w → new ≡ if_accepted a (in_buffer out made) out
       → (r ≡ trailer_written w (length out)) × (new ≡ if_accepted r.answer (in_buffer out (trailer_bytes w)) out)
-  trailer_ends = finished w out trailer-answers (λ h. refl) trailer-made
+  trailer_ends = finished w out trailer_answers (λ h. refl) trailer_made

@@ -35,13 +35,13 @@ use Rattle.writer.proofs.Written.{body, made, call_accepted, makes, joined_lengt
 
 -- its count has six digits, its total 17
 module _ (rec : List ℕ) (n : length rec ≡ record_length) where
-  count-width : length (field_bytes (row_at count_row) rec) ≡ 6
+  count_width : length (field_bytes (row_at count_row) rec) ≡ 6
   unfolding row_at table layout_of
-  count-width = part_length (row_at count_row) rec (row_lies count_row no_field (lit< tt)) n
+  count_width = part_length (row_at count_row) rec (row_lies count_row no_field (lit< tt)) n
 
-  total-width : length (field_bytes (row_at total_row) rec) ≡ 17
+  total_width : length (field_bytes (row_at total_row) rec) ≡ 17
   unfolding row_at table layout_of
-  total-width = part_length (row_at total_row) rec (row_lies total_row no_field (lit< tt)) n
+  total_width = part_length (row_at total_row) rec (row_lies total_row no_field (lit< tt)) n
 
 count_digits : (t : Terms) (rec : List ℕ) → layout_answer t Trailer rec ≡ Accepted → all (is_of Digit) (field_bytes (row_at count_row) rec) ≡ true
 unfolding row_at table layout_of
@@ -61,18 +61,18 @@ module _ (w : Writer) (t : Terms) (rec : List ℕ) (accepts : record_answer t re
   right : (length rec ≡ record_length) × (version_answer t.version Trailer ≡ Accepted) × (layout_answer t Trailer rec ≡ Accepted)
   right = body w t Trailer rec amounts accepts named
 
-  count-is : (trailer_shown rec).count ≡ w.file.taken + 2 → count_bytes w ≡ joined_of Trailer rec
+  count_is : (trailer_shown rec).count ≡ w.file.taken + 2 → count_bytes w ≡ joined_of Trailer rec
   unfolding given_length layout_of
-  count-is c =
+  count_is c =
       let bs = field_bytes (row_at count_row) rec in
-      ap (digits_of 6) (sym c) ∙ ap (λ (k : ℕ). digits_of k (number_of bs)) (sym (count-width rec right.0)) ∙ digits_of_number bs (count_digits t rec right.2) ∙ sym (count_back rec)
+      ap (digits_of 6) (sym c) ∙ ap (λ (k : ℕ). digits_of k (number_of bs)) (sym (count_width rec right.0)) ∙ digits_of_number bs (count_digits t rec right.2) ∙ sym (count_back rec)
 
   closes : (trailer_shown rec).count ≡ w.file.taken + 2 → (trailer_shown rec).total ≡ w.file.total → closing_answer w.file ≡ Accepted
   closes c d =
       let few = number_fits (field_bytes (row_at count_row) rec) in
       let small = number_fits (field_bytes (row_at total_row) rec) in
-      let few6 = rw (count-width rec right.0) at few in
-      let small17 = rw (total-width rec right.0) at small in
+      let few6 = rw (count_width rec right.0) at few in
+      let small17 = rw (total_width rec right.0) at small in
       (closing_accepts w.file).1 (record { taken = omega (arith, few6, c); total = omega (arith, small17, d) })
 
 pub fields_write_the_trailer : FieldsWriteTheTrailer
@@ -89,7 +89,7 @@ fields_write_the_trailer any w rec accepted named opened c d =
     let call : call_answer w Trailer (given_length Trailer) size ≡ Accepted =
     ap (λ (k : ℕ). call_answer w Trailer k size) (sym (joined_length Trailer rec n))
     ∙ call_accepted w t Trailer rec amounts accepts named size (open_fits w opened) expected in
-    let count = count-is w t rec accepts named c in
+    let count = count_is w t rec accepts named c in
     let make : make_answer t Trailer (count_bytes w) ((figures_of w.file).total ∷ 0 ∷ []) record_length ≡ Accepted =
     rw (count, ← d) (makes w t Trailer rec amounts accepts named (sym same.0 ∙ both.0)) in
     let close = closes w t rec accepts named c d in

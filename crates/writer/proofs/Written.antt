@@ -106,16 +106,16 @@ module _ (w : Writer) (t : Terms) (r : Record) (rec amounts : List ℕ) (accepts
       × (made_of (layout_of r) (joined_of r rec) (amounts_in (layout_of r) rec) ≡ rec)
   made = fields_make_the_record t r rec body.0 body.2
 
-  given-right : eqb (length (joined_of r rec)) (given_length r) ≡ true
-  given-right = eq-eqb (length (joined_of r rec)) (given_length r) (joined_length r rec body.0)
+  given_right : eqb (length (joined_of r rec)) (given_length r) ≡ true
+  given_right = eq-eqb (length (joined_of r rec)) (given_length r) (joined_length r rec body.0)
 
   pub call_accepted : (size : ℕ) → fits_buffer w.stage w.file.lined size ≡ true → writer_expects w.stage r ≡ true
       → call_answer w r (length (joined_of r rec)) size ≡ Accepted
-  call_accepted size fits expected = rw (fits, given-right, expected)
+  call_accepted size fits expected = rw (fits, given_right, expected)
 
   pub makes : making_answer t (layout_of r) (joined_of r rec) amounts ≡ Accepted → make_answer t r (joined_of r rec) amounts record_length ≡ Accepted
   unfolding make_answer
-  makes a = rw (given-right, body.1, a)
+  makes a = rw (given_right, body.1, a)
 
 -- A has no amounts; those of G are what it received and its tariff.
 header_amounts : (t : Terms) (rec : List ℕ)
