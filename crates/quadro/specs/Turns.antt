@@ -15,7 +15,7 @@ use Rattle.quadro.specs.Buffers.{buffer_length, EndsBelow}
 abbrev pub has_more : TurnEnd → Bool
 has_more turn.More = true
 has_more turn.Over = false
-has_more turn.Failed = false
+has_more (turn.Failed e) = false
 
 abbrev pub turn_with : TurnEnd → RunResult → ℕ → TurnResult
 turn_with end day kept = record { end = end; day = day; kept = kept }
@@ -37,7 +37,7 @@ full_turn_of day bytes =
 abbrev pub turn_of : RunResult → ℕ → List ℕ → BufferRead → TurnResult
 turn_of day kept bytes buffer.Full = full_turn_of day bytes
 turn_of day kept bytes (buffer.Ended n) = turn_with turn.Over (ended_of (run_buffer_of day false (take (kept + n) bytes))) 0
-turn_of day kept bytes buffer.Failed = turn_with turn.Failed day 0
+turn_of day kept bytes (buffer.Failed e) = turn_with (turn.Failed e) day 0
 
 -- a turn of the day, with these bytes in the buffer, of which the first `kept` were left before it
 pub record TurnOf (day : RunResult) (kept : ℕ) (bytes : List ℕ) (t : TurnResult) : Type 0 where
