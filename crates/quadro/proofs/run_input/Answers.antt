@@ -1,0 +1,13 @@
+use mathlib.Core.Path.{refl, subst}
+use native.Mathlib.Omega.{arith}
+use Rattle.session.specs.declared.RunResult.{RunResult}
+use Rattle.quadro.specs.Inputs.{InputRun}
+use Rattle.quadro.proofs.run_input.Goals as goal
+
+pub run_turns-requires : goal.run_turns-requires
+run_turns-requires c = rw c.fresh_day.ensures ((omega arith, omega arith, omega arith), refl)
+
+pub returns : goal.returns
+returns c =
+    subst (λ (d : RunResult). InputRun d c.run_turns.new.buf c.run_turns.result) c.fresh_day.ensures
+    c.run_turns.ensures
