@@ -14,14 +14,17 @@ ghost use Rattle.page.specs.Pages.{page_length};
 
 use answer::Answer;
 use session::{RunResult, Session};
-use std::io;
-use std::io::{Read, Stdin};
+use std::io::{Cursor, Read, Stdin, Write};
+use std::{io, str};
 
 const SIZE: usize = 65536;
 
 // No contract says that an input ends, so the turns are counted: each but the last reads at least SIZE - 151 bytes, and
 // 2^60 bytes are more than any input has.
 const TURNS: u64 = 17632813406850;
+
+// No error's text is longer.
+const TEXT: usize = 320;
 
 // How reading a buffer ended: it is full, the input ended behind so many bytes, or a read failed, and why.
 #[derive(Clone, Copy)]
@@ -242,9 +245,18 @@ fn put_page(day: RunResult, out: &mut [u8; page::PAGE]) -> usize
     printed.length
 }
 
-// A failure is one line on standard error. If that can't be written either, there is nowhere left to say so.
+// A failure is one line on standard error, with the system's reason in its own words: std puts the error's number behind
+// them, in brackets. If the line can't be written either, there is nowhere left to say so.
 fn print_failure(rt: &HostRuntime, stream: &str, error: io::Error) {
-    let _ = eprintln!(rt; "quadro: standard {stream}: {error}");
+    let mut text = Cursor::new([0u8; TEXT]);
+    let _ = write!(text, "{error}");
+    let length = (text.position() as usize).min(TEXT);
+    let all = str::from_utf8(&text.get_ref()[..length]).unwrap_or("");
+    let reason = match all.split_once(" (os error ") {
+        Some((words, _)) => words,
+        None => all,
+    };
+    let _ = eprintln!(rt; "quadro: standard {stream}: {reason}");
 }
 
 // No contract of the libraries says which bytes a write takes, so none can be stated here; the bytes handed to it are
