@@ -9,7 +9,7 @@ ghost use Rattle.day.specs.Inputs.{page_of_day};
 ghost use Rattle.quadro.specs.Buffers.{buffer_length, most_kept, EndsBelow};
 ghost use Rattle.quadro.specs.Buffers.{most_before, most_counted, Counted, Grown};
 ghost use Rattle.quadro.specs.Turns.{has_more, full_turn_of, BufferAfter, TurnRun};
-ghost use Rattle.quadro.specs.Inputs.{InputRun};
+ghost use Rattle.quadro.specs.Inputs.{InputRun, OverIsTheInputs};
 ghost use Rattle.page.specs.Pages.{page_length};
 
 use answer::Answer;
@@ -225,9 +225,10 @@ fn run_turns(input: &mut Stdin, day: RunResult, buf: &mut [u8; SIZE]) -> TurnRes
     turn
 }
 
-// The same for a day with no input before.
+// The same for a day with no input before. If it is over, it is the day of all bytes that were read.
 fn run_input(input: &mut Stdin, buf: &mut [u8; SIZE]) -> TurnResult
-    ensures { InputRun fresh_day buf.new result }
+    ensures run { InputRun fresh_day buf.new result }
+    ensures over { OverIsTheInputs }
 {
     run_turns(input, fresh_day(), buf)
 }
