@@ -246,8 +246,8 @@ fn put_page(day: RunResult, out: &mut [u8; page::PAGE]) -> usize
     printed.length
 }
 
-// A failure is one line on standard error, with the system's reason in its own words: std puts the error's number behind
-// them, in brackets. If the line can't be written either, there is nowhere left to say so.
+// A failure is one line on standard error, with the system's reason in its own words: std puts the error's number
+// behind them, in brackets. If the line can't be written either, there is nowhere left to say so.
 fn print_failure(rt: &HostRuntime, stream: &str, error: io::Error) {
     let mut text = Cursor::new([0u8; TEXT]);
     let _ = write!(text, "{error}");
