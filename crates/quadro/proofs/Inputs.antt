@@ -204,8 +204,8 @@ module _ (bytes : List ℕ) (t : TurnResult) {day : RunResult} {before left : Li
         within = omega (arith, w);
         is = ap day_of e ∙ ap ended_of (fed-runs fed new (take (length left + n) bytes) (with-left n) false);
       }
-  over-read buffer.Failed w e =
-      let m : turn.Failed ≡ turn.Over = ap end_of (sym e) ∙ o in
+  over-read (buffer.Failed why) w e =
+      let m : turn.Failed why ≡ turn.Over = ap end_of (sym e) ∙ o in
       let z : ◌≡◌ {A = ℕ} 0 1 = cc in
       absurd (omega arith)
 

@@ -108,7 +108,7 @@ module _ (day : RunResult) (kept : ℕ) (bytes : List ℕ) (t : TurnResult) wher
       → (t ≡ going_on) × (after.answer ≡ Accepted)
   more-read buffer.Full e h = more-accepted after.answer e h
   more-read (buffer.Ended n) e h = let m : false ≡ true = rw e at h in never m
-  more-read buffer.Failed e h = let m : false ≡ true = rw e at h in never m
+  more-read (buffer.Failed why) e h = let m : false ≡ true = rw e at h in never m
 
   pub more_ran : TurnOf day kept bytes t → has_more t.end ≡ true → (t ≡ going_on) × (after.answer ≡ Accepted)
   more_ran o h = more-read o.read o.is h

@@ -17,7 +17,7 @@ most_kept = lined_length - 1
 abbrev pub EndsBelow : ℕ → BufferRead → Type 0
 EndsBelow n Full = Unit {0}
 EndsBelow n (Ended k) = k < n
-EndsBelow n Failed = Unit {0}
+EndsBelow n (Failed why) = Unit {0}
 
 -- an input of fewer bytes is read to its end, unless a record is refused
 abbrev pub input_limit : ℕ

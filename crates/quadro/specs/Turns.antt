@@ -15,7 +15,7 @@ use Rattle.quadro.specs.Buffers.{buffer_length, EndsBelow}
 abbrev pub has_more : TurnEnd → Bool
 has_more turn.More = true
 has_more turn.Over = false
-has_more turn.Failed = false
+has_more (turn.Failed why) = false
 
 abbrev pub turn_with : TurnEnd → RunResult → ℕ → TurnResult
 turn_with end day kept = record { end = end; day = day; kept = kept }
@@ -33,11 +33,11 @@ full_turn_of day bytes =
 
 -- The turn of a day, by all bytes in the buffer once it was read, of which the first `kept` were left by the turn
 -- before, and by how reading the others ended: all bytes of a full buffer are run, and more may follow; if the input
--- ended, the bytes left and those read are run, then the end; after a failed read none.
+-- ended, the bytes left and those read are run, then the end; after a failed read none, and the turn says why.
 abbrev pub turn_of : RunResult → ℕ → List ℕ → BufferRead → TurnResult
 turn_of day kept bytes buffer.Full = full_turn_of day bytes
 turn_of day kept bytes (buffer.Ended n) = turn_with turn.Over (ended_of (run_buffer_of day false (take (kept + n) bytes))) 0
-turn_of day kept bytes buffer.Failed = turn_with turn.Failed day 0
+turn_of day kept bytes (buffer.Failed why) = turn_with (turn.Failed why) day 0
 
 -- a turn of the day, with these bytes in the buffer, of which the first `kept` were left before it
 pub record TurnOf (day : RunResult) (kept : ℕ) (bytes : List ℕ) (t : TurnResult) : Type 0 where

@@ -9,12 +9,13 @@ ghost use Rattle.day.specs.Inputs.{page_of_day};
 ghost use Rattle.quadro.specs.Buffers.{buffer_length, most_kept, EndsBelow};
 ghost use Rattle.quadro.specs.Buffers.{most_before, most_counted, Counted, Grown};
 ghost use Rattle.quadro.specs.Turns.{has_more, full_turn_of, BufferAfter, TurnRun};
-ghost use Rattle.quadro.specs.Inputs.{InputRun};
+ghost use Rattle.quadro.specs.Inputs.{InputRun, OverIsTheInputs};
 ghost use Rattle.page.specs.Pages.{page_length};
 
 use answer::Answer;
-use libc::{STDERR_FILENO, STDIN_FILENO, STDOUT_FILENO};
 use session::{RunResult, Session};
+use std::io::{Cursor, Read, Stdin, Write};
+use std::{io, str};
 
 const SIZE: usize = 65536;
 
@@ -22,40 +23,39 @@ const SIZE: usize = 65536;
 // 2^60 bytes are more than any input has.
 const TURNS: u64 = 17632813406850;
 
-// How reading a buffer ended: it is full, the input ended behind so many bytes, or a read failed.
+// No error's text is longer.
+const TEXT: usize = 320;
+
+// How reading a buffer ended: it is full, the input ended behind so many bytes, or a read failed, and why.
 #[derive(Clone, Copy)]
 pub enum BufferRead {
     Full,
     Ended(usize),
-    Failed,
+    Failed(io::Error),
 }
 
 // Reads until the buffer is full, the input ends or a read fails.
-fn read_buffer(buf: &mut [u8]) -> BufferRead
+fn read_buffer(input: &mut Stdin, buf: &mut [u8]) -> BufferRead
     ensures { EndsBelow (length buf.old) result }
 {
     let mut n: usize = 0;
     while n < buf.len() {
-        let got = libc::read(STDIN_FILENO, &mut buf[n..]);
-        if got < 0 {
-            return BufferRead::Failed;
+        match input.read(&mut buf[n..]) {
+            Ok(0) => return BufferRead::Ended(n),
+            Ok(more) => n += more,
+            Err(error) => return BufferRead::Failed(error),
         }
-        let more = io::count(got, &buf[n..]);
-        if more == 0 {
-            return BufferRead::Ended(n);
-        }
-        n += more;
     }
     BufferRead::Full
 }
 
 // The same behind the first `kept` bytes of the buffer, which stay.
-fn read_behind(buf: &mut [u8], kept: usize) -> BufferRead
+fn read_behind(input: &mut Stdin, buf: &mut [u8], kept: usize) -> BufferRead
     requires { kept ≤ length buf.old }
     ensures ends_below { EndsBelow (length buf.old - kept) result }
     ensures left { take kept buf.new ≡ take kept buf.old }
 {
-    read_buffer(&mut buf[kept..])
+    read_buffer(input, &mut buf[kept..])
 }
 
 // A day with no input yet.
@@ -114,12 +114,12 @@ fn finish_day(day: RunResult) -> RunResult
     }
 }
 
-// How a turn ended: more input may follow, the day is over, or a read failed.
+// How a turn ended: more input may follow, the day is over, or a read failed, and why.
 #[derive(Clone, Copy)]
 pub enum TurnEnd {
     More,
     Over,
-    Failed,
+    Failed(io::Error),
 }
 
 // The day after a turn, and how many bytes at the buffer's front the turn left for the next: 0 if there is none.
@@ -170,22 +170,22 @@ fn run_full_buffer(day: RunResult, buf: &mut [u8]) -> TurnResult
 
 // The next turn: fills the buffer behind the bytes that the turn before left, and runs its bytes. It takes the array,
 // so that its length is known in the caller's loop.
-fn run_next_buffer(turn: TurnResult, buf: &mut [u8; SIZE]) -> TurnResult
+fn run_next_buffer(input: &mut Stdin, turn: TurnResult, buf: &mut [u8; SIZE]) -> TurnResult
     requires { Counted most_counted turn.day × (turn.kept ≤ most_kept) }
     ensures turn_run { TurnRun turn.day (take turn.kept buf.old) result buf.new }
     ensures bounded { Grown turn.day result.day }
 {
     let day = turn.day;
     let kept = turn.kept;
-    match read_behind(buf, kept) {
+    match read_behind(input, buf, kept) {
         BufferRead::Full => run_full_buffer(day, buf),
         BufferRead::Ended(n) => TurnResult {
             end: TurnEnd::Over,
             day: finish_day(run_buffer(day, buf, kept + n, false)),
             kept: 0,
         },
-        BufferRead::Failed => TurnResult {
-            end: TurnEnd::Failed,
+        BufferRead::Failed(error) => TurnResult {
+            end: TurnEnd::Failed(error),
             day,
             kept: 0,
         },
@@ -198,13 +198,13 @@ fn has_more(end: TurnEnd) -> bool
     match end {
         TurnEnd::More => true,
         TurnEnd::Over => false,
-        TurnEnd::Failed => false,
+        TurnEnd::Failed(_) => false,
     }
 }
 
 // The last turn over the input, which this day runs: at the input's end, at the first refusal or failed read, or after
 // 2^60 bytes. The buffer is the caller's, so that the contract can speak of the last bytes in it.
-fn run_turns(day: RunResult, buf: &mut [u8; SIZE]) -> TurnResult
+fn run_turns(input: &mut Stdin, day: RunResult, buf: &mut [u8; SIZE]) -> TurnResult
     requires { Counted most_before day × (day.answer ≡ Accepted) }
     ensures { InputRun day buf.new result }
 {
@@ -216,7 +216,7 @@ fn run_turns(day: RunResult, buf: &mut [u8; SIZE]) -> TurnResult
     let mut turns: u64 = TURNS;
     while 0 < turns {
         turns -= 1;
-        turn = run_next_buffer(turn, buf);
+        turn = run_next_buffer(input, turn, buf);
         let end = turn.end;
         if !has_more(end) {
             return turn;
@@ -225,11 +225,12 @@ fn run_turns(day: RunResult, buf: &mut [u8; SIZE]) -> TurnResult
     turn
 }
 
-// The same for a day with no input before.
-fn run_input(buf: &mut [u8; SIZE]) -> TurnResult
-    ensures { InputRun fresh_day buf.new result }
+// The same for a day with no input before. If it is over, it is the day of all bytes that were read.
+fn run_input(input: &mut Stdin, buf: &mut [u8; SIZE]) -> TurnResult
+    ensures run { InputRun fresh_day buf.new result }
+    ensures over { OverIsTheInputs }
 {
-    run_turns(fresh_day(), buf)
+    run_turns(input, fresh_day(), buf)
 }
 
 // Writes the page of a day from the buffer's start and returns its length.
@@ -245,26 +246,38 @@ fn put_page(day: RunResult, out: &mut [u8; page::PAGE]) -> usize
     printed.length
 }
 
+// A failure is one line on standard error, with the system's reason in its own words: std puts the error's number
+// behind them, in brackets. If the line can't be written either, there is nowhere left to say so.
+fn print_failure(rt: &HostRuntime, stream: &str, error: io::Error) {
+    let mut text = Cursor::new([0u8; TEXT]);
+    let _ = write!(text, "{error}");
+    let length = (text.position() as usize).min(TEXT);
+    let all = str::from_utf8(&text.get_ref()[..length]).unwrap_or("");
+    let reason = match all.split_once(" (os error ") {
+        Some((words, _)) => words,
+        None => all,
+    };
+    let _ = eprintln!(rt; "quadro: standard {stream}: {reason}");
+}
+
 // No contract of the libraries says which bytes a write takes, so none can be stated here; the bytes handed to it are
 // those of `put_page`.
-fn print_page(day: RunResult) {
+fn print_page(rt: &HostRuntime, day: RunResult) {
     let mut page = [0u8; page::PAGE];
     let length = put_page(day, &mut page);
-    if !io::write_all(STDOUT_FILENO, &page[..length]) {
-        os::fail(b"quadro: standard output");
+    if let Err(error) = rt.write_all(&page[..length]) {
+        print_failure(rt, "output", error);
     }
 }
 
-fn main() {
+fn main(rt: HostRuntime) {
     let mut buf = [0u8; SIZE];
-    let last = run_input(&mut buf);
-    let end = last.end;
-    let day = last.day;
-    match end {
-        TurnEnd::Over => print_page(day),
-        TurnEnd::Failed => os::fail(b"quadro: standard input"),
+    let last = run_input(&mut rt.stdin(), &mut buf);
+    match last.end {
+        TurnEnd::Over => print_page(&rt, last.day),
+        TurnEnd::Failed(error) => print_failure(&rt, "input", error),
         TurnEnd::More => {
-            io::write_all(STDERR_FILENO, b"quadro: more than 2^60 bytes of input\n");
+            let _ = eprintln!(rt; "quadro: more than 2^60 bytes of input");
         }
     }
 }
