@@ -121,8 +121,8 @@ ends_behind buf kept r w =
 -- Bytes that are moved to the front, one by one: n bytes are there, and those behind them are as before.
 module _ (entry buf : List ℕ) (from n : ℕ) (inside : from + n < length entry) (same : length buf ≡ length entry)
     (moved : take n buf ≡ take n (drop from entry)) (behind : drop n buf ≡ drop n entry) where
-  next-byte : get_or buf (from + n) 0 ≡ get_or (drop from entry) n 0
-  next-byte =
+  next_byte : get_or buf (from + n) 0 ≡ get_or (drop from entry) n 0
+  next_byte =
       let at : from + n ≡ n + from = omega arith in
       ap (λ (k : ℕ). get_or buf k 0) at ∙ sym (get_or-drop n buf from 0) ∙ ap (λ (l : List ℕ). get_or l from 0) behind
       ∙ get_or-drop n entry from 0 ∙ ap (λ (k : ℕ). get_or entry k 0) (sym at) ∙ sym (get_or-drop from entry n 0)
@@ -133,7 +133,7 @@ module _ (entry buf : List ℕ) (from n : ℕ) (inside : from + n < length entry
       let l = length-drop from entry in
       rw one
       (take-suc-set buf n (get_or buf (from + n) 0) (omega (arith, inside, same))
-      ∙ ap₂ (λ (l : List ℕ) (b : ℕ). l ++ (b ∷ [])) moved next-byte
+      ∙ ap₂ (λ (l : List ℕ) (b : ℕ). l ++ (b ∷ [])) moved next_byte
       ∙ sym (take-suc (drop from entry) n 0 (omega (arith, inside, l))))
 
   pub behind_on : drop (n + 1) (set buf n (get_or buf (from + n) 0)) ≡ drop (n + 1) entry

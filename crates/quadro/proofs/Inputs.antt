@@ -45,26 +45,26 @@ day_of t = t.day
 -- The bytes that follow an input, run behind what it left, are run as a part of it.
 module _ {start day : RunResult} {input left : List ℕ} (fed : Fed start input day left) (new bytes : List ℕ)
     (e : bytes ≡ left ++ new) where
-  before-accepted : (run_buffer_of start true input).answer ≡ Accepted
-  before-accepted = ap answer_of (sym fed.is) ∙ fed.accepted
+  before_accepted : (run_buffer_of start true input).answer ≡ Accepted
+  before_accepted = ap answer_of (sym fed.is) ∙ fed.accepted
 
-  behind-left : bytes ≡ left_of start.session input ++ new
-  behind-left = e ∙ ap (λ (l : List ℕ). l ++ new) fed.unrun
+  behind_left : bytes ≡ left_of start.session input ++ new
+  behind_left = e ∙ ap (λ (l : List ℕ). l ++ new) fed.unrun
 
-  fed-runs : (more : Bool) → run_buffer_of day more bytes ≡ run_buffer_of start more (input ++ new)
-  fed-runs more =
-      ap₂ (λ (d : RunResult) (l : List ℕ). run_buffer_of d more l) fed.is behind-left
-      ∙ accepted_then start more input new before-accepted
+  fed_runs : (more : Bool) → run_buffer_of day more bytes ≡ run_buffer_of start more (input ++ new)
+  fed_runs more =
+      ap₂ (λ (d : RunResult) (l : List ℕ). run_buffer_of d more l) fed.is behind_left
+      ∙ accepted_then start more input new before_accepted
 
-  fed-on : {next : RunResult} → next ≡ run_buffer_of day true bytes → next.answer ≡ Accepted
+  fed_on : {next : RunResult} → next ≡ run_buffer_of day true bytes → next.answer ≡ Accepted
       → Fed start (input ++ new) next (left_of day.session bytes)
-  fed-on n a =
+  fed_on n a =
       record {
-        is = n ∙ fed-runs true;
+        is = n ∙ fed_runs true;
         accepted = a;
         unrun =
-            ap₂ (λ (d : RunResult) (l : List ℕ). left_of d.session l) fed.is behind-left
-            ∙ left_then start.session input new before-accepted;
+            ap₂ (λ (d : RunResult) (l : List ℕ). left_of d.session l) fed.is behind_left
+            ∙ left_then start.session input new before_accepted;
       }
 
 -- The loop: the input so far was run and accepted, what it left is at the buffer's front, and with the turns that may
@@ -104,8 +104,8 @@ module _ {start : RunResult} {turns : ℕ} {last next : TurnResult} {buf after :
   abbrev new : List ℕ
   new = drop (length left) ran.bytes
 
-  left-first : ran.bytes ≡ left ++ new
-  left-first = sym (take-append-drop (length left) ran.bytes) ∙ ap (λ (l : List ℕ). l ++ new) ran.first
+  left_first : ran.bytes ≡ left ++ new
+  left_first = sym (take-append-drop (length left) ran.bytes) ∙ ap (λ (l : List ℕ). l ++ new) ran.first
 
   pub reached_more : {rest : ℕ} → rest + 1 ≡ turns → has_more next.end ≡ true → Reached start rest next after
   reached_more {rest} n h =
@@ -115,7 +115,7 @@ module _ {start : RunResult} {turns : ℕ} {last next : TurnResult} {buf after :
       let kept : take next.kept after ≡ left_of s ran.bytes = ran.moved.0 h in
       let few = run_leaves_few [] s true ran.bytes m.1 in
       let count : next.kept ≡ length (left_of s ran.bytes) = ap (λ (t : TurnResult). t.kept) m.0 in
-      let fed-next = fed-on r.fed new ran.bytes left-first (ap day_of m.0) (ap answer_of (ap day_of m.0) ∙ m.1) in
+      let fed-next = fed_on r.fed new ran.bytes left_first (ap day_of m.0) (ap answer_of (ap day_of m.0) ∙ m.1) in
       record {
         input = r.input ++ new;
         fed = subst (λ (l : List ℕ). Fed start (r.input ++ new) next.day l) (sym kept) fed-next;
@@ -176,35 +176,35 @@ module _ (bytes : List ℕ) (t : TurnResult) {day : RunResult} {before left : Li
   within = let l = ap length (sym first) in omega (arith, l, length-take (length left) bytes, whole)
 
   -- n bytes behind those left
-  with-left : (n : ℕ) → take (length left + n) bytes ≡ left ++ take n (drop (length left) bytes)
-  with-left n =
+  with_left : (n : ℕ) → take (length left + n) bytes ≡ left ++ take n (drop (length left) bytes)
+  with_left n =
       take-add (length left) n bytes ∙ ap (λ (l : List ℕ). l ++ take n (drop (length left) bytes)) first
 
-  over-read :
+  over_read :
       (read : BufferRead) → EndsBelow (buffer_length - length left) read → t ≡ turn_of day (length left) bytes read
       → DayOfInput before (length left) bytes t.day
-  over-read buffer.Full w e =
+  over_read buffer.Full w e =
       let d = run_buffer_of day true bytes in
       let n = buffer_length - length left in
       let over = over_refused d.answer d (length (left_of day.session bytes)) (ap end_of (sym e) ∙ o) in
       let refused = over.1 in
       let all : bytes ≡ left ++ take n (drop (length left) bytes) =
-      sym (take_all (length left + n) bytes (omega (arith, whole))) ∙ with-left n in
+      sym (take_all (length left + n) bytes (omega (arith, whole))) ∙ with_left n in
       record {
         n = n;
         within = omega (arith, within);
         is =
             ap day_of e ∙ over.0 ∙ ended_over d.answer d refl refused
-            ∙ ap ended_of (refused_last day bytes refused ∙ fed-runs fed (take n (drop (length left) bytes)) bytes all false);
+            ∙ ap ended_of (refused_last day bytes refused ∙ fed_runs fed (take n (drop (length left) bytes)) bytes all false);
       }
-  over-read (buffer.Ended n) w e =
+  over_read (buffer.Ended n) w e =
       let new = take n (drop (length left) bytes) in
       record {
         n = n;
         within = omega (arith, w);
-        is = ap day_of e ∙ ap ended_of (fed-runs fed new (take (length left + n) bytes) (with-left n) false);
+        is = ap day_of e ∙ ap ended_of (fed_runs fed new (take (length left + n) bytes) (with_left n) false);
       }
-  over-read (buffer.Failed why) w e =
+  over_read (buffer.Failed why) w e =
       let m : turn.Failed why ≡ turn.Over = ap end_of (sym e) ∙ o in
       let z : ◌≡◌ {A = ℕ} 0 1 = cc in
       absurd (omega arith)
@@ -221,7 +221,7 @@ over_last bytes t fed o (inl m) =
     absurd (omega arith)
 over_last bytes t fed o (inr m) =
     let turned = m.2 in
-    over-read bytes t fed m.1 turned.whole o turned.read turned.below turned.is
+    over_read bytes t fed m.1 turned.whole o turned.read turned.below turned.is
 
 pub over_is_the_inputs : OverIsTheInputs
 over_is_the_inputs bytes t run o = over_last bytes t run.fed o run.last

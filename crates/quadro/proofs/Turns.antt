@@ -27,28 +27,28 @@ none_moved day bytes t e = (λ h. unequal h e, λ h. refl)
 
 -- A full buffer, and the day after it.
 module _ (day : RunResult) (bytes : List ℕ) {next : RunResult}
-    (ran-all : next ≡ run_buffer_of day true (take (length bytes) bytes)) where
+    (ran_all : next ≡ run_buffer_of day true (take (length bytes) bytes)) where
   abbrev ran : RunResult
   ran = run_buffer_of day true bytes
 
-  ran-whole : next ≡ ran
-  ran-whole = ran-all ∙ ap (run_buffer_of day true) (take-length bytes)
+  ran_whole : next ≡ ran
+  ran_whole = ran_all ∙ ap (run_buffer_of day true) (take-length bytes)
 
   abbrev from : ℕ
   from = next.bytes - day.bytes
 
   size : from ≡ (run_of [] day.session true bytes).bytes
-  size = omega (arith, ap (λ (d : RunResult). d.bytes) ran-whole)
+  size = omega (arith, ap (λ (d : RunResult). d.bytes) ran_whole)
 
   -- the bytes that were taken are the buffer's
   pub taken_here : (day.bytes ≤ next.bytes) × (from ≤ length bytes)
   taken_here =
-      (omega (arith, ap (λ (d : RunResult). d.bytes) ran-whole), omega (arith, size, taken_within day.session true bytes))
+      (omega (arith, ap (λ (d : RunResult). d.bytes) ran_whole), omega (arith, size, taken_within day.session true bytes))
 
   turned : {a : Answer} → next.answer ≡ a → more_unless_refused a next (length (left_of day.session bytes)) ≡ full_turn_of day bytes
   turned e =
       ap₂ (λ (a : Answer) (d : RunResult). more_unless_refused a d (length (left_of day.session bytes)))
-      (sym e ∙ ap (λ (d : RunResult). d.answer) ran-whole) ran-whole
+      (sym e ∙ ap (λ (d : RunResult). d.answer) ran_whole) ran_whole
 
   pub full_accepted :
       {k : ℕ} {after : List ℕ} → next.answer ≡ Accepted → k ≡ length bytes - from → take k after ≡ drop from bytes
@@ -97,18 +97,18 @@ module _ (day : RunResult) (kept : ℕ) (bytes : List ℕ) (t : TurnResult) wher
   abbrev going_on : TurnResult
   going_on = turn_with turn.More after (length (left_of day.session bytes))
 
-  more-accepted :
+  more_accepted :
       (a : Answer) → t ≡ more_unless_refused a after (length (left_of day.session bytes)) → has_more t.end ≡ true
       → (t ≡ going_on) × (a ≡ Accepted)
-  more-accepted Accepted e h = (e, refl)
-  more-accepted (Refused why place) e h = let m : false ≡ true = rw e at h in never m
+  more_accepted Accepted e h = (e, refl)
+  more_accepted (Refused why place) e h = let m : false ≡ true = rw e at h in never m
 
-  more-read :
+  more_read :
       (read : BufferRead) → t ≡ turn_of day kept bytes read → has_more t.end ≡ true
       → (t ≡ going_on) × (after.answer ≡ Accepted)
-  more-read buffer.Full e h = more-accepted after.answer e h
-  more-read (buffer.Ended n) e h = let m : false ≡ true = rw e at h in never m
-  more-read (buffer.Failed why) e h = let m : false ≡ true = rw e at h in never m
+  more_read buffer.Full e h = more_accepted after.answer e h
+  more_read (buffer.Ended n) e h = let m : false ≡ true = rw e at h in never m
+  more_read (buffer.Failed why) e h = let m : false ≡ true = rw e at h in never m
 
   pub more_ran : TurnOf day kept bytes t → has_more t.end ≡ true → (t ≡ going_on) × (after.answer ≡ Accepted)
-  more_ran o h = more-read o.read o.is h
+  more_ran o h = more_read o.read o.is h
