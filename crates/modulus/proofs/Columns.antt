@@ -19,7 +19,7 @@ use Rattle.decimal.proofs.Numbers.{low_value, value_small}
 use Rattle.modulus.specs.declared.Modulus.{Modulus}
 use Rattle.modulus.specs.declared.Modulus.TheVariants.{Ten, Eleven}
 use Rattle.modulus.specs.declared.MaybeSums.TheVariants.{Both, NoSum}
-use Rattle.modulus.specs.Checks.{added_by, weight_of, product_part, term_of, weighted_sum, both_sums_holds}
+use Rattle.modulus.specs.Checks.{added_by, weight_of, product_part, term_of, weighted_sum, both_sums}
 use Rattle.modulus.specs.Columns.{are_digits, counted, column_adds}
 use Rattle.modulus.proofs.Sums.{parts_compose, sum_period}
 
@@ -210,20 +210,20 @@ module _ (bs : List ℕ) (n : length bs ≡ 40) where
 
   -- from what the rows gave
   module _ (flag : ℕ) (e : eqb flag 0 ≡ rows_are_digits bs) where
-    pub no_sum : (flag ≡ 0 → ⊥) → NoSum ≡ both_sums_holds bs
+    pub no_sum : (flag ≡ 0 → ⊥) → NoSum ≡ both_sums bs
     no_sum h = let t : all (is_of Digit) bs ≡ false = sym forty_digits ∙ sym e ∙ ne_eqb flag 0 h in rw (eq-eqb (length bs) 40 n, t)
 
     pub both_sums_holds : {a b : ℕ} → flag ≡ 0
         → (rows_are_digits bs ≡ true → a ≡ rows_counted Ten bs)
         → (rows_are_digits bs ≡ true → b ≡ rows_counted Eleven bs)
-        → Both a b ≡ both_sums_holds bs
+        → Both a b ≡ both_sums bs
     both_sums_holds h ea eb =
         let d = sym e ∙ eq-eqb flag 0 h in
         let t : all (is_of Digit) bs ≡ true = sym forty_digits ∙ d in
         rw (eq-eqb (length bs) 40 n, t, ea d, eb d, forty_sum Ten, forty_sum Eleven)
 
 -- what a sum, or none, tells of the bytes
-pub sums_tell : (bs : List ℕ) {a b : ℕ} → Both a b ≡ both_sums_holds bs
+pub sums_tell : (bs : List ℕ) {a b : ℕ} → Both a b ≡ both_sums bs
     → (all (is_of Digit) bs ≡ true) × (a ≡ weighted_sum Ten 0 bs) × (b ≡ weighted_sum Eleven 0 bs)
 sums_tell bs {a} {b} e = go (eqb (length bs) 40) (all (is_of Digit) bs) e
   where
@@ -233,5 +233,5 @@ sums_tell bs {a} {b} e = go (eqb (length bs) 40) (all (is_of Digit) bs) e
     go true false f = let z : ◌≡◌ {A = ℕ} 0 1 = cc in absurd (omega arith)
     go false u f = let z : ◌≡◌ {A = ℕ} 0 1 = cc in absurd (omega arith)
 
-pub no_sum_tells : (bs : List ℕ) → length bs ≡ 40 → all (is_of Digit) bs ≡ true → NoSum ≡ both_sums_holds bs → ⊥
+pub no_sum_tells : (bs : List ℕ) → length bs ≡ 40 → all (is_of Digit) bs ≡ true → NoSum ≡ both_sums bs → ⊥
 no_sum_tells bs n t e = let f = rw (eq-eqb (length bs) 40 n, t) at e in let z : ◌≡◌ {A = ℕ} 0 1 = cc in omega arith
