@@ -1,12 +1,12 @@
 -- Laws of pieces of a list. Assumes nothing.
 use Prim.Native.Nat.{ℕ, zero, suc, ◌+◌, ◌-◌, ◌≤◌, ◌<◌}
-use mathlib.Core.Bool.{Bool, true, false, not}
+use mathlib.Core.Bool.{Bool, true, false}
 use mathlib.Core.List.{List, [], ◌∷◌, ◌++◌, append_assoc, append-nil}
 use mathlib.Core.Logic.{inl, inr, ⊎_elim}
 use mathlib.Core.Path.{◌≡◌, refl, ap, sym, ◌∙◌}
 use native.Mathlib.Nat.{not-suc-le-zero, le_of_suc-le-suc}
 use native.Mathlib.Omega.{arith}
-use borrow.Author.Tests.{le-leb, lt-leb, leb-true, leb-false, not-true, not-false}
+use borrow.Author.Tests.{le-leb, lt-leb, leb-true, leb-false}
 use borrow.Rule.Slice.PartMut.{put_mid}
 use lib.Dec.{leb}
 use lib.ListN.{length, get_or, set, take, drop, length-append, length-drop, drop_of_length-le, get_or-append}
@@ -167,8 +167,8 @@ room_left at w size h = go (leb at (size - w)) refl
     go false e = e ∙ sym (lt-leb (at + w) size (omega (arith, leb-false at (size - w) e)))
 
 module _ {t : Bool} {end size : ℕ} (e : t ≡ leb end size) where
-  pub room : not t ≡ false → end ≤ size
-  room h = leb-true end size (sym e ∙ not-false t h)
+  pub room : t ≡ true → end ≤ size
+  room h = leb-true end size (sym e ∙ h)
 
-  pub no_room : not t ≡ true → size < end
-  no_room h = leb-false end size (sym e ∙ not-true t h)
+  pub no_room : t ≡ false → size < end
+  no_room h = leb-false end size (sym e ∙ h)

@@ -1,12 +1,12 @@
 -- Laws of the line's boxes and of the bytes that are put together. Assumes nothing.
 use Prim.Native.Nat.{ℕ, ◌+◌, ◌-◌, ◌*◌, ◌≤◌}
-use mathlib.Core.Bool.{Bool, true, false, not}
+use mathlib.Core.Bool.{Bool, true, false}
 use mathlib.Core.List.{List, [], ◌∷◌, ◌++◌, append_assoc, append-nil}
 use mathlib.Core.Logic.{◌↔◌}
 use mathlib.Core.Path.{◌≡◌, refl, sym, ap, ◌∙◌}
 use native.Mathlib.Nat.{le_of_eq}
 use native.Mathlib.Omega.{arith}
-use borrow.Author.Tests.{not-true, not-false, eq-eqb, ne_eqb, eqb-true}
+use borrow.Author.Tests.{eq-eqb, ne_eqb, eqb-true}
 use lib.Dec.{eqb}
 use lib.ListN.{length, get_or, set, take, drop, length-append, length-drop, drop_of_length-le}
 use lib.Seq.{length-take-le, drop-cons, set_at}
@@ -30,11 +30,11 @@ use Rattle.line.specs.Lines.{boxes, code_of, in_line, box_right, box_answer, box
 
 -- a box under the modulus in hand, which is the one that the line names
 module _ (line : List ℕ) (box : Stretch) {m : Modulus} {r : Bool} (em : m ≡ modulus_of (digit_at 3 line)) (er : r ≡ box_right m line box) where
-  pub box_wrong : not r ≡ true → box_right (modulus_of (digit_at 3 line)) line box ≡ false
-  box_wrong h = rw (← em) (sym er ∙ not-true r h)
+  pub box_wrong : r ≡ false → box_right (modulus_of (digit_at 3 line)) line box ≡ false
+  box_wrong h = rw (← em) (sym er ∙ h)
 
-  pub box_holds : not r ≡ false → box_right (modulus_of (digit_at 3 line)) line box ≡ true
-  box_holds h = rw (← em) (sym er ∙ not-false r h)
+  pub box_holds : r ≡ true → box_right (modulus_of (digit_at 3 line)) line box ≡ true
+  box_holds h = rw (← em) (sym er ∙ h)
 
 -- a box that starts at an index
 pub box_from : (m : Modulus) (line : List ℕ) (from : ℕ) {c : ℕ} → c ≡ 48 + check_of m (take (from + 11 - from) (drop from line))

@@ -24,16 +24,16 @@ returns-then-not-fits_width c =
 pub overflow_add-end : goal.overflow_add-end
 overflow_add-end c =
     let a = c.args in
-    let fits : a.at + a.width ≤ length a.out.now = room c.has_room.ensures c.if-not-has_room.false-raw in
+    let fits : a.at + a.width ≤ length a.out.now = room c.has_room.ensures c.if-not-has_room.false in
     search rules
 
 pub slice_bounds-put_digits-end : goal.slice_bounds-put_digits-end
-slice_bounds-put_digits-end c = room c.has_room.ensures c.if-not-has_room.false-raw
+slice_bounds-put_digits-end c = room c.has_room.ensures c.if-not-has_room.false
 
 pub returns : goal.returns
 returns c =
     let a = c.args in
-    let fits : a.at + a.width ≤ length a.out.now = room c.has_room.ensures c.if-not-has_room.false-raw in
+    let fits : a.at + a.width ≤ length a.out.now = room c.has_room.ensures c.if-not-has_room.false in
     let k : a.at + a.width - a.at ≡ a.width = omega arith in
     let l : length (take (a.at + a.width - a.at) (drop a.at a.out.now)) ≡ a.width = rw k (length_piece a.at a.width a.out.now fits) in
     let filled = c.put_digits.ensures ∙ ap (λ (w : ℕ). digits_of w a.n) l in record {
