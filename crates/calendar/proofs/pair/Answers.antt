@@ -3,11 +3,6 @@ use native.Mathlib.Omega.{arith}
 use Rattle.calendar.proofs.Dates.{digit_at_holds, two}
 use Rattle.calendar.proofs.pair.Goals as goal
 
--- LOST overflow-cast-result
--- cast-result c =
---     let d = digit_at_holds c.before.args.bytes.now c.before.args.at c.before.requires.1 (omega (arith, c.before.requires.0)) in
---     record { fits = omega (arith, d.1) }
-
 pub overflow_sub-result : goal.overflow_sub-result
 overflow_sub-result c = (digit_at_holds c.args.bytes.now c.args.at c.requires.1 (omega (arith, c.requires.0))).0
 
@@ -15,11 +10,6 @@ pub overflow_mul-result : goal.overflow_mul-result
 overflow_mul-result c =
     let d = digit_at_holds c.args.bytes.now c.args.at c.requires.1 (omega (arith, c.requires.0)) in
     record { fits = omega (arith, d.1) }
-
--- LOST overflow-cast-result-2
--- cast-result-2 c =
---     let d = digit_at_holds c.before.before.args.bytes.now (c.before.before.args.at + 1) c.before.before.requires.1 (omega (arith, c.before.before.requires.0)) in
---     record { fits = omega (arith, d.1) }
 
 pub overflow_sub-result-2 : goal.overflow_sub-result-2
 overflow_sub-result-2 c = (digit_at_holds c.args.bytes.now (c.args.at + 1) c.requires.1 (omega (arith, c.requires.0))).0

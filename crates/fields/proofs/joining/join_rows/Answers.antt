@@ -54,9 +54,6 @@ loop-i-preserved c =
     let next = ap (λ (w : ℕ). c.loop-i.at + w) c.given_width.ensures in
     (search rules, on here placed c.requires.rec_len next c.join_field.ensures)
 
--- LOST same-length
--- same_length c = c.before.loop.invariant.1.same
-
 pub returns : goal.returns
 returns c =
     let whole = rows_here _ c.table-table.ensures c.rows_of-rows.ensures in

@@ -13,8 +13,5 @@ loop-i-smaller c = rw length-set (search rules)
 pub loop-i-preserved : goal.loop-i-preserved
 loop-i-preserved c = let l = c.loop-i in (rw length-set (search rules), length-set l.out l.i 32 ∙ l.invariant.1, blank_step l.out l.i (search rules) l.invariant.2)
 
--- LOST same-length
--- same_length c = c.before.loop.invariant.1
-
 pub returns : goal.returns
 returns c = let l = c.loop-i in blank_end l.out c.args.out.now l.i c.loop-i-test.false l.invariant.0 l.invariant.1 l.invariant.2

@@ -1,1 +1,0 @@
--- TODO Start full start = sym (length-map start.args.t1.pairs _) ∙ start.well-formed.0.1.1.0.1.0.1
