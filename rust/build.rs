@@ -1,4 +1,4 @@
-//! Links libhollytrot.a, from the folder `HOLLYTROT_LIB` or else from where `rt staticlib hollytrot` writes it.
+//! Links libhollytrot.a, from the folder `HOLLYTROT_LIB` or else from where `tools/proved hollytrot` writes it.
 
 use std::env;
 use std::path::Path;
