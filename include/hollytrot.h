@@ -22,9 +22,9 @@
  * Nothing else: the outcome is defined for every number, every session, every board and every writer. What those get
  * that the program filled itself is under "Arbitrary states" in the sections of docs/SPEC.md.
  *
- * Link with libhollytrot.a or libhollytrot.so, for x86-64 Linux. It needs memcpy and memset, and nothing else. A call
- * that takes or returns a session needs at most 64 KiB of stack, every other at most 8 KiB, arguments and result
- * included.
+ * Link with libhollytrot.a or libhollytrot.so, for x86-64 Linux. It needs memcpy, memmove and memset, and nothing
+ * else. A call that takes or returns a session needs at most 96 KiB of stack, every other at most 8 KiB, arguments and
+ * result included.
  */
 #ifndef HOLLYTROT_H
 #define HOLLYTROT_H

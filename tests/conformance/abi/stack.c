@@ -93,6 +93,6 @@ void stacks(void)
     size_t large = most_of(with_session, sizeof with_session / sizeof with_session[0]);
     size_t small = most_of(without, sizeof without / sizeof without[0]);
     /* a session or a board is at least copied: less would mean that the paint was not looked at */
-    SAME(large >= sizeof(hollytrot_session) && large <= 64 * 1024, true);
+    SAME(large >= sizeof(hollytrot_session) && large <= 96 * 1024, true);
     SAME(small >= sizeof(hollytrot_board) && small <= 8 * 1024, true);
 }
