@@ -130,7 +130,7 @@ struct refusal {
     uint64_t byte;   /* the byte at its place, the record's first if it has no place; for 19 the last byte */
     uint64_t from;   /* nothing of the input is on the board from this byte on */
 };
-/* Writes `day.ret: refused 2 (a byte is no digit) at place 87 of record 4, byte 537` in the language, without a newline
+/* Writes `day.ret: refused 2 (a byte is not a digit) at place 87 of record 4, byte 537` in the language, without a newline
  * (messages.c); and the same without the name. */
 void refusal_text(FILE *out, const struct refusal *refusal);
 void refusal_words(FILE *out, const struct refusal *refusal);

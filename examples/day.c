@@ -2,8 +2,7 @@
  *
  *   day < FILE
  *
- * Exit status: 0 if all of the input was accepted, 1 if some of it was refused, 2 if reading or writing failed or the
- * library has another version than the header.
+ * Exit status: 0 if all of the input was accepted, 1 if some of it was refused, 2 if reading or writing failed.
  */
 #include <hollytrot.h>
 #include <stdio.h>
@@ -16,15 +15,13 @@
 
 static uint8_t part[PART];
 static uint8_t page[HOLLYTROT_PAGE];
+/* The page shows no due dates, so the list is the empty one: its length is 0, but its address must not be NULL. */
+static const uint64_t none[1] = {0};
 
 int main(void)
 {
-    if (!hollytrot_check_version()) {
-        fprintf(stderr, "day: the library does not fit version %s of the header\n", HOLLYTROT_VERSION);
-        return 2;
-    }
-    hollytrot_session session = hollytrot_session_new();
     hollytrot_answer answer;
+    hollytrot_session session = hollytrot_session_new();
     uint64_t records = 0, files = 0;
     size_t length = 0;
     bool more;
@@ -33,13 +30,13 @@ int main(void)
         /* what the run before left is at the start of the part */
         length += fread(part + length, 1, PART - length, stdin);
         more = length == PART;
-        /* the page shows no due dates, so the list of agreed issuers is the empty one */
-        hollytrot_feed_result fed = hollytrot_session_feed(&session, part, length, more, NULL, 0);
-        answer = fed.answer;
-        records += fed.records;
-        files += fed.files;
-        length -= fed.bytes;
-        memmove(part, part + fed.bytes, length);
+        hollytrot_run_result run = hollytrot_session_run(session, part, length, more, none, 0);
+        answer = run.answer;
+        session = run.session;
+        records += run.records;
+        files += run.files;
+        length -= run.bytes;
+        memmove(part, part + run.bytes, length);
     } while (more && answer.number == HOLLYTROT_ACCEPTED);
     if (ferror(stdin)) {
         perror("day: standard input");

@@ -96,7 +96,7 @@ typedef struct hollytrot_answer {
 #define HOLLYTROT_REASONS(X) \
     X(1, WRONG_LENGTH, "the length is not the required one", \
       "o tamanho não é o exigido") \
-    X(2, NO_DIGIT, "a byte is no digit", \
+    X(2, NO_DIGIT, "a byte is not a digit", \
       "um byte não é um dígito") \
     X(3, WRONG_PRODUCT, "the product is not 8", \
       "a identificação do produto não é 8") \

@@ -31,7 +31,7 @@ macro_rules! reasons {
 
 reasons! {
     WrongLength = 1, "the length is not the required one";
-    NoDigit = 2, "a byte is no digit";
+    NoDigit = 2, "a byte is not a digit";
     WrongProduct = 3, "the product is not 8";
     UnknownSegment = 4, "the segment is not 1 to 7 or 9";
     UnknownKind = 5, "the value kind is not 6 to 9";

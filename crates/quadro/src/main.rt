@@ -261,12 +261,14 @@ fn print_failure(rt: &HostRuntime, stream: &str, error: io::Error) {
 }
 
 // No contract of the libraries says which bytes a write takes, so none can be stated here; the bytes handed to it are
-// those of `put_page`.
+// those of `put_page`. A pipe whose reader is gone wants neither the page nor a message.
 fn print_page(rt: &HostRuntime, day: RunResult) {
     let mut page = [0u8; page::PAGE];
     let length = put_page(day, &mut page);
     if let Err(error) = rt.write_all(&page[..length]) {
-        print_failure(rt, "output", error);
+        if error.kind() != io::ErrorKind::BrokenPipe {
+            print_failure(rt, "output", error);
+        }
     }
 }
 

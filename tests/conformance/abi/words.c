@@ -54,7 +54,7 @@ void reasons(void)
     }
     SAME_TEXT(hollytrot_reason((1ull << 32) + 2), "unknown");
     SAME_TEXT(hollytrot_reason_pt(UINT64_MAX), "desconhecido");
-    SAME_TEXT(hollytrot_reason(HOLLYTROT_NO_DIGIT), "a byte is no digit");
+    SAME_TEXT(hollytrot_reason(HOLLYTROT_NO_DIGIT), "a byte is not a digit");
     /* in UTF-8 */
     SAME_TEXT(hollytrot_reason_pt(HOLLYTROT_NO_DIGIT), "um byte n\xC3\xA3o \xC3\xA9 um d\xC3\xADgito");
 }
