@@ -261,14 +261,12 @@ fn print_failure(rt: &HostRuntime, stream: &str, error: io::Error) {
 }
 
 // No contract of the libraries says which bytes a write takes, so none can be stated here; the bytes handed to it are
-// those of `put_page`. A pipe whose reader is gone wants neither the page nor a message.
+// those of `put_page`.
 fn print_page(rt: &HostRuntime, day: RunResult) {
     let mut page = [0u8; page::PAGE];
     let length = put_page(day, &mut page);
     if let Err(error) = rt.write_all(&page[..length]) {
-        if error.kind() != io::ErrorKind::BrokenPipe {
-            print_failure(rt, "output", error);
-        }
+        print_failure(rt, "output", error);
     }
 }
 
