@@ -4,15 +4,11 @@ use Prim.Native.Nat.{ℕ}
 use mathlib.Core.Bool.{Bool, true, false}
 use mathlib.Core.Path.{◌≡◌, refl}
 use Rattle.answer.specs.declared.Reason.{Reason}
-use Rattle.answer.specs.declared.Answer.{Answer}
-use Rattle.answer.specs.declared.Answer.TheVariants.{Accepted, Refused}
-use Rattle.answer.specs.Orders.{require, ◌then◌, moved_by}
+use Rattle.answer.specs.Answers.{Answer, Accepted, Refused}
+use Rattle.answer.specs.Orders.{require, ◌then◌}
 
 -- one test
 module _ (t : Bool) (why : Reason) (p : ℕ) where
-  pub stop : t ≡ false → Refused why p ≡ require t why p
-  stop h = rw h
-
   pub pass : t ≡ true → Accepted ≡ require t why p
   pass h = rw h
 
@@ -31,11 +27,3 @@ passed false why p h = (cc, cc)
 -- an answer that is handed on, and one that goes on
 pub handed : {a b : Answer} (next : Answer) {why : Reason} {p : ℕ} → a ≡ b → a ≡ Refused why p → a ≡ b then next
 handed {a} {b} next {why} {p} e f = let g : b ≡ Refused why p = cc in rw (g, f)
-
-pub onward : {a b next x : Answer} → a ≡ b → a ≡ Accepted → x ≡ next → x ≡ b then next
-onward {a} {b} e f h = let g : b ≡ Accepted = cc in rw g h
-
--- an answer that is moved
-pub moved_to : {a b : Answer} (move : ℕ → ℕ) {why : Reason} {p q : ℕ} → a ≡ b → a ≡ Refused why p → q ≡ move p
-    → Refused why q ≡ moved_by move b
-moved_to {a} {b} move {why} {p} e f h = let g : b ≡ Refused why p = cc in rw (g, h)

@@ -1,9 +1,8 @@
 -- How an order of refusals (SPEC.md, "Refusals") is written: tests one after the other, of which the first that fails
 -- decides. Assumes nothing.
-use Rattle.std.specs.Prelude.{ℕ, ◌+◌, ◌≤◌, Bool, true, false, cond, List, [], ◌∷◌, ◌++◌, ◌↔◌, ◌⊎◌, ◌≡◌, eqb}
+use Rattle.std.specs.Prelude.{Err, ℕ, ◌+◌, ◌≤◌, Bool, true, false, cond, List, [], ◌∷◌, ◌++◌, ◌↔◌, ◌⊎◌, ◌≡◌, eqb}
 use Rattle.answer.specs.declared.Reason.{Reason}
-use Rattle.answer.specs.declared.Answer.{Answer}
-use Rattle.answer.specs.declared.Answer.TheVariants.{Accepted, Refused}
+use Rattle.answer.specs.Answers.{Answer, Accepted, Refused}
 use Rattle.answer.specs.Limits.{largest_number, capped}
 use Rattle.answer.specs.Refusals.{answer_number, answer_place}
 
@@ -16,7 +15,7 @@ require false why place = Refused why place
 infixr 20 ◌then◌
 abbrev pub ◌then◌ : Answer → Answer → Answer
 Accepted then next = next
-(Refused why place) then next = Refused why place
+(Err refusal) then next = Err refusal
 
 -- the first refusal over a list
 abbrev pub first_refusal {ℓ} : {A : Type ℓ} → (A → Answer) → List A → Answer
@@ -26,7 +25,7 @@ first_refusal check (x ∷ xs) = check x then first_refusal check xs
 -- an answer about a part, with its place moved to the whole's
 abbrev pub moved_by : (ℕ → ℕ) → Answer → Answer
 moved_by move Accepted = Accepted
-moved_by move (Refused why place) = Refused why (move place)
+moved_by move (Err refusal) = Refused refusal.why (move refusal.place)
 
 -- the place in a whole, where the part comes after n bytes; no place, 0, stays none
 abbrev pub behind : ℕ → ℕ → ℕ
@@ -39,7 +38,7 @@ capped_behind n place = capped (behind n place)
 -- the new state where the answer accepts, else the old
 abbrev pub if_accepted {ℓ} : {S : Type ℓ} → Answer → S → S → S
 if_accepted Accepted new old = new
-if_accepted (Refused why place) new old = old
+if_accepted (Err refusal) new old = old
 
 -- Promises: of one test, of two answers, of a list.
 

@@ -1,9 +1,8 @@
 -- The refusals of SPEC.md, "Refusals": their numbers, and the number and place that an answer shows. Assumes nothing.
-use Rattle.std.specs.Prelude.{ℕ, ◌↔◌, ◌≡◌}
+use Rattle.std.specs.Prelude.{Err, ℕ, ◌↔◌, ◌≡◌}
 use Rattle.answer.specs.declared.Reason.{Reason}
 use Rattle.answer.specs.declared.Reason.TheVariants as reason
-use Rattle.answer.specs.declared.Answer.{Answer}
-use Rattle.answer.specs.declared.Answer.TheVariants.{Accepted, Refused}
+use Rattle.answer.specs.Answers.{Answer, Accepted}
 
 -- each reason's number, and when it is given
 abbrev pub reason_number : Reason → ℕ
@@ -35,11 +34,11 @@ reason_number reason.PairsFull = 27  -- new bank and agreement, as many remember
 -- accepted is 0, with place 0
 abbrev pub answer_number : Answer → ℕ
 answer_number Accepted = 0
-answer_number (Refused why place) = reason_number why
+answer_number (Err refusal) = reason_number refusal.why
 
 abbrev pub answer_place : Answer → ℕ
 answer_place Accepted = 0
-answer_place (Refused why place) = place
+answer_place (Err refusal) = refusal.place
 
 -- The places of a payment record that refusals 16 to 18 point at: its received centavos, its tariff, and the issuer in
 -- its barcode.

@@ -3,14 +3,14 @@
 
 ghost use Rattle.std.specs.Prelude.{◌≡◌};
 ghost use Rattle.answer.specs.Refusals.{reason_number, answer_number, answer_place};
-ghost use Rattle.answer.specs.Orders.{◌then◌, moved_by, capped_behind};
+ghost use Rattle.answer.specs.Orders.{require, ◌then◌, moved_by, capped_behind};
 
 // Why something is refused (SPEC.md, "Refusals"). The order of the variants means nothing.
 //
 // A new reason changes together: this enum, `Reason::number`, and `reason_number` in specs/Refusals.antt; the proof of
 // `Reason::number` gets a line in each of its two lists. No other proof lists the reasons: that their numbers differ is
 // computed over the enum as it is declared (proofs/Refusals.antt).
-#[derive(Clone, Copy)]
+#[derive(Clone, Copy, Debug, PartialEq, Eq)]
 pub enum Reason {
     WrongLength,
     NoDigit,
@@ -51,12 +51,15 @@ pub const SEQUENCE_PLACE: usize = 74;
 
 pub const AGREEMENT_PLACE: usize = 3;
 
-// A place counts from 1 in what was read; it is 0 where a refusal has none.
-#[derive(Clone, Copy)]
-pub enum Answer {
-    Accepted,
-    Refused(Reason, usize),
+// Why something is refused, and where. A place counts from 1 in what was read; it is 0 where a refusal has none.
+#[derive(Clone, Copy, Debug, PartialEq, Eq)]
+pub struct Refusal {
+    pub why: Reason,
+    pub place: usize,
 }
+
+// Accepted, or one refusal.
+pub type Answer = Result<(), Refusal>;
 
 impl Reason {
     // The refusal's number in SPEC.md, "Refusals". No two reasons have the same, and none has 0. 20 is retired.
@@ -92,57 +95,70 @@ impl Reason {
     }
 }
 
-// The first refusal of two answers; accepted if neither is one.
-pub fn first_refusal(first: Answer, second: Answer) -> Answer
-    ensures { result ≡ first then second }
-{
-    match first {
-        Answer::Accepted => second,
-        Answer::Refused(_, _) => first,
-    }
-}
-
 fn place_behind(before: usize, place: usize) -> usize
     ensures { result ≡ capped_behind before place }
 {
     if place == 0 {
         return 0;
     }
-    if usize::MAX - before < place {
-        return usize::MAX;
-    }
-    place + before
+    place.saturating_add(before)
 }
 
-impl Answer {
-    // The refusal's number; 0 where it is accepted.
-    pub fn number(self) -> u8
-        ensures { result ≡ answer_number self }
+impl Refusal {
+    // A refusal of a part as one of the whole, where `before` bytes come before the part: the place is so much larger.
+    // A refusal without a place gets none, and a place past usize::MAX stays there.
+    pub fn behind(self, before: usize) -> Refusal
+        ensures { result ≡ record { why = self.why; place = capped_behind before self.place } }
     {
-        match self {
-            Answer::Accepted => 0,
-            Answer::Refused(why, _) => why.number(),
+        Refusal {
+            place: place_behind(before, self.place),
+            ..self
         }
     }
+}
 
-    // The refusal's place, 0 where it has none; 0 where it is accepted.
-    pub fn place(self) -> usize
-        ensures { result ≡ answer_place self }
-    {
-        match self {
-            Answer::Accepted => 0,
-            Answer::Refused(_, place) => place,
-        }
+// Refused for this reason at this place, unless the test holds.
+pub fn require(ok: bool, why: Reason, place: usize) -> Answer
+    ensures { result ≡ require ok why place }
+{
+    if ok {
+        Ok(())
+    } else {
+        Err(Refusal { why, place })
     }
+}
 
-    // An answer about a part as an answer about the whole, where `before` bytes come before the part: the place is so
-    // much larger. A refusal without a place gets none, and a place past usize::MAX stays there.
-    pub fn behind(self, before: usize) -> Answer
-        ensures { result ≡ moved_by (capped_behind before) self }
-    {
-        match self {
-            Answer::Accepted => self,
-            Answer::Refused(why, place) => Answer::Refused(why, place_behind(before, place)),
-        }
+// The first refusal of two answers; accepted if neither is one.
+pub fn first_refusal(first: Answer, second: Answer) -> Answer
+    ensures { result ≡ first then second }
+{
+    first.and(second)
+}
+
+// The refusal's number; 0 where it is accepted.
+pub fn number(answer: Answer) -> u8
+    ensures { result ≡ answer_number answer }
+{
+    match answer {
+        Ok(()) => 0,
+        Err(refusal) => refusal.why.number(),
     }
+}
+
+// The refusal's place, 0 where it has none; 0 where it is accepted.
+pub fn place(answer: Answer) -> usize
+    ensures { result ≡ answer_place answer }
+{
+    match answer {
+        Ok(()) => 0,
+        Err(refusal) => refusal.place,
+    }
+}
+
+// An answer about a part as an answer about the whole, where `before` bytes come before the part: see
+// `Refusal::behind`.
+pub fn behind(answer: Answer, before: usize) -> Answer
+    ensures { result ≡ moved_by (capped_behind before) answer }
+{
+    answer.map_err(|refusal| refusal.behind(before))
 }

@@ -1,16 +1,14 @@
 -- Laws of the builder: the pieces it writes, and what its answer tells. Assumes nothing.
 use Prim.Native.Nat.{ℕ, ◌+◌, ◌-◌, ◌^◌, ◌≤◌, ◌<◌}
-use mathlib.Core.Bool.{true, false}
 use mathlib.Core.Logic.{◌↔◌}
 use mathlib.Core.List.{List, [], ◌∷◌, ◌++◌, append_assoc, append-nil}
-use mathlib.Core.Path.{◌≡◌, refl, sym, ap, ◌∙◌}
+use mathlib.Core.Path.{◌≡◌, refl, ap, ◌∙◌}
 use native.Mathlib.Omega.{arith}
-use borrow.Author.Tests.{lt-ltb, ltb-true, eqb-true, eq-eqb, ne_eqb}
+use borrow.Author.Tests.{lt-ltb, ltb-true, eqb-true, eq-eqb}
 use lib.Dec.{ltb, eqb}
 use lib.ListN.{length, set, take, drop, length-append, length-drop, drop_of_length-le}
 use lib.Seq.{take_all}
-use Rattle.answer.specs.declared.Answer.{Answer}
-use Rattle.answer.specs.declared.Answer.TheVariants.{Accepted}
+use Rattle.answer.specs.Answers.{Answer, Accepted}
 use Rattle.answer.specs.declared.Reason.TheVariants.{WrongLength, NoDigit, UnknownSegment, UnknownKind, TooWide}
 use Rattle.answer.specs.Orders.{behind, if_accepted}
 use Rattle.answer.proofs.Orders.{moved_accepts}
@@ -22,7 +20,7 @@ use Rattle.decimal.specs.Places.{width_of, put_at, gather}
 use Rattle.modulus.specs.Checks.{check_of}
 use Rattle.decimal.proofs.Numbers.{digits_fill, digit_back, number_put}
 use Rattle.decimal.proofs.Bytes.{each_accepts}
-use Rattle.decimal.proofs.Places.{put_next, put_whole}
+use Rattle.decimal.proofs.Places.{put_next}
 use Rattle.barcode.specs.declared.Issuer.{Issuer}
 use Rattle.barcode.specs.Codes.{code_length, is_segment, is_kind, value, issuer_end, issuer, free, general_check, checked, modulus_of}
 use Rattle.barcode.specs.Building.{head_of, tail_of, check_for, code_with, built_of, build_answer}
@@ -103,17 +101,6 @@ pieces i kind amount rest old fit n {w} {r} {s} {one} {two} {three} {four} ew e1
     let end : drop (length (((h ++ d) ++ k) ++ rest)) old ≡ [] = drop_of_length-le old past in
     f4 ∙ rw (end, append-nil (((h ++ d) ++ k) ++ rest), append_assoc (h ++ d) k rest, append_assoc h d (k ++ rest), ew)
 
--- the free field's length, as the code counts it
-module _ (s : ℕ) (rest : List ℕ) {e : ℕ} (ee : e ≡ issuer_end s) where
-  free_width : width_of (free s) ≡ 44 - e
-  free_width = omega arith
-
-  pub free_wrong : (length rest ≡ 44 - e → ⊥) → eqb (length rest) (width_of (free s)) ≡ false
-  free_wrong h = ne_eqb _ _ (λ q. h (q ∙ free_width))
-
-  pub free_right : length rest ≡ 44 - e → eqb (length rest) (width_of (free s)) ≡ true
-  free_right h = eq-eqb _ _ (h ∙ sym free_width)
-
 -- The code that was written.
 module _ (i : Issuer) (kind amount : ℕ) (rest : List ℕ) (fit : WithinRanges i kind amount rest) where
   pub tail_length : length (tail_of i amount rest) ≡ 40
@@ -133,10 +120,9 @@ module _ (i : Issuer) (kind amount : ℕ) (rest : List ℕ) (fit : WithinRanges 
   pub code_length_holds : (x : ℕ) → length (code_with x i kind amount rest) ≡ 44
   code_length_holds x = omega (arith, tail_length)
 
-  -- written with 0 for the check, then with the check, then put into the caller's buffer
-  pub finished : (old : List ℕ) → length old ≡ 44 → {x : ℕ} {code out : List ℕ} → code ≡ code_with 0 i kind amount rest → x ≡ general_check code
-      → out ≡ put_at 0 (set code 3 (48 + x)) old → out ≡ built_of i kind amount rest
-  finished old n {x} {code} {out} ec ex eo =
+  -- written with 0 for the check, then with the check
+  pub finished : {x : ℕ} {code : List ℕ} → code ≡ code_with 0 i kind amount rest → x ≡ general_check code
+      → set code 3 (48 + x) ≡ built_of i kind amount rest
+  finished {x} {code} ec ex =
       let check : x ≡ check_for i kind amount rest = ex ∙ ap general_check ec ∙ written_check 0 in
-      let whole : set code 3 (48 + x) ≡ built_of i kind amount rest = rw (ec, check) in
-      eo ∙ rw whole (put_whole (built_of i kind amount rest) old (code_length_holds (check_for i kind amount rest) ∙ sym n))
+      rw (ec, check)

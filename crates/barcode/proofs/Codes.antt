@@ -11,7 +11,7 @@ use lib.Dec.{eqb}
 use lib.ListN.{length, take, drop, get_or, length-drop}
 use lib.Seq.{length-take-le}
 use Rattle.answer.specs.declared.Reason.TheVariants.{WrongLength, NoDigit, WrongProduct, UnknownSegment, UnknownKind, WrongGeneralCheck}
-use Rattle.answer.specs.declared.Answer.TheVariants.{Accepted, Refused}
+use Rattle.answer.specs.Answers.{Accepted}
 use Rattle.answer.specs.Refusals.{answer_number, answer_place}
 use Rattle.answer.specs.Orders.{require, ◌then◌}
 use Rattle.answer.proofs.Orders.{require_accepts, then_accepts, require_place, then_place, require_number, then_number}
@@ -159,15 +159,6 @@ module _ (code : List ℕ) (n : length code ≡ 44) (a : all (is_of Digit) code 
       let fi = part_number 15 (e - 15) (omega arith) (omega arith) ei in
       let f : e ≡ issuer_end (digit_at 2 code) = ee ∙ ap issuer_end es in
       rw (fi, f, es)
-
--- 7 is what is left when nothing before it is refused
-pub general_wrong : (code : List ℕ) → length code ≡ 44 → prefix_answer code ≡ Accepted → (barcode_answer code ≡ Accepted → ⊥)
-    → Refused WrongGeneralCheck 4 ≡ barcode_answer code
-general_wrong code n e h = go (general_right code) refl
-  where
-    go : (t : Bool) → general_right code ≡ t → Refused WrongGeneralCheck 4 ≡ barcode_answer code
-    go true g = absurd (h (rw (eq-eqb _ _ n, e, g)))
-    go false g = rw (eq-eqb _ _ n, e, g)
 
 -- segment and kind are one digit each
 pub segment_small : (s : ℕ) → is_segment s ≡ true → s ≤ 9

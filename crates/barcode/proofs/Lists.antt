@@ -1,4 +1,5 @@
 -- Laws of keys, of lists of them, and of the due date that a list asks for. Assumes nothing.
+use Rattle.std.specs.Prelude.{Err}
 use Prim.Native.Nat.{ℕ, zero, suc, ◌+◌, ◌-◌, ◌*◌, ◌/◌, ◌%◌, ◌^◌, ◌≤◌, ◌<◌, min}
 use mathlib.Core.Bool.{Bool, true, false, cond, not, ◌&&◌, ◌||◌, and-eq-true_iff, and-false}
 use mathlib.Core.List.{List, [], ◌∷◌}
@@ -6,13 +7,12 @@ use mathlib.Core.Logic.{◌↔◌, ◌⊎◌, inl, inr, ⊎_elim}
 use mathlib.Core.Path.{◌≡◌, refl, sym, ap, ◌∙◌}
 use native.Mathlib.Numerals.{add-one}
 use native.Mathlib.Omega.{arith}
-use borrow.Author.Tests.{ltb-true, eq-eqb, ne_eqb, leb-true, le-leb}
+use borrow.Author.Tests.{ltb-true, ne_eqb, leb-true, le-leb}
 use lib.Dec.{leb, ltb, eqb}
-use lib.ListN.{length, take, drop, get_or, length-drop, drop_of_length-le}
+use lib.ListN.{length, take, drop, get_or, length-drop}
 use lib.Seq.{drop-cons, take_all}
 use Rattle.answer.specs.declared.Reason.TheVariants as reason
-use Rattle.answer.specs.declared.Answer.{Answer}
-use Rattle.answer.specs.declared.Answer.TheVariants.{Accepted, Refused}
+use Rattle.answer.specs.Answers.{Answer, Accepted, Refused}
 use Rattle.answer.specs.Orders.{require, ◌then◌}
 use Rattle.answer.specs.Refusals.{answer_number, answer_place}
 use Rattle.answer.proofs.Orders.{not_both, then_accepts, then_accepted, require_place, then_place, require_number, then_number}
@@ -73,17 +73,6 @@ keys_name_issuers = (
   zero_names_none,
 )
 
--- Membership, by a loop at an index: the key is there, it is not, the list is over.
-module _ (key : ℕ) (keys : List ℕ) (i : ℕ) where
-  pub among_here : {r : Bool} → i < length keys → get_or keys i 0 ≡ key → is_among key (drop i keys) ≡ r → true ≡ r
-  among_here h e q = rw (drop-cons keys i 0 h, eq-eqb (get_or keys i 0) key e) at q
-
-  pub among_later : {r : Bool} → i < length keys → (get_or keys i 0 ≡ key → ⊥) → is_among key (drop i keys) ≡ r → is_among key (drop (i + 1) keys) ≡ r
-  among_later h e q = rw add-one (rw (drop-cons keys i 0 h, ne_eqb (get_or keys i 0) key e) at q)
-
-  pub among_none : {r : Bool} → length keys ≤ i → is_among key (drop i keys) ≡ r → false ≡ r
-  among_none h q = rw (drop_of_length-le keys h) at q
-
 -- a key lower than all is not among them
 pub lower_not_among : (key lowest : ℕ) (keys : List ℕ) → key < lowest → all (leb lowest) keys ≡ true → is_among key keys ≡ false
 lower_not_among key lowest [] h a = refl
@@ -121,9 +110,6 @@ module _ (keys : List ℕ) (i : ℕ) (h : i < length keys) where
   once_at : each_once (drop i keys) ≡ (names_issuer (get_or keys i 0) && (not (is_among (get_or keys i 0) (drop (i + 1) keys)) && each_once (drop (i + 1) keys)))
   once_at = ap each_once (drop-cons keys i 0 h) ∙ rw add-one (once_cons (get_or keys i 0) (drop (suc i) keys))
 
-  pub names_none : names_issuer (get_or keys i 0) ≡ false → false ≡ each_once keys
-  names_none e = sym (once_drop keys i (once_at ∙ rw e))
-
   pub comes_twice : is_among (get_or keys i 0) (drop (i + 1) keys) ≡ true → false ≡ each_once keys
   comes_twice e = sym (once_drop keys i (once_at ∙ rw (e, and-false)))
 
@@ -138,10 +124,7 @@ module _ (keys : List ℕ) (i : ℕ) (h : i < length keys) where
       let cons : drop i keys ≡ key ∷ rest = rw add-one (drop-cons keys i 0 h) in
       (once_at ∙ rw (names, apart, once), rw cons low)
 
--- no key is left; the rest behind the key before an index
-pub once_none : (keys : List ℕ) (lowest : ℕ) → (each_once (drop (length keys) keys) ≡ true) × (all (leb lowest) (drop (length keys) keys) ≡ true)
-once_none keys lowest = let none : drop (length keys) keys ≡ [] = drop_of_length-le keys {i = length keys} (omega arith) in (rw none, rw none)
-
+-- the rest behind the key before an index
 pub next_rest : (keys : List ℕ) (i : ℕ) → 0 < i → drop (i - 1 + 1) keys ≡ drop i keys
 next_rest keys i h = let e : i - 1 + 1 ≡ i = omega arith in rw e
 
@@ -186,12 +169,6 @@ free_accepts agreed i rest = go (is_agreed agreed i) (is_found (date_of (due_dig
     go false f = (λ e. inl refl, λ h. refl)
 
 module _ (agreed : List ℕ) (i : Issuer) (rest : List ℕ) where
-  pub not_agreed : is_agreed agreed i ≡ false → Accepted ≡ free_answer agreed i rest
-  not_agreed e = sym ((free_accepts agreed i rest).1 (inl e))
-
-  pub is_dated_holds : is_found (date_of (due_digits rest)) ≡ true → Accepted ≡ free_answer agreed i rest
-  is_dated_holds e = sym ((free_accepts agreed i rest).1 (inr e))
-
   pub not_dated : is_agreed agreed i ≡ true → is_found (date_of (due_digits rest)) ≡ false → Refused reason.NoDate (free i.segment).first ≡ free_answer agreed i rest
   unfolding free_answer
   not_dated a e = rw (a, e)
@@ -251,7 +228,7 @@ behind_checks agreed a b low e =
   where
     go : (a : Answer) → answer_number a ≤ 7 → answer_number (a then b) ≡ 11 → a ≡ Accepted
     go Accepted low e = refl
-    go (Refused why p) low e = absurd (omega (arith, low, e))
+    go (Err refusal) low e = absurd (omega (arith, low, e))
 
 pub due_is_asked_last : DueIsAskedLast
 due_is_asked_last agreed code e = behind_checks agreed (barcode_answer code) (due_answer agreed code) (code_number code) e

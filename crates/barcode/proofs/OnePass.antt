@@ -1,4 +1,5 @@
 -- Laws of the fast path: what its checks show of a barcode's digits, and the answer from them. Assumes nothing.
+use Rattle.std.specs.Prelude.{None}
 use Prim.Native.Nat.{ℕ, ◌+◌, ◌%◌}
 use mathlib.Core.Bool.{Bool, true, false}
 use mathlib.Core.List.{List, [], ◌∷◌}
@@ -10,7 +11,7 @@ use borrow.Author.Tests.{eqb-true, eq-eqb}
 use lib.Dec.{eqb}
 use lib.ListN.{length, take, drop, get_or, length-drop}
 use lib.Seq.{take_all, length-take-le}
-use Rattle.answer.specs.declared.Answer.TheVariants.{Accepted}
+use Rattle.answer.specs.Answers.{Accepted}
 use Rattle.decimal.specs.declared.Class.TheVariants.{Digit}
 use Rattle.decimal.specs.Bytes.{is_of, all}
 use Rattle.decimal.specs.Numbers.{value_of}
@@ -18,7 +19,6 @@ use Rattle.decimal.specs.Places.{gather}
 use Rattle.decimal.proofs.Bytes.{all_of_part}
 use Rattle.decimal.proofs.Numbers.{value_other}
 use Rattle.modulus.specs.declared.Modulus.{Modulus}
-use Rattle.modulus.specs.declared.MaybeSums.TheVariants.{NoSum}
 use Rattle.modulus.specs.Checks.{both_sums, weighted_sum, size_of, digit_of_remainder}
 use Rattle.modulus.proofs.Columns.{no_sum_tells}
 use Rattle.modulus.proofs.Sums.{check_is_a_digit}
@@ -73,7 +73,7 @@ pub not_accepted : (code : List ℕ) → (barcode_answer code ≡ Accepted → �
 not_accepted code h = (λ e. let z : ◌≡◌ {A = ℕ} 0 1 = cc in absurd (omega arith), λ e. absurd (h e))
 
 module _ (code : List ℕ) (n : length code ≡ 44) where
-  pub has_sums : barcode_answer code ≡ Accepted → NoSum ≡ both_sums (take 40 (drop 4 code)) → ⊥
+  pub has_sums : barcode_answer code ≡ Accepted → None ≡ both_sums (take 40 (drop 4 code)) → ⊥
   has_sums e f =
       no_sum_tells (take 40 (drop 4 code)) (length-take-le 40 (drop 4 code) (omega (arith, length-drop 4 code))) (all_of_part (is_of Digit) 4 40 code (good code e).digits) f
 

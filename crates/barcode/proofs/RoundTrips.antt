@@ -1,4 +1,5 @@
 -- Barcodes are their fields, both ways. Assumes nothing.
+use Rattle.std.specs.Prelude.{Err}
 use Prim.Native.Nat.{ℕ, ◌+◌, ◌-◌, ◌^◌, ◌≤◌, ◌<◌}
 use mathlib.Core.Bool.{true}
 use mathlib.Core.List.{List, [], ◌∷◌, ◌++◌, append-nil}
@@ -8,8 +9,7 @@ use borrow.Author.Tests.{eqb-true, eq-eqb}
 use lib.Dec.{eqb}
 use lib.ListN.{length, get_or, take, drop, length-drop, take-append-drop}
 use lib.Seq.{length-take-le, take_all, take_at, drop_at, drop-drop}
-use Rattle.answer.specs.declared.Answer.{Answer}
-use Rattle.answer.specs.declared.Answer.TheVariants.{Accepted, Refused}
+use Rattle.answer.specs.Answers.{Answer, Accepted}
 use Rattle.answer.specs.Orders.{◌then◌}
 use Rattle.answer.specs.declared.Reason.TheVariants.{WrongLength}
 use Rattle.answer.proofs.Orders.{then_accepts, refusal_keeps}
@@ -36,7 +36,7 @@ use Rattle.barcode.proofs.Building.{build_accepts, ranges_of, written_check, cod
 
 pub decoded_answer : (a : Answer) (f : Fields) → answer_of_barcode (decoded a f) ≡ a
 decoded_answer Accepted f = refl
-decoded_answer (Refused why p) f = refl
+decoded_answer (Err refusal) f = refl
 
 pub decoded_answers : DecodedAnswers
 decoded_answers agreed code = decoded_answer (barcode_check agreed code) (fields_of agreed code)

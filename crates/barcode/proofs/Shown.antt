@@ -1,22 +1,18 @@
 -- Laws of what a barcode shows: from its parts and its answer, and back. Assumes nothing.
+use Rattle.std.specs.Prelude.{Err, Ok, Option, Some}
+use Rattle.calendar.specs.declared.Date.{Date}
 use Prim.Native.Nat.{ℕ, ◌+◌, ◌-◌}
 use mathlib.Core.Bool.{true}
 use mathlib.Core.List.{List}
 use mathlib.Core.Path.{◌≡◌, refl, ap, ◌∙◌}
 use native.Mathlib.Omega.{arith}
 use lib.ListN.{length, take, drop}
-use Rattle.answer.specs.declared.Reason.{Reason}
-use Rattle.answer.specs.declared.Answer.{Answer}
-use Rattle.answer.specs.declared.Answer.TheVariants.{Accepted, Refused}
-use Rattle.answer.proofs.Orders.{then_accepts}
+use Rattle.answer.specs.Answers.{Answer, Accepted}
 use Rattle.decimal.specs.declared.Class.TheVariants.{Digit}
 use Rattle.decimal.specs.Bytes.{is_of, all}
 use Rattle.decimal.specs.LowHalves.{low_number_of}
-use Rattle.calendar.specs.declared.MaybeDate.{MaybeDate}
-use Rattle.barcode.specs.declared.Decoded.TheVariants as decoding
 use Rattle.barcode.specs.declared.Fields.{Fields}
 use Rattle.barcode.specs.declared.Issuer.{Issuer}
-use Rattle.barcode.specs.declared.MaybeIssuer.TheVariants.{Is, NoIssuer}
 use Rattle.barcode.specs.Codes.{digit_at, issuer_end, issuer_of, free_of, barcode_answer}
 use Rattle.barcode.specs.Agreed.{due_of, due_answer, barcode_under}
 use Rattle.barcode.specs.Shown.{fields_of, decoded, decoded_under, issuer_if_accepted, accepted_issuer}
@@ -30,7 +26,7 @@ as_free code {e} h i =
     rw n
 
 pub as_fields : (agreed code : List ℕ) → length code ≡ 44 → all (is_of Digit) code ≡ true
-    → {i : Issuer} {k v : ℕ} {free : List ℕ} {d : MaybeDate} → i ≡ issuer_of code → k ≡ digit_at 3 code
+    → {i : Issuer} {k v : ℕ} {free : List ℕ} {d : Option Date} → i ≡ issuer_of code → k ≡ digit_at 3 code
     → v ≡ low_number_of (take 11 (drop 4 code)) → free ≡ free_of code → d ≡ due_of agreed i free
     → ◌≡◌ {A = Fields} (record { kind = k; value = v; issuer = i; due = d }) (fields_of agreed code)
 as_fields agreed code n a ei ek ev ef ed =
@@ -43,38 +39,19 @@ module _ (agreed code : List ℕ) where
   pub under_due : {a : Answer} → barcode_answer code ≡ Accepted → a ≡ due_answer agreed code → a ≡ barcode_under agreed code
   under_due e h = rw e h
 
-  pub under_refused : {why : Reason} {p : ℕ} → Refused why p ≡ barcode_answer code → Refused why p ≡ barcode_under agreed code
-  under_refused e = rw (← e)
-
-  pub not_under : (barcode_answer code ≡ Accepted → ⊥) → barcode_under agreed code ≡ Accepted → ⊥
-  not_under h e = h ((then_accepts (barcode_answer code) (due_answer agreed code)).0 e).0
-
-pub as_read : (a : Answer) {f g : Fields} → a ≡ Accepted → f ≡ g → decoding.Read f ≡ decoded a g
-as_read a e h = rw (h, e)
-
-pub as_refused : {a : Answer} (f : Fields) {why : Reason} {p : ℕ} → a ≡ Refused why p → decoding.Refused why p ≡ decoded a f
-as_refused f e = rw e
-
-pub is_issuer_holds : (a : Answer) {i j : Issuer} → a ≡ Accepted → i ≡ j → Is i ≡ issuer_if_accepted a j
-is_issuer_holds a e f = rw (e, f)
-
-pub no_issuer : (a : Answer) (i : Issuer) → (a ≡ Accepted → ⊥) → NoIssuer ≡ issuer_if_accepted a i
-no_issuer Accepted i h = absurd (h refl)
-no_issuer (Refused why p) i h = refl
-
 -- and back
 
-pub issuer_tells : (agreed code : List ℕ) {i : Issuer} → Is i ≡ accepted_issuer agreed code → (barcode_under agreed code ≡ Accepted) × (i ≡ issuer_of code)
+pub issuer_tells : (agreed code : List ℕ) {i : Issuer} → Some i ≡ accepted_issuer agreed code → (barcode_under agreed code ≡ Accepted) × (i ≡ issuer_of code)
 issuer_tells agreed code {i} e = go (barcode_under agreed code) e
   where
-    go : (a : Answer) → Is i ≡ issuer_if_accepted a (issuer_of code) → (a ≡ Accepted) × (i ≡ issuer_of code)
+    go : (a : Answer) → Some i ≡ issuer_if_accepted a (issuer_of code) → (a ≡ Accepted) × (i ≡ issuer_of code)
     go Accepted f = (refl, cc)
-    go (Refused why p) f = let z : ◌≡◌ {A = ℕ} 0 1 = cc in absurd (omega arith)
+    go (Err refusal) f = let z : ◌≡◌ {A = ℕ} 0 1 = cc in absurd (omega arith)
 
 -- a barcode that is read was accepted, and these are its fields
-pub read_tells : (agreed code : List ℕ) {f : Fields} → decoding.Read f ≡ decoded_under agreed code → (barcode_under agreed code ≡ Accepted) × (f ≡ fields_of agreed code)
+pub read_tells : (agreed code : List ℕ) {f : Fields} → Ok f ≡ decoded_under agreed code → (barcode_under agreed code ≡ Accepted) × (f ≡ fields_of agreed code)
 read_tells agreed code {f} e = go (barcode_under agreed code) e
   where
-    go : (a : Answer) → decoding.Read f ≡ decoded a (fields_of agreed code) → (a ≡ Accepted) × (f ≡ fields_of agreed code)
+    go : (a : Answer) → Ok f ≡ decoded a (fields_of agreed code) → (a ≡ Accepted) × (f ≡ fields_of agreed code)
     go Accepted g = (refl, cc)
-    go (Refused why p) g = let z : ◌≡◌ {A = ℕ} 0 1 = cc in absurd (omega arith)
+    go (Err refusal) g = let z : ◌≡◌ {A = ℕ} 0 1 = cc in absurd (omega arith)

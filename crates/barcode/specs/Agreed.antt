@@ -1,15 +1,13 @@
 -- Issuers that agreed on due dates (SPEC.md, "Agreed issuers"): the list of them that a caller lends, and what it asks
 -- of a barcode. Assumes nothing.
-use Rattle.std.specs.Prelude.{ℕ, ◌+◌, ◌*◌, ◌/◌, ◌%◌, ◌^◌, Bool, true, false, cond, not, ◌&&◌, ◌||◌, List, [], ◌∷◌, ◌↔◌, ◌⊎◌, ◌≡◌, leb, ltb, eqb, length, take}
+use Rattle.std.specs.Prelude.{None, Option, ℕ, ◌+◌, ◌*◌, ◌/◌, ◌%◌, ◌^◌, Bool, true, false, cond, not, ◌&&◌, ◌||◌, List, [], ◌∷◌, ◌↔◌, ◌⊎◌, ◌≡◌, leb, ltb, eqb, length, take}
+use Rattle.calendar.specs.declared.Date.{Date}
 use Rattle.answer.specs.declared.Reason.TheVariants as reason
-use Rattle.answer.specs.declared.Answer.{Answer}
-use Rattle.answer.specs.declared.Answer.TheVariants.{Accepted, Refused}
+use Rattle.answer.specs.Answers.{Answer, Accepted, Refused}
 use Rattle.answer.specs.Orders.{require, ◌then◌}
 use Rattle.answer.specs.Refusals.{answer_number}
 use Rattle.decimal.specs.Bytes.{all}
 use Rattle.decimal.specs.Places.{width_of}
-use Rattle.calendar.specs.declared.MaybeDate.{MaybeDate}
-use Rattle.calendar.specs.declared.MaybeDate.TheVariants.{NoDate}
 use Rattle.calendar.specs.Dates.{date_of, is_found}
 use Rattle.barcode.specs.declared.Issuer.{Issuer}
 use Rattle.barcode.specs.Codes.{is_segment, issuer, free, issuer_of, free_of, barcode_answer}
@@ -70,8 +68,8 @@ free_answer agreed i rest =
     require (not (is_agreed agreed i) || is_found (date_of (due_digits rest))) reason.NoDate (free i.segment).first
 
 -- the due date: that date, and none of an issuer that did not agree on due dates
-abbrev pub due_of : List ℕ → Issuer → List ℕ → MaybeDate
-due_of agreed i rest = cond (is_agreed agreed i) (date_of (due_digits rest)) NoDate
+abbrev pub due_of : List ℕ → Issuer → List ℕ → Option Date
+due_of agreed i rest = cond (is_agreed agreed i) (date_of (due_digits rest)) None
 
 abbrev pub due_answer : List ℕ → List ℕ → Answer
 due_answer agreed code = free_answer agreed (issuer_of code) (free_of code)
@@ -113,10 +111,10 @@ DueIsRight agreed i rest = (is_agreed agreed i ≡ false) ⊎ (is_found (date_of
 
 -- the due date shown is the date that the free field starts with if the issuer agreed on due dates, and none if it did
 -- not, whatever the digits
-abbrev pub ShowsDue : List ℕ → Issuer → List ℕ → MaybeDate → Type 0
+abbrev pub ShowsDue : List ℕ → Issuer → List ℕ → Option Date → Type 0
 ShowsDue agreed i rest due =
     (is_agreed agreed i ≡ true → (due ≡ date_of (due_digits rest)) × (is_found due ≡ true))
-    × (is_agreed agreed i ≡ false → due ≡ NoDate)
+    × (is_agreed agreed i ≡ false → due ≡ None)
 
 -- under a right list a barcode is accepted exactly when its checks are and its due date is right
 abbrev pub DueIsAsked : Type 0

@@ -1,7 +1,7 @@
 -- A barcode built from its fields: issuer, kind, value and free field (SPEC.md, "Builder"). Assumes nothing.
 use Rattle.std.specs.Prelude.{ℕ, ◌+◌, ◌^◌, List, [], ◌∷◌, ◌++◌, ltb, eqb, length}
 use Rattle.answer.specs.declared.Reason.TheVariants.{WrongLength, NoDigit, UnknownSegment, UnknownKind, TooWide}
-use Rattle.answer.specs.declared.Answer.{Answer}
+use Rattle.answer.specs.Answers.{Answer}
 use Rattle.answer.specs.Orders.{require, ◌then◌, behind, moved_by, if_accepted}
 use Rattle.decimal.specs.declared.Class.TheVariants.{Digit}
 use Rattle.decimal.specs.Bytes.{is_of, each_is}

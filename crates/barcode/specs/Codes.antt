@@ -1,8 +1,7 @@
 -- The barcode of 44 digits (SPEC.md, "Barcode"). Assumes nothing.
 use Rattle.std.specs.Prelude.{ℕ, ◌+◌, ◌-◌, Bool, cond, ◌||◌, List, [], ◌∷◌, leb, eqb, length, get_or}
-use Rattle.answer.specs.declared.Reason.TheVariants.{WrongLength, NoDigit, WrongProduct, UnknownSegment, UnknownKind}
-use Rattle.answer.specs.declared.Reason.TheVariants.{WrongGeneralCheck}
-use Rattle.answer.specs.declared.Answer.{Answer}
+use Rattle.answer.specs.declared.Reason.TheVariants.{WrongLength, NoDigit, WrongProduct, UnknownSegment, UnknownKind, WrongGeneralCheck}
+use Rattle.answer.specs.Answers.{Answer}
 use Rattle.answer.specs.Orders.{require, ◌then◌}
 use Rattle.decimal.specs.declared.Class.TheVariants.{Digit}
 use Rattle.decimal.specs.Bytes.{within, is_of, each_is}

@@ -1,28 +1,26 @@
 -- What is promised of barcodes: they are their fields, and fields within their ranges are barcodes. Assumes nothing.
-use Rattle.std.specs.Prelude.{ℕ, ◌^◌, ◌<◌, true, List, ◌↔◌, ◌≡◌, length}
-use Rattle.answer.specs.declared.Answer.{Answer}
-use Rattle.answer.specs.declared.Answer.TheVariants as answer
+use Rattle.std.specs.Prelude.{Err, Ok, ℕ, ◌^◌, ◌<◌, true, List, ◌↔◌, ◌≡◌, length}
+use Rattle.answer.specs.Answers.{Refused, Answer}
+use Rattle.answer.specs.Answers as answer
 use Rattle.decimal.specs.declared.Class.TheVariants.{Digit}
 use Rattle.decimal.specs.Bytes.{is_of, all}
 use Rattle.decimal.specs.Numbers.{digits_of}
 use Rattle.decimal.specs.Places.{width_of, part_at}
 use Rattle.barcode.specs.declared.Issuer.{Issuer}
 use Rattle.barcode.specs.declared.Fields.{Fields}
-use Rattle.barcode.specs.declared.Decoded.{Decoded}
-use Rattle.barcode.specs.declared.Decoded.TheVariants.{Read, Refused}
+use Rattle.barcode.specs.Shown.{Decoded, fields_of, no_fields, decoded_barcode, shown_free}
 use Rattle.barcode.specs.Codes.{code_length, is_segment, is_kind, value, issuer, free, issuer_of, free_of}
 use Rattle.barcode.specs.Agreed.{due_of, barcode_check, RightList, DueIsRight, ShowsDue}
-use Rattle.barcode.specs.Shown.{fields_of, no_fields, decoded_barcode, shown_free}
 use Rattle.barcode.specs.Building.{built_of, build_check, built_into}
 
 -- the answer that a decoded barcode gives, and the fields that it shows
 abbrev pub answer_of_barcode : Decoded → Answer
-answer_of_barcode (Read fields) = answer.Accepted
-answer_of_barcode (Refused why place) = answer.Refused why place
+answer_of_barcode (Ok fields) = answer.Accepted
+answer_of_barcode (Err refusal) = Err refusal
 
 abbrev pub shown_fields : Decoded → Fields
-shown_fields (Read fields) = fields
-shown_fields (Refused why place) = no_fields
+shown_fields (Ok fields) = fields
+shown_fields (Err refusal) = no_fields
 
 abbrev pub DecodedAnswers : Type 0
 DecodedAnswers =
@@ -66,7 +64,7 @@ BuiltIsRead =
     (agreed : List ℕ) (i : Issuer) (kind amount : ℕ) (rest : List ℕ)
     → build_check agreed code_length i kind amount rest ≡ answer.Accepted
     → (decoded_barcode agreed (built_of i kind amount rest)
-    ≡ Read (record { kind = kind; value = amount; issuer = i; due = due_of agreed i rest }))
+    ≡ Ok (record { kind = kind; value = amount; issuer = i; due = due_of agreed i rest }))
     × (shown_free agreed (built_of i kind amount rest) ≡ rest)
 
 -- each field is within its range

@@ -1,13 +1,13 @@
 // Issuers that agreed on due dates (SPEC.md, "Agreed issuers"): the list that a caller lends, and what it asks of a
 // free field. A list is judged once, by `check_list`; the other functions take any list.
-ghost use Rattle.std.specs.Prelude.{min, true, ◌&&◌, ◌≡◌, leb};
+ghost use Rattle.std.specs.Prelude.{true, ◌&&◌, ◌≡◌, leb};
 ghost use Rattle.decimal.specs.Bytes.{all};
 ghost use Rattle.barcode.specs.Agreed.{is_issuer, key_of, names_issuer, is_among, are_distinct, list_answer};
 ghost use Rattle.barcode.specs.Agreed.{is_agreed, due_digits, free_answer, due_of};
 
 use crate::{Issuer, parts};
-use answer::{Answer, Reason};
-use calendar::MaybeDate;
+use answer::{Answer, Reason, require};
+use calendar::Date;
 
 // The most issuers of a list.
 const MOST_AGREED: usize = 64;
@@ -50,14 +50,7 @@ fn names_issuer(key: u64) -> bool
 fn is_among(key: u64, keys: &[u64]) -> bool
     ensures { result ≡ is_among key keys.now }
 {
-    let mut i = 0;
-    while i < keys.len() {
-        if keys[i] == key {
-            return true;
-        }
-        i += 1;
-    }
-    false
+    keys.contains(&key)
 }
 
 // The same, told a number that none of them is below: a lower key needs no search.
@@ -71,21 +64,13 @@ fn is_among_from(key: u64, lowest: u64, keys: &[u64]) -> bool
     is_among(key, keys)
 }
 
-fn lower(a: u64, b: u64) -> u64
-    ensures { result ≡ min a b }
-{
-    if a < b { a } else { b }
-}
-
 // Whether each key names an issuer, and none comes twice: from the last to the first, so that a list in rising order is
 // judged in one pass.
 fn are_distinct_issuers(keys: &[u64]) -> bool
     ensures { result ≡ (all names_issuer keys.now && are_distinct keys.now) }
 {
     let mut lowest = u64::MAX;
-    let mut i = keys.len();
-    while 0 < i {
-        i -= 1;
+    for i in (0..keys.len()).rev() {
         let key = keys[i];
         if !names_issuer(key) {
             return false;
@@ -93,33 +78,29 @@ fn are_distinct_issuers(keys: &[u64]) -> bool
         if is_among_from(key, lowest, &keys[i + 1..]) {
             return false;
         }
-        lowest = lower(key, lowest);
+        lowest = key.min(lowest);
     }
     true
 }
 
 // 25, with no place, for a list of more than 64 keys, with a key that names no issuer, or with one key twice. An empty
 // list, which most callers lend, costs one test.
+#[tactic(auto, unfolding(crate::specs::Agreed::list_answer))]
 pub fn check_list(agreed: &[u64]) -> Answer
     ensures { result ≡ list_answer agreed.now }
 {
-    if agreed.len() == 0 {
-        return Answer::Accepted;
+    if agreed.is_empty() {
+        return Ok(());
     }
-    if MOST_AGREED < agreed.len() {
-        return Answer::Refused(Reason::WrongList, 0);
-    }
-    if !are_distinct_issuers(agreed) {
-        return Answer::Refused(Reason::WrongList, 0);
-    }
-    Answer::Accepted
+    require(agreed.len() <= MOST_AGREED, Reason::WrongList, 0)?;
+    require(are_distinct_issuers(agreed), Reason::WrongList, 0)
 }
 
 // Whether an issuer is on the list: it agreed on due dates.
 fn is_agreed(issuer: Issuer, agreed: &[u64]) -> bool
     ensures { result ≡ is_agreed agreed.now issuer }
 {
-    if agreed.len() == 0 {
+    if agreed.is_empty() {
         return false; // nobody is on it, and no key is made
     }
     is_among(key_of(issuer), agreed)
@@ -136,25 +117,28 @@ fn due_digits(free: &[u8]) -> &[u8]
 }
 
 // 11 at the free field's first place in a barcode, if its issuer is on the list and its first eight digits are no date.
+#[tactic(auto, unfolding(crate::specs::Agreed::free_answer))]
 pub(crate) fn check_free(issuer: Issuer, free: &[u8], agreed: &[u64]) -> Answer
     ensures { result ≡ free_answer agreed.now issuer free.now }
 {
     if !is_agreed(issuer, agreed) {
-        return Answer::Accepted;
+        return Ok(());
     }
-    if !calendar::is_date_text(due_digits(free)) {
-        return Answer::Refused(Reason::NoDate, parts::issuer_end(issuer.segment) + 1);
-    }
-    Answer::Accepted
+    let place = parts::issuer_end(issuer.segment) + 1;
+    require(
+        calendar::is_date_text(due_digits(free)),
+        Reason::NoDate,
+        place,
+    )
 }
 
 // The due date: the first eight digits of the free field of an issuer that is on the list, if they are a date.
-pub(crate) fn due_of(issuer: Issuer, free: &[u8], agreed: &[u64]) -> MaybeDate
+pub(crate) fn due_of(issuer: Issuer, free: &[u8], agreed: &[u64]) -> Option<Date>
     ensures { result ≡ due_of agreed.now issuer free.now }
 {
     if is_agreed(issuer, agreed) {
         calendar::read_date(due_digits(free))
     } else {
-        MaybeDate::NoDate
+        None
     }
 }

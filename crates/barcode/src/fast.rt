@@ -8,14 +8,13 @@
 // Two things are not as in the specification's order. Places 5 to 44 are tested and summed in one go, by
 // `modulus::sums_of_forty`. Places 1 to 4 are not tested for digits: a byte that is none has the value 0, which is no
 // product, segment or value kind, and the fourth must equal a check digit.
-ghost use Rattle.std.specs.Prelude.{true, ◌↔◌, ◌≡◌, length, take, drop};
-ghost use Rattle.answer.specs.declared.Answer.TheVariants as answers;
+ghost use Rattle.std.specs.Prelude.{true, ◌↔◌, ◌≡◌, take, drop};
+ghost use Rattle.answer.specs.Answers as answers;
 ghost use Rattle.modulus.specs.Checks.{weighted_sum};
-ghost use Rattle.barcode.specs.Codes.{code_length, digit_at, modulus_of, general_right, barcode_answer};
+ghost use Rattle.barcode.specs.Codes.{digit_at, modulus_of, general_right, barcode_answer};
 
 use crate::parts;
-use answer::Answer;
-use modulus::{MaybeSums, Modulus};
+use modulus::Modulus;
 
 // A byte as a number.
 fn wide(b: u8) -> u64
@@ -25,10 +24,9 @@ fn wide(b: u8) -> u64
 }
 
 // Whether the general check is right, from the sum of the forty digits behind it.
-fn is_general_check_right(m: Modulus, code: &[u8], sum: u64) -> bool
-    requires code_len { length code.now ≡ code_length }
-    requires m_value { m ≡ modulus_of (digit_at 3 code.now) }
-    requires sum_value { sum ≡ weighted_sum m 0 (take 40 (drop 4 code.now)) }
+fn is_general_check_right(m: Modulus, code: &[u8; parts::LENGTH], sum: u64) -> bool
+    requires named { m ≡ modulus_of (digit_at 3 code.now) }
+    requires summed { sum ≡ weighted_sum m 0 (take 40 (drop 4 code.now)) }
     ensures { result ≡ general_right code.now }
 {
     let left = modulus::weighted_remainder(m, &code[0..3], 40);
@@ -36,20 +34,17 @@ fn is_general_check_right(m: Modulus, code: &[u8], sum: u64) -> bool
 }
 
 // Whether all checks of a barcode hold.
-pub(crate) fn is_accepted(code: &[u8]) -> bool
+pub(crate) fn is_accepted(code: &[u8; parts::LENGTH]) -> bool
     ensures { (result ≡ true) ↔ (barcode_answer code.now ≡ answers.Accepted) }
 {
-    if code.len() != parts::LENGTH {
+    if parts::check_first_three(code).is_err() {
         return false;
     }
-    let Answer::Accepted = parts::check_first_three(code) else {
-        return false;
-    };
-    let MaybeSums::Both(ten, eleven) = modulus::sums_of_forty(&code[4..parts::LENGTH]) else {
+    let Some(sums) = modulus::sums_of_forty(&code[4..parts::LENGTH]) else {
         return false;
     };
     match parts::modulus_of_kind(parts::digit(code, 2)) {
-        Modulus::Ten => is_general_check_right(Modulus::Ten, code, ten),
-        Modulus::Eleven => is_general_check_right(Modulus::Eleven, code, eleven),
+        Modulus::Ten => is_general_check_right(Modulus::Ten, code, sums.ten),
+        Modulus::Eleven => is_general_check_right(Modulus::Eleven, code, sums.eleven),
     }
 }

@@ -1,17 +1,32 @@
 // What the checks in order, the fast path and the builder share: a barcode's length, its first digits and the places of
 // the issuer (SPEC.md, "Barcode").
-ghost use Rattle.std.specs.Prelude.{◌≡◌, ◌≤◌, get_or};
+ghost use Rattle.std.specs.Prelude.{◌≡◌, ◌≤◌, IfOk, eqb, length, get_or};
+ghost use Rattle.answer.specs.Answers.{answer_of};
+ghost use Rattle.answer.specs.Orders.{require};
+ghost use Rattle.answer.specs.declared.Reason.TheVariants.{WrongLength};
 ghost use Rattle.decimal.specs.Numbers.{value_of};
 ghost use Rattle.decimal.specs.Places.{width_of};
-ghost use Rattle.barcode.specs.Codes.{is_segment, is_kind, modulus_of, issuer, issuer_end};
+ghost use Rattle.barcode.specs.Codes.{code_length, is_segment, is_kind, modulus_of, issuer, issuer_end};
 ghost use Rattle.barcode.specs.Codes.{first_three_answer, prefix_answer};
 
-use answer::{Answer, Reason};
+use answer::{Answer, Reason, Refusal, require};
 use decimal::Class;
 use modulus::Modulus;
 
 // The bytes of a barcode.
 pub const LENGTH: usize = 44;
+
+// The 44 bytes of a barcode; refused 1 for any other length. Line and record have one of their own: a generic one in a
+// crate below would be public, and need a promise for every length (`OneOutcome`), for one line of code.
+pub(crate) fn whole(code: &[u8]) -> Result<&[u8; LENGTH], Refusal>
+    ensures same { IfOk result (λ whole. whole.now ≡ code.now) }
+    ensures answer { answer_of result ≡ require (eqb (length code.now) code_length) WrongLength 0 }
+{
+    <&[u8; LENGTH]>::try_from(code).or(Err(Refusal {
+        why: Reason::WrongLength,
+        place: 0,
+    }))
+}
 
 pub(crate) fn is_segment(segment: u64) -> bool
     ensures { result ≡ is_segment segment }
@@ -64,19 +79,13 @@ pub(crate) fn digit(l: &[u8], i: usize) -> u64
 }
 
 // Product, segment and value kind: refusals 3, 4 and 5.
+#[tactic(auto, unfolding(crate::specs::Codes::first_three_answer))]
 pub(crate) fn check_first_three(l: &[u8]) -> Answer
     ensures { result ≡ first_three_answer l.now }
 {
-    if digit(l, 0) != 8 {
-        return Answer::Refused(Reason::WrongProduct, 1);
-    }
-    if !is_segment(digit(l, 1)) {
-        return Answer::Refused(Reason::UnknownSegment, 2);
-    }
-    if !is_kind(digit(l, 2)) {
-        return Answer::Refused(Reason::UnknownKind, 3);
-    }
-    Answer::Accepted
+    require(digit(l, 0) == 8, Reason::WrongProduct, 1)?;
+    require(is_segment(digit(l, 1)), Reason::UnknownSegment, 2)?;
+    require(is_kind(digit(l, 2)), Reason::UnknownKind, 3)
 }
 
 // The checks that a barcode and a typed line begin with, whatever the length: that every byte is a digit (2), then
@@ -84,9 +93,6 @@ pub(crate) fn check_first_three(l: &[u8]) -> Answer
 pub fn check_prefix(l: &[u8]) -> Answer
     ensures { result ≡ prefix_answer l.now }
 {
-    let digits = decimal::require_class(Class::Digit, Reason::NoDigit, l);
-    match digits {
-        Answer::Refused(_, _) => digits,
-        Answer::Accepted => check_first_three(l),
-    }
+    decimal::require_class(Class::Digit, Reason::NoDigit, l)?;
+    check_first_three(l)
 }

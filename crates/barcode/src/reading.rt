@@ -1,7 +1,7 @@
 // What 44 digits say, accepted or not: issuer, due date, all fields.
-ghost use Rattle.std.specs.Prelude.{true, ◌≡◌, length};
+ghost use Rattle.std.specs.Prelude.{true, ◌≡◌};
 ghost use Rattle.decimal.specs.Bytes.{is_of, all};
-ghost use Rattle.barcode.specs.Codes.{code_length, issuer_of, free_of};
+ghost use Rattle.barcode.specs.Codes.{issuer_of, free_of};
 ghost use Rattle.barcode.specs.Agreed.{due_answer};
 ghost use Rattle.barcode.specs.Shown.{fields_of};
 
@@ -9,9 +9,8 @@ use crate::{Fields, Issuer, agreed, parts};
 use answer::Answer;
 use decimal::Class;
 
-pub(crate) fn issuer_of(code: &[u8]) -> Issuer
-    requires code_len { length code.now ≡ code_length }
-    requires code_value { all (is_of Class.Digit) code.now ≡ true }
+pub(crate) fn issuer_of(code: &[u8; parts::LENGTH]) -> Issuer
+    requires { all (is_of Class.Digit) code.now ≡ true }
     ensures { result ≡ issuer_of code.now }
 {
     let segment = parts::digit(code, 1);
@@ -22,8 +21,7 @@ pub(crate) fn issuer_of(code: &[u8]) -> Issuer
     }
 }
 
-pub(crate) fn free_of(code: &[u8]) -> &[u8]
-    requires { length code.now ≡ code_length }
+pub(crate) fn free_of(code: &[u8; parts::LENGTH]) -> &[u8]
     ensures { result.now ≡ free_of code.now }
 {
     let end = parts::issuer_end(parts::digit(code, 1));
@@ -31,20 +29,18 @@ pub(crate) fn free_of(code: &[u8]) -> &[u8]
 }
 
 // 11 if the issuer is on the list and the free field does not start with a date. Under an empty list nothing is read.
-pub(crate) fn check_due(code: &[u8], agreed: &[u64]) -> Answer
-    requires code_len { length code.now ≡ code_length }
-    requires code_value { all (is_of Class.Digit) code.now ≡ true }
+pub(crate) fn check_due(code: &[u8; parts::LENGTH], agreed: &[u64]) -> Answer
+    requires { all (is_of Class.Digit) code.now ≡ true }
     ensures { result ≡ due_answer agreed.now code.now }
 {
-    if agreed.len() == 0 {
-        return Answer::Accepted;
+    if agreed.is_empty() {
+        return Ok(());
     }
     agreed::check_free(issuer_of(code), free_of(code), agreed)
 }
 
-pub(crate) fn fields_of(code: &[u8], agreed: &[u64]) -> Fields
-    requires code_len { length code.now ≡ code_length }
-    requires code_value { all (is_of Class.Digit) code.now ≡ true }
+pub(crate) fn fields_of(code: &[u8; parts::LENGTH], agreed: &[u64]) -> Fields
+    requires { all (is_of Class.Digit) code.now ≡ true }
     ensures { result ≡ fields_of agreed.now code.now }
 {
     let issuer = issuer_of(code);

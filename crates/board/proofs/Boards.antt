@@ -13,8 +13,7 @@ use lib.ListN.{length, get_or, length-set, length-append}
 use lib.Seq.{get_or-take}
 use Rattle.answer.specs.Refusals.{received_place, tariff_place, issuer_place}
 use Rattle.answer.specs.declared.Reason.TheVariants.{BoardFull, BoardTotalPassed}
-use Rattle.answer.specs.declared.Answer.{Answer}
-use Rattle.answer.specs.declared.Answer.TheVariants.{Accepted}
+use Rattle.answer.specs.Answers.{Answer, Accepted}
 use Rattle.answer.specs.Orders.{require, ◌then◌}
 use Rattle.answer.proofs.Orders.{then_accepts}
 use Rattle.barcode.specs.declared.Issuer.{Issuer}

@@ -10,14 +10,13 @@ use lib.Dec.{eqb}
 use Rattle.answer.proofs.Tests.{lt_or_le}
 use lib.ListN.{length, get_or, set, length-set, length-append}
 use lib.Seq.{get_or-set_same, get_or-set_other, get_or-append_seam, take-set-lt, take-suc-set}
-use Rattle.answer.specs.declared.Answer.TheVariants.{Accepted}
+use Rattle.answer.specs.Answers.{Accepted}
 use Rattle.barcode.specs.declared.Issuer.{Issuer}
-use Rattle.board.specs.declared.SlotResult.{SlotResult}
+use Rattle.board.specs.Boards.{SlotResult, blank, lanes_of, index_of, slot_at, used_after, grown_slot, slot_answer, slot_result_of}
 use Rattle.board.specs.declared.Lane.{Lane}
 use Rattle.board.specs.declared.Board.{Board}
 use Rattle.board.specs.declared.Slot.{Slot}
 use Rattle.board.specs.Lanes.{most_lanes, same_issuer, is_lane_of}
-use Rattle.board.specs.Boards.{blank, lanes_of, index_of, slot_at, used_after, grown_slot, slot_answer, slot_result_of}
 use Rattle.board.proofs.Searches.{in_use, index_within}
 use Rattle.board.proofs.Lanes.{same_is}
 

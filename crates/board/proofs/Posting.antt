@@ -1,4 +1,5 @@
 -- Laws of one payment: if accepted it is added to its lane, and the board stays sound. Assumes nothing.
+use Rattle.std.specs.Prelude.{Err}
 use Prim.Native.Nat.{ℕ, suc, ◌+◌, ◌≤◌, ◌<◌}
 use mathlib.Core.Bool.{Bool, true, false, cond, ◌&&◌, and-eq-true_iff, false≢true}
 use mathlib.Core.List.{List, [], ◌∷◌, ◌++◌}
@@ -12,8 +13,7 @@ use lib.ListN.{length, get_or, set, take, length-set, length-replicate}
 use lib.Seq.{get_or-take, take-set-lt, take-suc-set, length-take-le}
 use Rattle.answer.specs.Refusals.{answer_place, received_place, tariff_place, issuer_place}
 use Rattle.answer.specs.declared.Reason.TheVariants.{BoardFull, BoardTotalPassed}
-use Rattle.answer.specs.declared.Answer.{Answer}
-use Rattle.answer.specs.declared.Answer.TheVariants.{Accepted, Refused}
+use Rattle.answer.specs.Answers.{Answer, Accepted, Refused}
 use Rattle.answer.specs.Orders.{require, ◌then◌, if_accepted}
 use Rattle.answer.proofs.Orders.{require_accepts, then_accepts, refusal_keeps}
 use Rattle.board.specs.declared.Tally.{Tally}
@@ -164,4 +164,4 @@ stays_sound = (
     go : (b : Board) (p : Lane) → SoundBoard b → (a : Answer) → post_answer b p ≡ a
         → SoundBoard (if_accepted a (board_with b p) b)
     go b p s Accepted e = with_sound b p s ((fit b p).0 e)
-    go b p s (Refused why q) e = s
+    go b p s (Err refusal) e = s

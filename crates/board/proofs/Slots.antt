@@ -1,29 +1,24 @@
 -- Laws of a slot: its answer in the order of the refusals, and the board that it is put back to. Assumes nothing.
-use Prim.Native.Nat.{ℕ, ◌<◌}
+use Rattle.std.specs.Prelude.{Err}
+use Prim.Native.Nat.{ℕ}
 use mathlib.Core.Bool.{Bool, true, false, ◌&&◌, and-eq-true_iff}
 use mathlib.Core.List.{List}
 use mathlib.Core.Logic.{◌↔◌}
-use mathlib.Core.Path.{◌≡◌, refl, ap, ◌∙◌}
-use borrow.Author.Tests.{lt-ltb}
+use mathlib.Core.Path.{◌≡◌, refl, ap}
 use lib.Dec.{leb}
 use lib.ListN.{set}
 use lib.Seq.{set-get_or}
 use Rattle.answer.specs.Refusals.{received_place, tariff_place}
-use Rattle.answer.specs.declared.Reason.{Reason}
 use Rattle.answer.specs.declared.Reason.TheVariants.{BoardTotalPassed}
-use Rattle.answer.specs.declared.Answer.{Answer}
-use Rattle.answer.specs.declared.Answer.TheVariants.{Accepted, Refused}
+use Rattle.answer.specs.Answers.{Answer, Accepted}
 use Rattle.answer.specs.Orders.{require, ◌then◌, if_accepted}
 use Rattle.answer.proofs.Orders.{require_accepts, then_accepts}
 use Rattle.board.specs.declared.Tally.{Tally}
 use Rattle.board.specs.declared.Lane.{Lane}
 use Rattle.board.specs.declared.Board.{Board}
-use Rattle.board.specs.declared.Slot.{Slot}
-use Rattle.board.specs.declared.SlotResult.{SlotResult}
-use Rattle.board.specs.declared.PostResult.{PostResult}
+use Rattle.board.specs.Boards.{SlotResult, PostResult, blank, lanes_of, index_of, slot_at, with_slot, grown_slot, sums_answer, slot_answer, slot_result_of, post_result_of}
 use Rattle.board.proofs.Tallies.{fits_both}
-use Rattle.board.specs.Lanes.{most_lanes, limit, plus, payments_fit, tariff_fits, fits}
-use Rattle.board.specs.Boards.{blank, lanes_of, index_of, slot_at, with_slot, own_of, used_after, grown_slot, sums_answer, slot_answer, slot_result_of, post_result_of}
+use Rattle.board.specs.Lanes.{limit, payments_fit, tariff_fits, fits}
 
 -- number by number, of the lane and of the total at once: the first pair with a number past the limit decides
 pub sums_in_turn : (lane total : Tally)
@@ -72,24 +67,6 @@ sums_accept lane total =
         let both = and-eq-true_iff t u in
         (λ e. both.0 (one.0 e), λ h. one.1 (both.1 h))
 
--- within the board only the sums are left to check
-module _ (s : Slot) (p : Lane) (own : Tally) (free : s.at < most_lanes) (is : own ≡ own_of s) {a : Answer}
-    (sums : a ≡ sums_answer (plus own p.tally) (plus s.total p.tally)) where
-  result : record { answer = a; slot = if_accepted a (grown_slot s p) s } ≡ slot_result_of s p
-  unfolding slot_answer
-  result =
-      let answers : a ≡ slot_answer s p = sums ∙ rw (lt-ltb s.at most_lanes free, is) in
-      rw answers
-
-  pub passed : {why : Reason} {place : ℕ} → a ≡ Refused why place → record { answer = a; slot = s } ≡ slot_result_of s p
-  passed e = rw e (rw e at result)
-
-  pub within : {u : ℕ} {t v : Tally} → a ≡ Accepted
-      → t ≡ plus own p.tally → u ≡ used_after s → v ≡ plus s.total p.tally
-      → record { answer = a; slot = record { at = s.at; lane = record { issuer = p.issuer; tally = t }; used = u; total = v } }
-      ≡ slot_result_of s p
-  within e t u v = rw (e, t, u, v, is) (rw e at result)
-
 -- the slot after a posting, put back: if the payment is refused, the board is as it was
 pub put_back : (b : Board) (p : Lane) (at : ℕ) (e : SlotResult) → at ≡ index_of p.issuer (lanes_of b)
     → e ≡ slot_result_of (slot_at b at) p
@@ -111,7 +88,7 @@ put_back b p at e i f =
         })
         (record { answer = a; board = if_accepted a (with_slot b (grown_slot (slot_at b k) p)) b })
     go k Accepted = refl
-    go k (Refused why q) =
+    go k (Err refusal) =
         ap
-        {B = PostResult} (λ (ls : List Lane). record { answer = Refused why q; board = record { lanes = ls; used = b.used; total = b.total } })
+        {B = PostResult} (λ (ls : List Lane). record { answer = Err refusal; board = record { lanes = ls; used = b.used; total = b.total } })
         (set-get_or b.lanes k blank)

@@ -2,18 +2,14 @@
 use Rattle.std.specs.Prelude.{ℕ, suc, ◌+◌, ◌≤◌, ◌<◌, true, false, cond, ◌&&◌, List, [], ◌∷◌, ◌++◌, ◌↔◌, ◌⊎◌, ◌≡◌, ltb, leb, length, get_or, set, take, replicate}
 use Rattle.answer.specs.Refusals.{received_place, tariff_place, issuer_place}
 use Rattle.answer.specs.declared.Reason.TheVariants.{BoardFull, BoardTotalPassed}
-use Rattle.answer.specs.declared.Answer.{Answer}
-use Rattle.answer.specs.declared.Answer.TheVariants.{Accepted, Refused}
+use Rattle.answer.specs.Answers.{Answer, Accepted, Refused}
 use Rattle.answer.specs.Orders.{require, ◌then◌, if_accepted}
 use Rattle.barcode.specs.declared.Issuer.{Issuer}
 use Rattle.board.specs.declared.Tally.{Tally}
 use Rattle.board.specs.declared.Lane.{Lane}
 use Rattle.board.specs.declared.Board.{Board}
 use Rattle.board.specs.declared.Slot.{Slot}
-use Rattle.board.specs.declared.SlotResult.{SlotResult}
-use Rattle.board.specs.declared.PostResult.{PostResult}
-use Rattle.board.specs.Lanes.{most_lanes, empty_tally, plus, payments_fit, tariff_fits, fits, is_lane_of, grown_lane}
-use Rattle.board.specs.Lanes.{placed, lanes_from, tally_sum, issuers_of, is_among, Distinct}
+use Rattle.board.specs.Lanes.{most_lanes, empty_tally, plus, payments_fit, tariff_fits, fits, is_lane_of, grown_lane, placed, lanes_from, tally_sum, issuers_of, is_among, Distinct}
 
 -- the array's entry where no lane is in use
 abbrev pub blank : Lane
@@ -68,6 +64,11 @@ slot_answer s p =
     require (ltb s.at most_lanes) BoardFull issuer_place
     then sums_answer (grown_slot s p).lane.tally (grown_slot s p).total
 
+-- the answer to a payment and the slot after it; a refusal leaves the slot as it was
+pub record SlotResult : Type 0 where
+  pub answer : Answer
+  pub slot : Slot
+
 abbrev pub slot_result_of : Slot → Lane → SlotResult
 slot_result_of s p = record { answer = slot_answer s p; slot = if_accepted (slot_answer s p) (grown_slot s p) s }
 
@@ -77,6 +78,11 @@ post_answer b p = slot_answer (slot_of b p.issuer) p
 
 abbrev pub board_with : Board → Lane → Board
 board_with b p = with_slot b (grown_slot (slot_of b p.issuer) p)
+
+-- the answer to a payment and the board after it; a refusal leaves the board as it was
+pub record PostResult : Type 0 where
+  pub answer : Answer
+  pub board : Board
 
 abbrev pub post_result_of : Board → Lane → PostResult
 post_result_of b p = record { answer = post_answer b p; board = if_accepted (post_answer b p) (board_with b p) b }

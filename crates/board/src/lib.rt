@@ -5,14 +5,13 @@ mod one_lane;
 mod searching;
 mod whole_board;
 
-use answer::Answer;
 use barcode::Issuer;
 pub use searching::{cache_index, lanes_in_use, search_range};
 
 // Payments, the centavos they received and the centavos that the banks charge for them: of one payment, of a lane, or
 // of the whole board.
 #[repr(C)]
-#[derive(Clone, Copy)]
+#[derive(Clone, Copy, Debug, Default, PartialEq, Eq)]
 pub struct Tally {
     pub payments: u64,
     pub centavos: u64,
@@ -21,15 +20,16 @@ pub struct Tally {
 
 // An issuer and its tally. A payment is a lane of one: its issuer, 1, the centavos received and the tariff.
 #[repr(C)]
-#[derive(Clone, Copy)]
+#[derive(Clone, Copy, Debug, Default, PartialEq, Eq)]
 pub struct Lane {
     pub issuer: Issuer,
     pub tally: Tally,
 }
 
 // The lanes in use are the first `used`; all of them if a board in an arbitrary state says more. `total` is their sum.
+// An array and how many are in use, and no Vec: C reads them, and the engine has no heap.
 #[repr(C)]
-#[derive(Clone, Copy)]
+#[derive(Clone, Copy, Debug, PartialEq, Eq)]
 pub struct Board {
     pub lanes: [Lane; Board::LANES],
     pub used: usize,
@@ -37,33 +37,12 @@ pub struct Board {
 }
 
 // All of a board that one payment can change: the lane at one index, the number of lanes in use and the total.
-#[derive(Clone, Copy)]
+#[derive(Clone, Copy, Debug, PartialEq, Eq)]
 pub struct Slot {
     pub at: usize,
     pub lane: Lane,
     pub used: usize,
     pub total: Tally,
-}
-
-// The answer to a payment posted to a slot. A refusal leaves the slot as it was.
-#[derive(Clone, Copy)]
-pub struct SlotResult {
-    pub answer: Answer,
-    pub slot: Slot,
-}
-
-// The answer to a payment posted to a board. A refusal leaves the board as it was.
-#[derive(Clone, Copy)]
-pub struct PostResult {
-    pub answer: Answer,
-    pub board: Board,
-}
-
-// The indices at which an issuer's lane is searched: `from` and those behind it, up to `to` and without it.
-#[derive(Clone, Copy)]
-pub struct SearchRange {
-    pub from: usize,
-    pub to: usize,
 }
 
 // The entries of a cache of lane indices; see `cache_index`.

@@ -1,10 +1,11 @@
 // One lane: sums within the limit, and a payment posted to a slot.
 ghost use Rattle.std.specs.Prelude.{◌&&◌, ◌≡◌, ◌+◌, ◌≤◌, ◌<◌, leb};
+ghost use Rattle.answer.specs.Answers.{◌gives◌};
 ghost use Rattle.board.specs.Lanes.{limit, most_lanes, plus, is_lane_of, lane_of_one};
-ghost use Rattle.board.specs.Boards.{own_of, used_after, sums_answer, slot_result_of};
+ghost use Rattle.board.specs.Boards.{own_of, used_after, grown_slot, sums_answer, slot_answer};
 
-use crate::{Board, Lane, Slot, SlotResult, Tally};
-use answer::{Answer, Reason};
+use crate::{Board, Lane, Slot, Tally};
+use answer::{Answer, Reason, Refusal, require};
 use barcode::Issuer;
 
 // Whether two sums stay within the limit when `more` is added to each. The sums themselves are not made: they might not
@@ -52,32 +53,36 @@ impl Lane {
     pub fn is_of(self, issuer: Issuer) -> bool
         ensures { result ≡ is_lane_of issuer self }
     {
-        if self.issuer.segment == issuer.segment {
-            return self.issuer.number == issuer.number;
-        }
-        false
+        self.issuer == issuer
     }
 }
 
 // 18 where a number of the lane or of the total, with `more` added, would pass the limit: for payments or centavos at
 // the place of the received centavos, behind them for tariffs at that of the tariff.
+#[tactic(auto, using(crate::proofs::Slots::sums_in_turn))]
 fn check_sums(lane: Tally, total: Tally, more: Tally) -> Answer
     ensures { result ≡ sums_answer (plus lane more) (plus total more) }
 {
-    if !have_room(lane.payments, total.payments, more.payments) {
-        return Answer::Refused(Reason::BoardTotalPassed, answer::RECEIVED_PLACE);
-    }
-    if !have_room(lane.centavos, total.centavos, more.centavos) {
-        return Answer::Refused(Reason::BoardTotalPassed, answer::RECEIVED_PLACE);
-    }
-    if !have_room(lane.tariff, total.tariff, more.tariff) {
-        return Answer::Refused(Reason::BoardTotalPassed, answer::TARIFF_PLACE);
-    }
-    Answer::Accepted
+    require(
+        have_room(lane.payments, total.payments, more.payments),
+        Reason::BoardTotalPassed,
+        answer::RECEIVED_PLACE,
+    )?;
+    require(
+        have_room(lane.centavos, total.centavos, more.centavos),
+        Reason::BoardTotalPassed,
+        answer::RECEIVED_PLACE,
+    )?;
+    require(
+        have_room(lane.tariff, total.tariff, more.tariff),
+        Reason::BoardTotalPassed,
+        answer::TARIFF_PLACE,
+    )
 }
 
 impl Slot {
     // The tally of the lane at the slot's index; zeros if the index is not in use.
+    #[tactic(auto, unfolding(crate::specs::Boards::own_of))]
     fn own_tally(self) -> Tally
         ensures { result ≡ own_of self }
     {
@@ -85,11 +90,7 @@ impl Slot {
             let lane = self.lane;
             return lane.tally;
         }
-        Tally {
-            payments: 0,
-            centavos: 0,
-            tariff: 0,
-        }
+        Tally::default()
     }
 
     // How many lanes are in use once the slot's is.
@@ -104,35 +105,29 @@ impl Slot {
     }
 
     // Posts a payment at the index of its issuer's lane, or of the first free lane: the slot with the payment, or 17
-    // (the index is past the last lane) or 18 (a number of the lane or of the total would pass the limit) and the slot
-    // as it was. The caller searches the index; the lane gets the payment's issuer whatever was there.
-    pub fn post(self, payment: Lane) -> SlotResult
-        ensures { result ≡ slot_result_of self payment }
+    // (the index is past the last lane) or 18 (a number of the lane or of the total would pass the limit). The caller
+    // searches the index; the lane gets the payment's issuer whatever was there.
+    #[tactic(auto, unfolding(crate::specs::Boards::slot_answer))]
+    pub fn post(self, payment: Lane) -> Result<Slot, Refusal>
+        ensures { result ≡ (slot_answer self payment gives grown_slot self payment) }
     {
-        if Board::LANES <= self.at {
-            return SlotResult {
-                answer: Answer::Refused(Reason::BoardFull, answer::ISSUER_PLACE),
-                slot: self,
-            };
-        }
+        require(
+            self.at < Board::LANES,
+            Reason::BoardFull,
+            answer::ISSUER_PLACE,
+        )?;
         let own = self.own_tally();
         let total = self.total;
-        let answer = check_sums(own, total, payment.tally);
-        let Answer::Accepted = answer else {
-            return SlotResult { answer, slot: self };
-        };
+        check_sums(own, total, payment.tally)?;
         let issuer = payment.issuer;
-        SlotResult {
-            answer,
-            slot: Slot {
-                at: self.at,
-                lane: Lane {
-                    issuer,
-                    tally: own.plus(payment.tally),
-                },
-                used: self.used_after(),
-                total: total.plus(payment.tally),
+        Ok(Slot {
+            at: self.at,
+            lane: Lane {
+                issuer,
+                tally: own.plus(payment.tally),
             },
-        }
+            used: self.used_after(),
+            total: total.plus(payment.tally),
+        })
     }
 }

@@ -9,17 +9,15 @@ ghost use Rattle.board.specs.Lanes.{most_lanes};
 ghost use Rattle.board.specs.Boards.{lanes_of, index_of};
 ghost use Rattle.board.specs.Searches.{cache_length, search_range_of};
 
-use crate::{Board, CACHE_LENGTH, Lane, SearchRange};
+use crate::{Board, CACHE_LENGTH, Lane};
 use barcode::Issuer;
+use std::ops::Range;
 
 // How many lanes of a board are in use: its `used`, at most LANES for a board in an arbitrary state.
 pub fn lanes_in_use(used: usize) -> usize
     ensures { result ≡ min used most_lanes }
 {
-    if Board::LANES < used {
-        return Board::LANES;
-    }
-    used
+    used.min(Board::LANES)
 }
 
 // The entry of an issuer in a cache of CACHE_LENGTH lane indices. Issuers of other segments or numbers may share it, so
@@ -30,23 +28,18 @@ pub fn cache_index(issuer: Issuer) -> usize
     (issuer.number % CACHE_LENGTH as u64) as usize
 }
 
-// Where to search an issuer's lane. If the guess is in use and `seen`, the lane there, is the issuer's, the search is
-// over: `from` and `to` are the guess. Else it goes over all lanes in use. The guess may be any number.
-pub fn search_range(issuer: Issuer, guess: usize, seen: Lane, used: usize) -> SearchRange
+// Where to search an issuer's lane: the indices to test. If the guess is in use and `seen`, the lane there, is the
+// issuer's, the search is over: no index is left, and the range ends at the guess. Else it goes over all lanes in use.
+// The guess may be any number.
+pub fn search_range(issuer: Issuer, guess: usize, seen: Lane, used: usize) -> Range<usize>
     ensures { result ≡ search_range_of issuer guess seen used }
 {
     if guess < used {
         if seen.is_of(issuer) {
-            return SearchRange {
-                from: guess,
-                to: guess,
-            };
+            return guess..guess;
         }
     }
-    SearchRange {
-        from: 0,
-        to: lanes_in_use(used),
-    }
+    0..lanes_in_use(used)
 }
 
 impl Board {
@@ -55,14 +48,11 @@ impl Board {
         ensures { result ≡ index_of issuer (lanes_of self) }
     {
         let end = lanes_in_use(self.used);
-        let mut i: usize = 0;
-        while i < end {
-            let lane = self.lanes[i];
-            if lane.is_of(issuer) {
+        for i in 0..end {
+            if self.lanes[i].is_of(issuer) {
                 return i;
             }
-            i += 1;
         }
-        i
+        end
     }
 }

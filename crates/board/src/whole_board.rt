@@ -1,10 +1,11 @@
 // A board by value: a fresh one, and one payment posted.
 ghost use Rattle.std.specs.Prelude.{◌≡◌};
+ghost use Rattle.answer.specs.Answers.{◌gives◌};
 ghost use Rattle.board.specs.Lanes.{lane_of_one};
-ghost use Rattle.board.specs.Boards.{fresh_board, post_result_of};
+ghost use Rattle.board.specs.Boards.{fresh_board, post_answer, board_with};
 
-use crate::{Board, Lane, PostResult, Slot, Tally};
-use answer::{Answer, Reason};
+use crate::{Board, Lane, Slot, Tally};
+use answer::{Reason, Refusal, require};
 use barcode::Issuer;
 
 impl Board {
@@ -12,36 +13,22 @@ impl Board {
     pub fn new() -> Self
         ensures { result ≡ fresh_board }
     {
-        let none = Tally {
-            payments: 0,
-            centavos: 0,
-            tariff: 0,
-        };
         Board {
-            lanes: [Lane {
-                issuer: Issuer {
-                    segment: 0,
-                    number: 0,
-                },
-                tally: none,
-            }; Self::LANES],
+            lanes: [Lane::default(); Self::LANES],
             used: 0,
-            total: none,
+            total: Tally::default(),
         }
     }
 
     // Posts one payment to its issuer's lane, a new one if it has none: the board with the payment, or 17 (a new issuer
-    // and no lane left) or 18 (a number of the lane or of the total would pass the limit) and the board as it was.
-    pub fn post(mut self, issuer: Issuer, centavos: u64, tariff: u64) -> PostResult
-        ensures { result ≡ post_result_of self (lane_of_one issuer centavos tariff) }
+    // and no lane left) or 18 (a number of the lane or of the total would pass the limit).
+    #[tactic(auto, unfolding(crate::specs::Boards::slot_answer))]
+    pub fn post(mut self, issuer: Issuer, centavos: u64, tariff: u64) -> Result<Board, Refusal>
+        ensures { result ≡ (post_answer self (lane_of_one issuer centavos tariff)
+            gives board_with self (lane_of_one issuer centavos tariff)) }
     {
         let at = self.lane_index(issuer);
-        if Self::LANES <= at {
-            return PostResult {
-                answer: Answer::Refused(Reason::BoardFull, answer::ISSUER_PLACE),
-                board: self,
-            };
-        }
+        require(at < Self::LANES, Reason::BoardFull, answer::ISSUER_PLACE)?;
         let lane = self.lanes[at];
         let total = self.total;
         let slot = Slot {
@@ -50,18 +37,10 @@ impl Board {
             used: self.used,
             total,
         };
-        let result = slot.post(Lane::of_payment(issuer, centavos, tariff));
-        // A refused payment stores what was there.
-        let after = result.slot;
-        let lane = after.lane;
-        let total = after.total;
-        self.lanes[at] = lane;
+        let after = slot.post(Lane::of_payment(issuer, centavos, tariff))?;
+        self.lanes[at] = after.lane;
         self.used = after.used;
-        self.total = total;
-        let answer = result.answer;
-        PostResult {
-            answer,
-            board: self,
-        }
+        self.total = after.total;
+        Ok(self)
     }
 }

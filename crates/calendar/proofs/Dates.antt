@@ -1,8 +1,10 @@
 -- Laws of dates and of the bytes that spell them. Assumes nothing.
+use Rattle.std.specs.Bool.{then_some}
+use Rattle.std.specs.Prelude.{None, Some}
 use Prim.Native.Nat.{ℕ, suc, ◌+◌, ◌-◌, ◌*◌, ◌^◌, ◌≤◌, ◌<◌}
 use mathlib.Core.Bool.{Bool, true, false, cond, ◌&&◌, and-eq-true_iff}
 use mathlib.Core.List.{List, [], ◌∷◌, ◌++◌}
-use mathlib.Core.Path.{◌≡◌, refl, sym}
+use mathlib.Core.Path.{◌∙◌, ◌≡◌, refl, sym}
 use native.Mathlib.Numerals.{add-one}
 use native.Mathlib.Omega.{arith}
 use borrow.Author.Tests.{eq-eqb, ne_eqb, le-leb, eqb-true, leb-true, leb-false}
@@ -18,7 +20,6 @@ use Rattle.decimal.proofs.Finite.{below, at}
 use Rattle.decimal.proofs.Numbers.{digit_range, value_digit, number_of_digits, digits_of_number, digits_fill}
 use Rattle.decimal.proofs.Places.{length_piece}
 use Rattle.calendar.specs.declared.Date.{Date}
-use Rattle.calendar.specs.declared.MaybeDate.TheVariants.{On, NoDate}
 use Rattle.calendar.specs.Dates.{is_leap, months, days_in, is_date, spelled, date_of, spelling, DateIsItsSpelling, SpellingIsItsDate}
 use Rattle.calendar.proofs.Months.{no_month}
 
@@ -47,13 +48,18 @@ four (a ∷ b ∷ []) h = absurd (omega arith)
 four (a ∷ []) h = absurd (omega arith)
 four [] h = absurd (omega arith)
 
+-- the library's `then_some` is a choice
+then_some_cond : (t : Bool) (d : Date) → then_some t d ≡ cond t (Some d) None
+then_some_cond true d = refl
+then_some_cond false d = refl
+
 -- The answers of a reader of dates, in its order.
 module _ (bs : List ℕ) where
-  pub no_eight : (length bs ≡ 8 → ⊥) → NoDate ≡ date_of bs
+  pub no_eight : (length bs ≡ 8 → ⊥) → None ≡ date_of bs
   unfolding date_of
   no_eight h = rw (ne_eqb (length bs) 8 h)
 
-  pub no_digits : length bs ≡ 8 → all (is_of Digit) bs ≡ false → NoDate ≡ date_of bs
+  pub no_digits : length bs ≡ 8 → all (is_of Digit) bs ≡ false → None ≡ date_of bs
   unfolding date_of
   no_digits n a = rw (eq-eqb (length bs) 8 n, a)
 
@@ -63,9 +69,9 @@ module _ (bs : List ℕ) where
   as_spelled n ec ey em ed = rw (ec, ey, em, ed, four bs (omega arith))
 
   pub judged : {d : Date} {t : Bool} → length bs ≡ 8 → all (is_of Digit) bs ≡ true → d ≡ spelled bs → t ≡ is_date d
-      → cond t (On d) NoDate ≡ date_of bs
+      → then_some t d ≡ date_of bs
   unfolding date_of
-  judged n a e f = rw (f, e, eq-eqb (length bs) 8 n, a)
+  judged {d} {t} n a e f = then_some_cond t d ∙ rw (f, e, eq-eqb (length bs) 8 n, a)
 
 -- Bytes that are a date are its spelling.
 
@@ -88,7 +94,7 @@ unfolding date_of
 date_is_its_spelling bs d e = go (eqb (length bs) 8 && (all (is_of Digit) bs && is_date (spelled bs))) refl e
   where
     go : (t : Bool) → (eqb (length bs) 8 && (all (is_of Digit) bs && is_date (spelled bs))) ≡ t
-        → cond t (On (spelled bs)) NoDate ≡ On d
+        → cond t (Some (spelled bs)) None ≡ Some d
         → (is_date d ≡ true) × (spelling d ≡ bs)
     go true h q =
         let s : spelled bs ≡ d = cc in

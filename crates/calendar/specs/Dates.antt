@@ -1,12 +1,10 @@
 -- Dates (SPEC.md, "Dates"): YYYYMMDD, Gregorian, years 1900 to 2199. Assumes nothing.
-use Rattle.std.specs.Prelude.{ℕ, ◌%◌, Bool, true, false, cond, not, ◌&&◌, ◌||◌, List, [], ◌∷◌, ◌++◌, ◌≡◌, eqb, length, get_or}
+use Rattle.std.specs.Prelude.{None, Option, Some, ℕ, ◌%◌, Bool, true, false, cond, not, ◌&&◌, ◌||◌, List, [], ◌∷◌, ◌++◌, ◌≡◌, eqb, length, get_or}
 use Rattle.decimal.specs.declared.Class.TheVariants.{Digit}
 use Rattle.decimal.specs.Bytes.{within, is_of, all}
 use Rattle.decimal.specs.Places.{places}
 use Rattle.decimal.specs.Numbers.{number_of, digits_of}
 use Rattle.calendar.specs.declared.Date.{Date}
-use Rattle.calendar.specs.declared.MaybeDate.{MaybeDate}
-use Rattle.calendar.specs.declared.MaybeDate.TheVariants.{On, NoDate}
 
 -- every fourth year, but of the years that end a century only every fourth
 unfoldable pub is_leap : ℕ → Bool
@@ -29,12 +27,12 @@ spelled bs =
     record { year = number_of (places 1 4 bs); month = number_of (places 5 6 bs); day = number_of (places 7 8 bs) }
 
 -- the date that eight digits spell; none of other bytes, and of digits that are no date
-unfoldable pub date_of : List ℕ → MaybeDate
-date_of bs = cond (eqb (length bs) 8 && (all (is_of Digit) bs && is_date (spelled bs))) (On (spelled bs)) NoDate
+unfoldable pub date_of : List ℕ → Option Date
+date_of bs = cond (eqb (length bs) 8 && (all (is_of Digit) bs && is_date (spelled bs))) (Some (spelled bs)) None
 
-abbrev pub is_found : MaybeDate → Bool
-is_found (On d) = true
-is_found NoDate = false
+abbrev pub is_found : Option Date → Bool
+is_found (Some d) = true
+is_found None = false
 
 -- a date's eight digits
 abbrev pub spelling : Date → List ℕ
@@ -43,7 +41,7 @@ spelling d = digits_of 4 d.year ++ (digits_of 2 d.month ++ digits_of 2 d.day)
 -- Promises: bytes that are a date are its spelling, and the spelling of a date is that date.
 
 abbrev pub DateIsItsSpelling : Type 0
-DateIsItsSpelling = (bs : List ℕ) (d : Date) → date_of bs ≡ On d → (is_date d ≡ true) × (spelling d ≡ bs)
+DateIsItsSpelling = (bs : List ℕ) (d : Date) → date_of bs ≡ Some d → (is_date d ≡ true) × (spelling d ≡ bs)
 
 abbrev pub SpellingIsItsDate : Type 0
-SpellingIsItsDate = (d : Date) → is_date d ≡ true → date_of (spelling d) ≡ On d
+SpellingIsItsDate = (d : Date) → is_date d ≡ true → date_of (spelling d) ≡ Some d

@@ -11,18 +11,11 @@ use decimal::Class;
 
 // Three numbers, of which `is_date` says whether they are a date.
 #[repr(C)]
-#[derive(Clone, Copy)]
+#[derive(Clone, Copy, Debug, Default, PartialEq, Eq)]
 pub struct Date {
     pub year: u64,
     pub month: u64,
     pub day: u64,
-}
-
-// What `read_date` finds.
-#[derive(Clone, Copy)]
-pub enum MaybeDate {
-    On(Date),
-    NoDate,
 }
 
 // Every fourth year, but of the years that end a century only every fourth.
@@ -91,25 +84,22 @@ fn pair(bytes: &[u8], at: usize) -> u64
 }
 
 // The date that eight digits spell; none where there are not eight bytes, one is no digit, or they are no date.
-pub fn read_date(bytes: &[u8]) -> MaybeDate
+#[tactic(auto, using(crate::proofs::Dates::no_eight, crate::proofs::Dates::no_digits))]
+pub fn read_date(bytes: &[u8]) -> Option<Date>
     ensures { result ≡ date_of bytes.now }
 {
     if bytes.len() != 8 {
-        return MaybeDate::NoDate;
+        return None;
     }
     if !decimal::all_of(Class::Digit, bytes) {
-        return MaybeDate::NoDate;
+        return None;
     }
     let date = Date {
         year: 100 * pair(bytes, 0) + pair(bytes, 2),
         month: pair(bytes, 4),
         day: pair(bytes, 6),
     };
-    if is_date(date) {
-        MaybeDate::On(date)
-    } else {
-        MaybeDate::NoDate
-    }
+    is_date(date).then_some(date)
 }
 
 // The fast path of `is_date_text`: true only for a day that is a date in every year of its century, so that the year
@@ -144,6 +134,7 @@ fn is_date_in_any_year(century: u64, month: u64, day: u64) -> bool
 }
 
 // Whether the bytes are eight digits that spell a date: `read_date` finds one. False for any other number of bytes.
+#[tactic(auto, using(crate::proofs::Dates::no_eight, crate::proofs::Dates::no_digits, crate::proofs::AnyYear::any_year_date))]
 pub fn is_date_text(bytes: &[u8]) -> bool
     ensures { result ≡ is_found (date_of bytes.now) }
 {
@@ -156,8 +147,5 @@ pub fn is_date_text(bytes: &[u8]) -> bool
     if is_date_in_any_year(pair(bytes, 0), pair(bytes, 4), pair(bytes, 6)) {
         return true;
     }
-    match read_date(bytes) {
-        MaybeDate::On(_) => true,
-        MaybeDate::NoDate => false,
-    }
+    read_date(bytes).is_some()
 }

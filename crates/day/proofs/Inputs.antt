@@ -1,5 +1,6 @@
 -- Buffers, run up to the first refusal, each behind what was left before it, print the page of the input. Assumes
 -- nothing.
+use Rattle.std.specs.Prelude.{Err}
 use Prim.Native.Nat.{ℕ, ◌≤◌}
 use mathlib.Core.Bool.{Bool, true, false}
 use mathlib.Core.List.{List, [], ◌∷◌, ◌++◌, append_assoc}
@@ -7,8 +8,7 @@ use mathlib.Core.Path.{◌≡◌, refl, sym, ap, ◌∙◌}
 use native.Mathlib.Omega.{arith}
 use lib.ListN.{length, take, drop, length-take}
 use lib.Seq.{drop-append-le, drop-drop}
-use Rattle.answer.specs.declared.Answer.{Answer}
-use Rattle.answer.specs.declared.Answer.TheVariants.{Accepted, Refused}
+use Rattle.answer.specs.Answers.{Answer, Accepted}
 use Rattle.answer.proofs.Orders.{not_both}
 use Rattle.barcode.proofs.Lists.{empty_is_right}
 use Rattle.session.specs.declared.Session.{Session}
@@ -79,7 +79,7 @@ module _ (day : RunResult) (left b : List ℕ) (bs : List (List ℕ)) (last : Li
   until_buffer Accepted e on =
       let goes : run_until_refused day left (b ∷ bs) last ≡ run_until_refused next next_left bs last = rw e in
       goes ∙ on ∙ accepted_then day false (left ++ b) rest e
-  until_buffer (Refused why place) e on =
+  until_buffer (Err refusal) e on =
       let stops : run_until_refused day left (b ∷ bs) last ≡ next = rw e in
       stops ∙ refused_then day false (left ++ b) rest (not_both next.answer e)
 

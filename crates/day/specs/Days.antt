@@ -1,7 +1,7 @@
 -- A day (SPEC.md, "The program quadro"): the run over the input, buffer by buffer, under the empty list of agreed
 -- issuers, and its end. Assumes nothing.
 use Rattle.std.specs.Prelude.{ℕ, Bool, true, List, [], drop}
-use Rattle.answer.specs.declared.Answer.TheVariants.{Accepted}
+use Rattle.answer.specs.Answers.{Accepted}
 use Rattle.answer.specs.Orders.{◌then◌}
 use Rattle.session.specs.declared.Session.{Session}
 use Rattle.session.specs.declared.RunResult.{RunResult}

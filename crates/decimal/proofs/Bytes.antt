@@ -1,7 +1,7 @@
 -- Laws of a part whose bytes must pass a test. They hold for every test. Assumes nothing.
 use Prim.Native.Nat.{ℕ, zero, suc, ◌+◌, ◌-◌, ◌<◌, ◌≤◌}
-use mathlib.Core.Bool.{Bool, true, false, cond, ◌&&◌, and-eq-true_iff, and_assoc, and-true, and-false}
-use mathlib.Core.List.{List, [], ◌∷◌}
+use mathlib.Core.Bool.{Bool, true, false, cond, ◌&&◌, and-eq-true_iff, and_assoc, and-false}
+use mathlib.Core.List.{List, [], ◌∷◌, ◌++◌, append_assoc}
 use mathlib.Core.Path.{◌≡◌, refl, sym, ap, ◌∙◌}
 use native.Mathlib.Nat.{add-suc, suc-add, add-zero}
 use native.Mathlib.Numerals.{add-one}
@@ -9,11 +9,9 @@ use native.Mathlib.Omega.{arith}
 use borrow.Author.Tests.{leb-true, ne_eqb}
 use lib.Bits.{bit_or, or_zero_r, or_add_and, and_le_l}
 use lib.Dec.{leb, eqb}
-use lib.ListN.{length, get_or, set, take, drop, length-drop, drop_of_length-le, take-append-drop}
-use lib.Seq.{drop-cons, take_all, take-take, take-add}
+use lib.ListN.{length, get_or, set, take, drop, length-drop, take-append-drop, length-append}
+use lib.Seq.{drop-cons, take_all, take-take, take-add, length-take-le, take-append_seam}
 use Rattle.answer.specs.declared.Reason.{Reason}
-use Rattle.answer.specs.declared.Answer.{Answer}
-use Rattle.answer.specs.declared.Answer.TheVariants.{Accepted, Refused}
 use Rattle.answer.specs.Refusals.{reason_number, answer_number, answer_place}
 use Rattle.answer.specs.Orders.{require, moved_by}
 use Rattle.answer.proofs.Orders.{require_accepts, then_accepts, moved_then, require_place, then_place, require_number, then_number}
@@ -87,19 +85,6 @@ each_number n ok why p [] h = omega arith
 each_number n ok why p (b ∷ bs) h =
     then_number n (require (ok b) why p) (each_is ok why (suc p) bs) (require_number n (ok b) why p h) (each_number n ok why (suc p) bs h)
 
--- A loop at byte i, by what is known of the bytes from i on: the byte passes, it fails, there is none.
-module _ (ok : ℕ → Bool) (why : Reason) (bs : List ℕ) (i : ℕ) where
-  pub later : {r : Answer} → i < length bs → ok (get_or bs i 0) ≡ true → each_is ok why (i + 1) (drop i bs) ≡ r
-      → each_is ok why (i + 1 + 1) (drop (i + 1) bs) ≡ r
-  later h e q = rw (add-one (i + 1), add-one) (rw (add-one, drop-cons bs i 0 h, e) at q)
-
-  pub here : {r : Answer} → i < length bs → ok (get_or bs i 0) ≡ false → each_is ok why (i + 1) (drop i bs) ≡ r
-      → Refused why (i + 1) ≡ r
-  here h e q = rw (drop-cons bs i 0 h, e) at q
-
-  pub none : {r : Answer} → length bs ≤ i → each_is ok why (i + 1) (drop i bs) ≡ r → Accepted ≡ r
-  none h q = rw (drop_of_length-le bs h) at q
-
 -- The flag of a loop over all bytes: 0 as long as none failed.
 or_one : (n : ℕ) → eqb (bit_or n 1) 0 ≡ false
 or_one n = ne_eqb _ _ (λ (e : bit_or n 1 ≡ 0). omega (arith, or_add_and n 1, and_le_l n 1))
@@ -115,14 +100,10 @@ two_flags true false = refl
 two_flags false true = refl
 two_flags false false = refl
 
-module _ (ok : ℕ → Bool) (bs : List ℕ) (i n : ℕ) where
-  pub flag_step : {f : ℕ} {r : Bool} → i < length bs → f ≡ cond (ok (get_or bs i 0)) 0 1
-      → (eqb n 0 && all ok (drop i bs)) ≡ r
-      → (eqb (bit_or n f) 0 && all ok (drop (i + 1) bs)) ≡ r
-  flag_step h e q = rw (e, add-one, flag_on (ok (get_or bs i 0)) n (all ok (drop (suc i) bs))) (rw (drop-cons bs i 0 h) at q)
-
-  pub flag_end : {r : Bool} → length bs ≤ i → (eqb n 0 && all ok (drop i bs)) ≡ r → eqb n 0 ≡ r
-  flag_end h q = rw (drop_of_length-le bs h, and-true) at q
+pub flag_step : (ok : ℕ → Bool) (bs : List ℕ) (i n : ℕ) {f : ℕ} {r : Bool} → i < length bs
+    → f ≡ cond (ok (get_or bs i 0)) 0 1 → (eqb n 0 && all ok (drop i bs)) ≡ r
+    → (eqb (bit_or n f) 0 && all ok (drop (i + 1) bs)) ≡ r
+flag_step ok bs i n h e q = rw (e, add-one, flag_on (ok (get_or bs i 0)) n (all ok (drop (suc i) bs))) (rw (drop-cons bs i 0 h) at q)
 
 -- A part checked in rows: the bytes before i have passed, and the last row may start before i.
 module _ (ok : ℕ → Bool) (bs : List ℕ) (i : ℕ) where
@@ -144,3 +125,32 @@ module _ (ok : ℕ → Bool) (bs : List ℕ) (i : ℕ) where
       let front : all ok (take s bs) ≡ true = ap (all ok) (sym (take-take s i bs k)) ∙ all_of_part ok 0 s (take i bs) p in
       let whole : take (length bs - s) (drop s bs) ≡ drop s bs = take_all (length bs - s) (drop s bs) (omega (arith, length-drop s bs)) in
       e ∙ ap (all ok) whole ∙ sym (rw front at (sym (ap (all ok) (take-append-drop s bs)) ∙ all_joins ok (take s bs) (drop s bs)))
+
+-- Rows taken off a list: those before the rest have passed. The last row covers a rest that fills no row of its size.
+pub record RowsPassed (ok : ℕ → Bool) (xs rest : List ℕ) : Type 0 where
+  pub front : List ℕ
+  pub whole : front ++ rest ≡ xs
+  pub passed : all ok front ≡ true
+
+module _ (ok : ℕ → Bool) (bs : List ℕ) (n : ℕ) {rest : List ℕ} (h : RowsPassed ok (take n bs) rest) where
+  module _ (row next : List ℕ) {t : Bool} (e : rest ≡ row ++ next) (a : t ≡ all ok row) where
+    pub one_more_passed : t ≡ true → RowsPassed ok (take n bs) next
+    one_more_passed f = record {
+      front = h.front ++ row;
+      whole = append_assoc h.front row next ∙ (rw e at h.whole);
+      passed = rw (all_joins ok h.front row, h.passed) (sym a ∙ f);
+    }
+
+    pub one_failed : t ≡ false → false ≡ all ok bs
+    one_failed f =
+        let joined : all ok (take n bs) ≡ (all ok row && all ok next) =
+        ap (all ok) (rw e at (sym h.whole)) ∙ rw (all_joins ok h.front (row ++ next), h.passed) (all_joins ok row next) in
+        row_fails ok bs 0 n refl (joined ∙ rw (sym a ∙ f))
+
+  pub rest_covered : (w : ℕ) {t : Bool} → length rest < w → n + 1 ≡ length bs → w ≤ length bs
+      → t ≡ all ok (take (length bs - (length bs - w)) (drop (length bs - w) bs)) → t ≡ all ok bs
+  rest_covered w few whole long e =
+      let i = length h.front in
+      let l : i + length rest ≡ n = sym (length-append h.front rest) ∙ ap length h.whole ∙ length-take-le n bs (omega arith) in
+      let same : take i bs ≡ h.front = sym (take-take i n bs (omega arith)) ∙ ap (take i) (sym h.whole) ∙ take-append_seam h.front rest in
+      last_row ok bs i w long (omega arith) (ap (all ok) same ∙ h.passed) e

@@ -1,17 +1,18 @@
 -- Laws of digits and numbers. Assumes nothing.
 use Prim.Native.Nat.{ℕ, zero, suc, ◌+◌, ◌-◌, ◌*◌, ◌/◌, ◌%◌, ◌^◌, ◌<◌, ◌≤◌}
 use mathlib.Core.Bool.{Bool, true, false, cond, ◌&&◌, and-eq-true_iff, and-true}
-use mathlib.Core.List.{List, [], ◌∷◌, ◌++◌, append_assoc, append-nil}
+use mathlib.Core.List.{List, [], ◌∷◌, ◌++◌, append_assoc}
 use mathlib.Core.Path.{◌≡◌, refl, ap, sym, ◌∙◌, subst}
 use native.Mathlib.Omega.{arith}
 use native.Mathlib.Numerals.{add-one}
 use native.Mathlib.Nat.{le_refl, le_trans, lt_of_lt_of_le, not-suc-le-zero, pow-suc, pow-succ', pow-le-pow_right, mul-le-mul_right, mul_assoc, min-le_right, one-le-pow}
-use borrow.Author.Tests.{leb-true, leb-false, le-leb, lt-leb, lt-ltb, le-ltb, ltb-true, ltb-false, eqb-true, eqb-false}
-use lib.Dec.{lit<, leb, ltb, eqb}
-use lib.ListN.{length, take, drop, get_or, set, length-append, length-set, drop_of_length-le}
-use lib.Seq.{take_all, take-suc, length-take-le, drop-length, drop-cons, get_or-set_same, drop-set-lt}
+use borrow.Author.Tests.{leb-true, leb-false, le-leb, lt-ltb, le-ltb, ltb-true, ltb-false}
+use lib.Dec.{lit<, leb, ltb}
+use lib.ListN.{length, take, drop, get_or, set, length-append}
+use lib.Seq.{take_all, take-suc, length-take-le, drop-cons}
+use Rattle.std.proofs.lemmas.List.{drop-set}
 use Rattle.answer.specs.declared.Reason.TheVariants.{WrongLength, TooWide}
-use Rattle.answer.specs.declared.Answer.{Answer}
+use Rattle.answer.specs.Answers.{Answer}
 use Rattle.answer.specs.Orders.{if_accepted}
 use Rattle.answer.proofs.Orders.{require_accepts}
 use Rattle.answer.proofs.Steps.{passed}
@@ -91,16 +92,13 @@ capped_on n bs = go (leb n largest_number) refl
         let b : n ≤ number_from n bs = from_grows n bs in
         rw m (capped_large (number_from largest_number bs) a ∙ sym (capped_large (number_from n bs) (omega arith)))
 
--- A turn of the loop that reads, and its end.
-module _ (bs : List ℕ) (i n : ℕ) where
-  pub read_step : {m v r : ℕ} → i < length bs → v ≡ value_of (get_or bs i 0) → m ≡ capped (n * 10 + v)
-      → capped (number_from n (drop i bs)) ≡ r
-      → (m ≤ largest_number) × (capped (number_from m (drop (i + 1) bs)) ≡ r)
-  read_step {m} {v} h e f q =
-      rw (f, e, add-one) (min-le_right (n * 10 + value_of (get_or bs i 0)) largest_number, capped_on (n * 10 + value_of (get_or bs i 0)) (drop (suc i) bs) ∙ (rw (drop-cons bs i 0 h) at q))
-
-  pub read_end : {r : ℕ} → length bs ≤ i → n ≤ largest_number → capped (number_from n (drop i bs)) ≡ r → n ≡ r
-  read_end h l q = sym (capped_small n l) ∙ (rw (drop_of_length-le bs h) at q)
+-- A turn of the loop that reads.
+pub read_step : (bs : List ℕ) (i n : ℕ) {m v r : ℕ} → i < length bs → v ≡ value_of (get_or bs i 0)
+    → m ≡ capped (n * 10 + v) → capped (number_from n (drop i bs)) ≡ r
+    → (m ≤ largest_number) × (capped (number_from m (drop (i + 1) bs)) ≡ r)
+read_step bs i n h e f q =
+    let next = n * 10 + value_of (get_or bs i 0) in
+    rw (f, e, add-one) (min-le_right next largest_number, capped_on next (drop (suc i) bs) ∙ (rw (drop-cons bs i 0 h) at q))
 
 -- Numbers read by low halves.
 
@@ -130,64 +128,37 @@ low_below n (b ∷ bs) =
     let m : (3 * (n * 10 + b % 16) + 5) * 10 ^ length bs ≤ (3 * n + 5) * 10 * 10 ^ length bs = mul-le-mul_right (10 ^ length bs) v in
     rw (pow-succ' 10 (length bs), ← mul_assoc (3 * n + 5) 10 (10 ^ length bs)) (le_trans ih m)
 
-module _ (bs : List ℕ) (i n : ℕ) where
-  pub low_step : i < length bs → low_from n (drop i bs) ≡ low_from 0 bs
-      → low_from (n * 10 + get_or bs i 0 % 16) (drop (i + 1) bs) ≡ low_from 0 bs
-  low_step h q = rw add-one (rw (drop-cons bs i 0 h) at q)
+pub low_fit : (bs : List ℕ) (i n : ℕ) → length bs ≤ 19 → i < length bs → low_from n (drop i bs) ≡ low_from 0 bs
+    → n * 10 + get_or bs i 0 % 16 ≤ largest_number
+low_fit bs i n l h q =
+    let p : 10 ^ length bs ≤ 10 ^ 19 = pow-le-pow_right (lit< tt) l in
+    let next : low_from (n * 10 + get_or bs i 0 % 16) (drop (suc i) bs) ≡ low_from 0 bs = rw (drop-cons bs i 0 h) at q in
+    omega (arith, low_below 0 bs, next, low_grows (n * 10 + get_or bs i 0 % 16) (drop (suc i) bs))
 
-  pub low_fit : length bs ≤ 19 → i < length bs → low_from n (drop i bs) ≡ low_from 0 bs
-      → n * 10 + get_or bs i 0 % 16 ≤ largest_number
-  low_fit l h q =
-      let p : 10 ^ length bs ≤ 10 ^ 19 = pow-le-pow_right (lit< tt) l in
-      omega (arith, low_below 0 bs, low_step h q, low_grows (n * 10 + get_or bs i 0 % 16) (drop (i + 1) bs))
+-- The loop that counts a number's digits: the number has none left, or it has more.
+pub width_zero : (n k : ℕ) {r : Bool} → n ≡ 0 → ltb n (10 ^ k) ≡ r → true ≡ r
+width_zero n k e q = sym (lt-ltb n (10 ^ k) (omega (arith, one-le-pow k 10 (lit< tt)))) ∙ q
 
-  pub low_end : length bs ≤ 19 → length bs ≤ i → low_from n (drop i bs) ≡ low_from 0 bs → n ≡ low_number_of bs
-  unfolding low_number_of
-  low_end l h q = rw (le-leb (length bs) 19 l) (rw (drop_of_length-le bs h) at q)
-
-pub low_long : (bs : List ℕ) → 19 < length bs → 0 ≡ low_number_of bs
-unfolding low_number_of
-low_long bs h = rw (lt-leb (length bs) 19 h)
-
--- The loop that counts a number's digits: the number has none left, it has more, no place is left.
-module _ (n k : ℕ) where
-  pub width_zero : {r : Bool} → n ≡ 0 → ltb n (10 ^ k) ≡ r → true ≡ r
-  width_zero e q = sym (lt-ltb n (10 ^ k) (omega (arith, one-le-pow k 10 (lit< tt)))) ∙ q
-
-  pub width_step : {r : Bool} → 0 < k → ltb n (10 ^ k) ≡ r → ltb (n / 10) (10 ^ (k - 1)) ≡ r
-  width_step h q =
-      let e : k ≡ suc (k - 1) = omega arith in
-      let p : 10 ^ k ≡ 10 ^ (k - 1) * 10 = ap (λ (x : ℕ). 10 ^ x) e ∙ pow-suc 10 (k - 1) in
-      go (ltb n (10 ^ k)) refl p ∙ q
-    where
-      go : (t : Bool) → ltb n (10 ^ k) ≡ t → 10 ^ k ≡ 10 ^ (k - 1) * 10 → ltb (n / 10) (10 ^ (k - 1)) ≡ ltb n (10 ^ k)
-      go true e p = rw e (lt-ltb (n / 10) (10 ^ (k - 1)) (omega (arith, ltb-true n (10 ^ k) e)))
-      go false e p = rw e (le-ltb (n / 10) (10 ^ (k - 1)) (omega (arith, ltb-false n (10 ^ k) e)))
-
-  pub width_end : {r : Bool} → k ≤ 0 → ltb n (10 ^ k) ≡ r → eqb n 0 ≡ r
-  width_end h q = let e : k ≡ 0 = omega arith in go (eqb n 0) refl ∙ (rw e at q)
-    where
-      go : (t : Bool) → eqb n 0 ≡ t → eqb n 0 ≡ ltb n 1
-      go true e = rw e (sym (lt-ltb n 1 (omega (arith, eqb-true n 0 e))))
-      go false e = rw e (sym (le-ltb n 1 (omega (arith, eqb-false n 0 e))))
+pub width_step : (n w i : ℕ) {r : Bool} → i < w → ltb n (10 ^ (w - i)) ≡ r → ltb (n / 10) (10 ^ (w - (i + 1))) ≡ r
+width_step n w i h q =
+    let k = w - (i + 1) in
+    let e : w - i ≡ suc k = omega arith in
+    go (10 ^ k) (10 ^ (w - i)) (ap (λ (x : ℕ). 10 ^ x) e ∙ pow-suc 10 k) (ltb n (10 ^ (w - i))) refl ∙ q
+  where
+    go : (a b : ℕ) → b ≡ a * 10 → (t : Bool) → ltb n b ≡ t → ltb (n / 10) a ≡ ltb n b
+    go a b p true e = rw e (lt-ltb (n / 10) a (omega (arith, ltb-true n b e)))
+    go a b p false e = rw e (le-ltb (n / 10) a (omega (arith, ltb-false n b e)))
 
 -- Numbers written.
 
-drop_set : (out : List ℕ) (j x : ℕ) → j < length out → drop j (set out j x) ≡ x ∷ drop (suc j) out
-drop_set out j x h =
-    rw (drop-cons (set out j x) j 0 (rw length-set h), get_or-set_same out j x 0 h, drop-set-lt (suc j) out j x (le_refl (suc j)))
-
 -- The loop that writes from the right: what is still to be written, then what is written.
-pub write_start : (out : List ℕ) (n : ℕ) → digits_of (length out) n ++ drop (length out) out ≡ digits_of (length out) n
-write_start out n = rw drop-length (append-nil (digits_of (length out) n))
-
 pub write_step : (out : List ℕ) (i n : ℕ) → 0 < i → i ≤ length out
     → digits_of (i - 1) (n / 10) ++ drop (i - 1) (set out (i - 1) (48 + n % 10)) ≡ digits_of i n ++ drop i out
 unfolding digits_of
 write_step out zero n h k = absurd (not-suc-le-zero h)
 write_step out (suc j) n h k =
     let e : suc j - 1 ≡ j = omega arith in
-    rw (e, drop_set out j (48 + n % 10) k, append_assoc)
+    rw (e, drop-set out j (48 + n % 10) k, add-one, append_assoc)
 
 pub write_end : (out : List ℕ) (i n : ℕ) {l : List ℕ} → i ≤ 0 → digits_of i n ++ drop i out ≡ l → out ≡ l
 unfolding digits_of

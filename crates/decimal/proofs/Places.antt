@@ -1,16 +1,16 @@
 -- Laws of pieces of a list. Assumes nothing.
-use Prim.Native.Nat.{ℕ, zero, suc, ◌+◌, ◌-◌, ◌≤◌, ◌<◌}
+use Prim.Native.Nat.{ℕ, ◌+◌, ◌-◌, ◌≤◌, ◌<◌}
 use mathlib.Core.Bool.{Bool, true, false}
 use mathlib.Core.List.{List, [], ◌∷◌, ◌++◌, append_assoc, append-nil}
 use mathlib.Core.Logic.{inl, inr, ⊎_elim}
 use mathlib.Core.Path.{◌≡◌, refl, ap, sym, ◌∙◌}
-use native.Mathlib.Nat.{not-suc-le-zero, le_of_suc-le-suc}
 use native.Mathlib.Omega.{arith}
 use borrow.Author.Tests.{le-leb, lt-leb, leb-true, leb-false}
 use borrow.Rule.Slice.PartMut.{put_mid}
 use lib.Dec.{leb}
 use lib.ListN.{length, get_or, set, take, drop, length-append, length-drop, drop_of_length-le, get_or-append}
-use lib.Seq.{length-take-le, take-set-lt, take-set-le, drop-set-lt, drop-set-add, set-append_left, get_or-take, get_or-drop, get_or-append-add, take-append_seam, drop-append-add, drop-drop, take_all, take-take}
+use lib.Seq.{length-take-le, take-set-lt, take-set-le, drop-set-lt, drop-set-add, set-append_left, get_or-take, get_or-drop, get_or-append_right, take-append_seam, drop-append-add, drop-drop, take-take}
+use Rattle.std.proofs.lemmas.List.{drop-take, set-append_right}
 use Rattle.answer.proofs.Tests.{lt_or_le}
 use Rattle.decimal.specs.Bytes.{all}
 use Rattle.decimal.specs.OneByte.{Beside, GatherOutside, GatherWithin}
@@ -25,17 +25,10 @@ joins p q = cc
 pub length_piece : (from count : ℕ) (l : List ℕ) → from + count ≤ length l → length (take count (drop from l)) ≡ count
 length_piece from count l h = length-take-le count (drop from l) (omega (arith, length-drop from l))
 
-drop_take : (m w : ℕ) (l : List ℕ) → m ≤ w → drop m (take w l) ≡ take (w - m) (drop m l)
-drop_take zero w l h = let e : w - 0 ≡ w = omega arith in rw e
-drop_take (suc m) zero l h = absurd (not-suc-le-zero h)
-drop_take (suc m) (suc w) [] h = sym (take_all (suc w - suc m) [] (omega arith))
-drop_take (suc m) (suc w) (x ∷ l) h =
-    let e : suc w - suc m ≡ w - m = omega arith in
-    rw e (drop_take m w l (le_of_suc-le-suc h))
-
 pub part_of_part : (l : List ℕ) (a w m n : ℕ) → m + n ≤ w → take n (drop m (take w (drop a l))) ≡ take n (drop (a + m) l)
 part_of_part l a w m n h =
-    rw (drop_take m w (drop a l) (omega arith), drop-drop m a l) (take-take n (w - m) (drop (a + m) l) (omega arith))
+    let e : m + (w - m) ≡ w = omega arith in
+    rw (rw e at (drop-take m (w - m) (drop a l)), drop-drop m a l) (take-take n (w - m) (drop (a + m) l) (omega arith))
 
 -- a test that every byte of a piece passes, within the piece, and over two pieces side by side
 pub all_inner : (ok : ℕ → Bool) (l : List ℕ) (a w m n : ℕ) → m + n ≤ w → all ok (take w (drop a l)) ≡ true
@@ -73,16 +66,6 @@ pub gather_outside : GatherOutside
 gather_outside [] l i d o = refl
 gather_outside (s ∷ plan) l i d o = cc (part_beside s l i d o.0, gather_outside plan l i d o.1)
 
-set_right : (a b : List ℕ) (j d : ℕ) → length a ≤ j → set (a ++ b) j d ≡ a ++ set b (j - length a) d
-set_right [] b j d h = let z : j - 0 ≡ j = omega arith in rw z
-set_right (x ∷ a) b zero d h = absurd (omega arith)
-set_right (x ∷ a) b (suc j) d h =
-    let z : suc j - suc (length a) ≡ j - length a = omega arith in
-    rw z (ap (λ (t : List ℕ). x ∷ t) (set_right a b j d (omega arith)))
-
-get_d_right : (a b : List ℕ) (j : ℕ) → length a ≤ j → get_or (a ++ b) j 0 ≡ get_or b (j - length a) 0
-get_d_right a b j h = let e : length a + (j - length a) ≡ j = omega arith in cc (get_or-append-add a b (j - length a) 0)
-
 pub part_byte : (s : Stretch) (l : List ℕ) (i : ℕ) → 1 ≤ s.first → s.first ≤ i + 1 → i < s.last
     → get_or (part_at s l) (i + 1 - s.first) 0 ≡ get_or l i 0
 part_byte s l i o p q =
@@ -105,8 +88,8 @@ gather_within (s ∷ plan) l i j d n (inr w) =
     let z = length_part s l n.0 n.1 n.2 in
     let ih = gather_within plan l i (j - width_of s) d n.3 w.2 in
     let le : length (part_at s l) ≤ j = omega (arith, w.1) in (
-      cc (part_beside s l i d w.0, ih.0, set_right (part_at s l) (gather plan l) j d le),
-      cc (ih.1, get_d_right (part_at s l) (gather plan l) j le),
+      cc (part_beside s l i d w.0, ih.0, set-append_right (part_at s l) (gather plan l) (length (part_at s l)) j d refl le),
+      cc (ih.1, get_or-append_right (part_at s l) (gather plan l) j 0 le),
       omega (arith, ih.2, length-append (part_at s l) (gather plan l)),
     )
 
@@ -158,14 +141,7 @@ put_middle at piece l {n} {q} e h f =
     let k : at + n - at ≡ length piece = omega arith in
     rw (k, f, drop-drop (length piece) at l) (sym (put_fits at piece l (omega arith)))
 
--- The test of room: as it is computed, and the fact that it tells.
-pub room_left : (at w size : ℕ) → w ≤ size → leb at (size - w) ≡ leb (at + w) size
-room_left at w size h = go (leb at (size - w)) refl
-  where
-    go : (t : Bool) → leb at (size - w) ≡ t → leb at (size - w) ≡ leb (at + w) size
-    go true e = e ∙ sym (le-leb (at + w) size (omega (arith, leb-true at (size - w) e)))
-    go false e = e ∙ sym (lt-leb (at + w) size (omega (arith, leb-false at (size - w) e)))
-
+-- What the test of room tells.
 module _ {t : Bool} {end size : ℕ} (e : t ≡ leb end size) where
   pub room : t ≡ true → end ≤ size
   room h = leb-true end size (sym e ∙ h)

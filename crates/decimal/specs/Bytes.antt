@@ -1,8 +1,7 @@
 -- The classes of bytes, and a part whose bytes must be of a class. Assumes nothing.
 use Rattle.std.specs.Prelude.{ℕ, suc, ◌+◌, ◌<◌, Bool, true, false, ◌&&◌, ◌||◌, List, [], ◌∷◌, ◌++◌, ◌↔◌, ◌≡◌, leb, eqb, length, get_or, take, drop}
 use Rattle.answer.specs.declared.Reason.{Reason}
-use Rattle.answer.specs.declared.Answer.{Answer}
-use Rattle.answer.specs.declared.Answer.TheVariants.{Accepted, Refused}
+use Rattle.answer.specs.Answers.{Answer, Accepted, Refused}
 use Rattle.answer.specs.Orders.{require, ◌then◌, moved_by}
 use Rattle.decimal.specs.declared.Class.{Class}
 use Rattle.decimal.specs.declared.Class.TheVariants.{Digit, Blank, Text}

@@ -8,10 +8,10 @@ ghost use Rattle.decimal.specs.Places.{put_at};
 ghost use Rattle.decimal.specs.Numbers.{value_of, number_of, digits_of, capped, put_number_answer};
 ghost use Rattle.decimal.specs.LowHalves.{low_number_of};
 
-use answer::{Answer, Reason};
+use answer::{Answer, Reason, Refusal, require};
 
 // What a byte has to be.
-#[derive(Clone, Copy)]
+#[derive(Clone, Copy, Debug, PartialEq, Eq)]
 pub enum Class {
     Digit,
     Blank,
@@ -22,25 +22,27 @@ pub enum Class {
 pub fn in_range(lo: u8, hi: u8, b: u8) -> bool
     ensures { result ≡ within lo hi b }
 {
-    lo <= b && b <= hi
+    (lo..=hi).contains(&b)
 }
 
 // Whether a byte is of the class: a digit is 48 to 57, a blank 32, text 32 to 126 or 160 to 255.
+#[tactic(auto, unfolding(crate::specs::Bytes::is_of))]
 pub fn is_of(class: Class, b: u8) -> bool
     ensures { result ≡ is_of class b }
 {
     match class {
-        Class::Digit => in_range(48, 57, b),
-        Class::Blank => b == 32,
+        Class::Digit => b.is_ascii_digit(),
+        Class::Blank => b == b' ',
         Class::Text => in_range(32, 126, b) || in_range(160, 255, b),
     }
 }
 
-// 0 for a byte of the class, else 1: a loop joins them with `|`, without a branch.
+// 0 for a byte of the class, else 1: a loop joins them with `|`, without a branch. A number and no bool: it is promised
+// as one (`OneOutcome`).
 pub fn class_error_bit(class: Class, b: u8) -> u8
     ensures { result ≡ cond (is_of class b) 0 1 }
 {
-    if is_of(class, b) { 0 } else { 1 }
+    u8::from(!is_of(class, b))
 }
 
 // Whether every byte is of the class; true of no bytes. One flag over all bytes and no early exit, so the loop
@@ -49,16 +51,15 @@ pub fn all_of(class: Class, part: &[u8]) -> bool
     ensures { result ≡ all (is_of class) part.now }
 {
     let mut flags: u8 = 0;
-    let mut i = 0;
-    while i < part.len() {
-        flags = flags | class_error_bit(class, part[i]);
-        i += 1;
+    for &b in part {
+        flags |= class_error_bit(class, b);
     }
     flags == 0
 }
 
 // Whether all are digits, in rows of a known length, which vectorize. The last row ends at the last byte and may
-// overlap the one before it, so that no byte is checked alone.
+// overlap the one before it, so that no byte is checked alone. The rows before it leave the last byte out, so that none
+// of them is the last row too.
 fn digit_rows(part: &[u8]) -> bool
     ensures { result ≡ all (is_of Class.Digit) part.now }
 {
@@ -67,19 +68,14 @@ fn digit_rows(part: &[u8]) -> bool
         return all_of(Class::Digit, part);
     }
     if n < 16 {
-        if !all_of(Class::Digit, &part[0..8]) {
+        return all_of(Class::Digit, &part[..8]) && all_of(Class::Digit, &part[n - 8..]);
+    }
+    for row in part[..n - 1].chunks_exact(16) {
+        if !all_of(Class::Digit, row) {
             return false;
         }
-        return all_of(Class::Digit, &part[n - 8..n]);
     }
-    let mut i = 0;
-    while i < n - 16 {
-        if !all_of(Class::Digit, &part[i..i + 16]) {
-            return false;
-        }
-        i += 16;
-    }
-    all_of(Class::Digit, &part[n - 16..n])
+    all_of(Class::Digit, &part[n - 16..])
 }
 
 // Digits in rows, since every typed line is checked for them; the other classes are checked seldom.
@@ -97,14 +93,12 @@ fn rows_of(class: Class, part: &[u8]) -> bool
 fn search(class: Class, why: Reason, part: &[u8]) -> Answer
     ensures { result ≡ each_is (is_of class) why 1 part.now }
 {
-    let mut i = 0;
-    while i < part.len() {
-        if !is_of(class, part[i]) {
-            return Answer::Refused(why, i + 1);
+    for (i, &b) in part.iter().enumerate() {
+        if !is_of(class, b) {
+            return Err(Refusal { why, place: i + 1 });
         }
-        i += 1;
     }
-    Answer::Accepted
+    Ok(())
 }
 
 // Refused for `why` at the first byte that is not of the class, with its place in the part; accepted where there is
@@ -113,12 +107,13 @@ pub fn require_class(class: Class, why: Reason, part: &[u8]) -> Answer
     ensures { result ≡ each_is (is_of class) why 1 part.now }
 {
     if rows_of(class, part) {
-        return Answer::Accepted;
+        return Ok(());
     }
     search(class, why, part)
 }
 
 // The value of a digit, 0 to 9; 0 for any other byte.
+#[tactic(auto, unfolding(crate::specs::Numbers::value_of, crate::specs::Bytes::is_of))]
 pub fn value(b: u8) -> u64
     ensures { result ≡ value_of b }
 {
@@ -133,14 +128,7 @@ pub fn value(b: u8) -> u64
 fn with_digit(n: u64, digit: u64) -> u64
     ensures { result ≡ capped (n * 10 + digit) }
 {
-    if u64::MAX / 10 < n {
-        return u64::MAX;
-    }
-    let tens = n * 10;
-    if u64::MAX - tens < digit {
-        return u64::MAX;
-    }
-    tens + digit
+    n.saturating_mul(10).saturating_add(digit)
 }
 
 // `number` for any length and any bytes.
@@ -148,10 +136,8 @@ fn long_number(part: &[u8]) -> u64
     ensures { result ≡ capped (number_of part.now) }
 {
     let mut n: u64 = 0;
-    let mut i = 0;
-    while i < part.len() {
-        n = with_digit(n, value(part[i]));
-        i += 1;
+    for &b in part {
+        n = with_digit(n, value(b));
     }
     n
 }
@@ -166,6 +152,7 @@ pub fn low_half(b: u8) -> u8
 
 // `number` of at most nineteen bytes that the caller knows to be digits: it adds up their low halves and checks none.
 // 0 for more than nineteen bytes.
+#[tactic(auto, using(crate::proofs::Numbers::low_fit), unfolding(crate::specs::LowHalves::low_number_of))]
 pub fn low_number(part: &[u8]) -> u64
     ensures { result ≡ low_number_of part.now }
 {
@@ -173,10 +160,8 @@ pub fn low_number(part: &[u8]) -> u64
         return 0;
     }
     let mut n: u64 = 0;
-    let mut i = 0;
-    while i < part.len() {
-        n = n * 10 + low_half(part[i]) as u64;
-        i += 1;
+    for &b in part {
+        n = n * 10 + low_half(b) as u64;
     }
     n
 }
@@ -200,13 +185,11 @@ pub fn fits_width(n: u64, width: usize) -> bool
     ensures { result ≡ ltb n (10 ^ width) }
 {
     let mut rest = n;
-    let mut left = width;
-    while 0 < left {
+    for _ in 0..width {
         if rest == 0 {
             return true;
         }
-        rest = rest / 10;
-        left -= 1;
+        rest /= 10;
     }
     rest == 0
 }
@@ -216,11 +199,9 @@ fn put_digits(n: u64, out: &mut [u8])
     ensures { out.new ≡ digits_of (length out.old) n }
 {
     let mut rest = n;
-    let mut i = out.len();
-    while 0 < i {
-        i -= 1;
+    for i in (0..out.len()).rev() {
         out[i] = (48 + rest % 10) as u8;
-        rest = rest / 10;
+        rest /= 10;
     }
 }
 
@@ -249,13 +230,8 @@ pub fn put_number(n: u64, width: usize, out: &mut [u8], at: usize) -> Answer
     ensures answer { result ≡ put_number_answer (length out.old) at width n }
     ensures bytes { out.new ≡ if_accepted result (put_at at (digits_of width n) out.old) out.old }
 {
-    if !has_room(out.len(), at, width) {
-        return Answer::Refused(Reason::WrongLength, 0);
-    }
-    if !fits_width(n, width) {
-        return Answer::Refused(Reason::TooWide, 1);
-    }
-    let end = at + width;
-    put_digits(n, &mut out[at..end]);
-    Answer::Accepted
+    require(has_room(out.len(), at, width), Reason::WrongLength, 0)?;
+    require(fits_width(n, width), Reason::TooWide, 1)?;
+    put_digits(n, &mut out[at..at + width]);
+    Ok(())
 }

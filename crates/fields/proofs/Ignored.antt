@@ -1,4 +1,5 @@
 -- What a record is told is ignored where it is joined or made, unless it is a G. Assumes nothing.
+use Rattle.std.specs.Prelude.{None, Option, Some}
 use Prim.Native.Nat.{ℕ}
 use mathlib.Core.Bool.{false}
 use mathlib.Core.List.{List}
@@ -6,8 +7,6 @@ use mathlib.Core.Path.{◌≡◌, refl, sym}
 use borrow.Author.Tests.{eq-eqb}
 use lib.ListN.{length, get_or}
 use Rattle.answer.proofs.Tests.{never}
-use Rattle.layout.specs.declared.MaybeRecord.{MaybeRecord}
-use Rattle.layout.specs.declared.MaybeRecord.TheVariants.{Is, Other}
 use Rattle.layout.specs.declared.Record.{Record}
 use Rattle.layout.specs.declared.Record.TheVariants.{Header, Payment, Trailer}
 use Rattle.layout.specs.Layouts.{record_length, named_by, layout_of, given_length}
@@ -18,18 +17,18 @@ use Rattle.fields.specs.Joining.{named_join, join_answer}
 use Rattle.fields.specs.Making.{written_answer, make_answer}
 use Rattle.fields.specs.Promises.{OtherJoinsIgnoreTerms, OtherMakesIgnoreTerms, PaymentsJoinUnderAVersion}
 
-join_ignores : (t u : Terms) (m : MaybeRecord) (rec : List ℕ) (size : ℕ) → is_payment m ≡ false → named_join t m rec size ≡ named_join u m rec size
+join_ignores : (t u : Terms) (m : Option Record) (rec : List ℕ) (size : ℕ) → is_payment m ≡ false → named_join t m rec size ≡ named_join u m rec size
 unfolding version_answer field_answer kind_answer layout_of
-join_ignores t u (Is Header) rec size p = refl
-join_ignores t u (Is Payment) rec size p = never (sym p)
-join_ignores t u (Is Trailer) rec size p = refl
-join_ignores t u Other rec size p = refl
+join_ignores t u (Some Header) rec size p = refl
+join_ignores t u (Some Payment) rec size p = never (sym p)
+join_ignores t u (Some Trailer) rec size p = refl
+join_ignores t u None rec size p = refl
 
 pub other_joins_ignore_terms : OtherJoinsIgnoreTerms
 unfolding join_answer
 other_joins_ignore_terms t u rec size same p = rw (same, join_ignores t u (named_by (get_or rec 0 0)) rec size p)
 
-pub make_ignores : (t u : Terms) (r : Record) (given amounts : List ℕ) (size : ℕ) → is_payment (Is r) ≡ false
+pub make_ignores : (t u : Terms) (r : Record) (given amounts : List ℕ) (size : ℕ) → is_payment (Some r) ≡ false
     → make_answer t r given amounts size ≡ make_answer u r given amounts size
 unfolding make_answer version_answer written_answer kind_answer layout_of
 make_ignores t u Header given amounts size p = refl

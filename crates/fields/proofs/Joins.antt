@@ -3,19 +3,17 @@ use Prim.Native.Nat.{ℕ, ◌+◌, ◌-◌, ◌≤◌, ◌<◌}
 use mathlib.Core.Bool.{true, and-eq-true_iff}
 use mathlib.Core.List.{List, [], ◌∷◌, ◌++◌, map, append_assoc, append-nil}
 use mathlib.Core.Path.{◌≡◌, refl, sym, ap, ◌∙◌}
-use native.Mathlib.Nat.{le_antisymm, add_assoc}
+use native.Mathlib.Nat.{add_assoc}
 use native.Mathlib.Numerals.{add-one}
 use native.Mathlib.Omega.{arith}
-use lib.ListN.{length, get_or, take, drop, length-append, length-drop}
-use lib.Seq.{slice, slice-cons, slice_empty, take_all, length-take-le, take_at, drop-drop}
+use lib.ListN.{length, get_or, take, drop, drop_of_length-le, length-append, length-drop}
+use lib.Seq.{drop-cons, take_all, length-take-le, take_at, drop-drop}
 use Rattle.decimal.specs.Places.{width_of, part_at, gather}
 use Rattle.layout.specs.declared.Field.{Field}
 use Rattle.layout.specs.declared.Kind.TheVariants as kind
 use Rattle.layout.specs.declared.Record.{Record}
-use Rattle.layout.specs.declared.Rows.{Rows}
-use Rattle.layout.specs.Layouts.{record_length, row, table, rows_of, layout_of, stretch_of, given_at, given_length, widths_of, InRecord}
+use Rattle.layout.specs.Layouts.{record_length, row, layout_of, stretch_of, given_at, given_length, widths_of, joined_of, InRecord}
 use Rattle.layout.proofs.Tables.{every}
-use Rattle.record.proofs.Walks.{in_table}
 use Rattle.fields.specs.Making.{given_width}
 use Rattle.fields.proofs.Parts.{fits_field, layout_fits, given_in, part_length}
 
@@ -27,11 +25,11 @@ pub record Joining (rows : List Field) (rec out : List ℕ) (at : ℕ) (size : �
   pub bytes : take at out ++ gather (map given_at rows) rec ≡ whole
 
 pub begin : (r : Record) {rows : List Field} (rec out : List ℕ) → rows ≡ layout_of r → length out ≡ given_length r
-    → Joining rows rec out 0 (length out) (gather (map given_at rows) rec)
+    → Joining rows rec out 0 (length out) (joined_of r rec)
 unfolding given_length
 begin r rec out e n = rw e (record { same = refl; fits = (layout_fits r).0; left = omega (arith, n); bytes = refl })
 
-pub joined : {rec out : List ℕ} {at size : ℕ} {whole : List ℕ} → Joining [] rec out at size whole → out ≡ whole
+joined : {rec out : List ℕ} {at size : ℕ} {whole : List ℕ} → Joining [] rec out at size whole → out ≡ whole
 joined {out = out} {at = at} m =
     let t : take at out ≡ out = take_all at out (omega (arith, m.left)) in
     sym t ∙ sym (append-nil (take at out)) ∙ m.bytes
@@ -41,11 +39,6 @@ length_rest out at w k e h =
     let n : at + (k - at) ≡ k = omega arith in
     let d : drop (k - at) (drop at out) ≡ drop k out = drop-drop (k - at) at out ∙ ap (λ (n : ℕ). drop n out) n in
     rw (d, length-drop k out) (omega arith)
-
-length_gap : (out : List ℕ) (at w k : ℕ) → k ≡ at + w → k ≤ length out → length (take (k - at) (drop at out)) ≡ w
-length_gap out at w k e h =
-    let d : k - at ≡ w = omega arith in
-    rw d (length-take-le w (drop at out) (omega (arith, length-drop at out)))
 
 -- bytes put behind the first of a list, with its rest
 after : (out ys : List ℕ) (at w k : ℕ) → length ys ≡ w → k ≡ at + w → k ≤ length out
@@ -64,14 +57,11 @@ module _ {f : Field} {fs : List Field} {rec out : List ℕ} {at size : ℕ} {who
   fit : (fits_field f ≡ true) × (every fits_field fs ≡ true)
   fit = (and-eq-true_iff (fits_field f) (every fits_field fs)).0 m.fits
 
-  pub in_out : at + given_width f ≤ length out
+  in_out : at + given_width f ≤ length out
   in_out = omega (arith, m.left)
 
   pub in_field : InRecord f → (given_at f).last ≤ f.last
   in_field l = omega (arith, given_in f.kind (width_of (stretch_of f)) fit.0, l.start, l.order)
-
-  pub gap : {k : ℕ} → k ≡ at + given_width f → length (take (k - at) (drop at out)) ≡ given_width f
-  gap {k} e = length_gap out at (given_width f) k e (rw e in_out)
 
   pub on : {k : ℕ} {ys : List ℕ} → InRecord f → length rec ≡ record_length → k ≡ at + given_width f → ys ≡ part_at (given_at f) rec
       → Joining fs rec (take at out ++ (ys ++ drop (k - at) (drop at out))) k size whole
@@ -85,11 +75,11 @@ module _ {f : Field} {fs : List Field} {rec out : List ℕ} {at size : ℕ} {who
         bytes = rw (p.0, ey) (append_assoc (take at out) (part_at (given_at f) rec) (gather (map given_at fs) rec) ∙ m.bytes);
       }
 
-pub at_row : (which : Record) {rows : Rows} {copy : List Field} {i : ℕ} {rec out : List ℕ} {at size : ℕ} {whole : List ℕ}
-    → copy ≡ table → rows ≡ rows_of which → i < rows.to → Joining (slice i rows.to copy) rec out at size whole
-    → Joining (get_or copy i (row 0 0 (kind.Mark 0)) ∷ slice (i + 1) rows.to copy) rec out at size whole
-at_row which {rows} {copy} {i} t e h m = rw add-one (rw (slice-cons i rows.to copy (row 0 0 (kind.Mark 0)) h (in_table which t e)) at m)
+pub at_row : (rows : List Field) (k : ℕ) {rec out : List ℕ} {at size : ℕ} {whole : List ℕ}
+    → k < length rows → Joining (drop k rows) rec out at size whole
+    → Joining (get_or rows k (row 0 0 (kind.Mark 0)) ∷ drop (k + 1) rows) rec out at size whole
+at_row rows k h m = rw add-one (rw (drop-cons rows k (row 0 0 (kind.Mark 0)) h) at m)
 
-pub at_end : (copy : List Field) (i to : ℕ) {rec out : List ℕ} {at size : ℕ} {whole : List ℕ} → i ≤ to → to ≤ i
-    → Joining (slice i to copy) rec out at size whole → out ≡ whole
-at_end copy i to h k m = joined (rw (le_antisymm h k, slice_empty) at m)
+pub at_end : (rows : List Field) (k : ℕ) {rec out : List ℕ} {at size : ℕ} {whole : List ℕ} → length rows ≤ k
+    → Joining (drop k rows) rec out at size whole → out ≡ whole
+at_end rows k h m = joined (rw (drop_of_length-le rows h) at m)

@@ -3,16 +3,13 @@ use Prim.Native.Nat.{ℕ, ◌+◌, ◌-◌, ◌≤◌, ◌<◌}
 use mathlib.Core.Bool.{Bool, true, false, cond, and-eq-true_iff}
 use mathlib.Core.List.{List, [], ◌∷◌, ◌++◌, map, append_assoc, append-nil}
 use mathlib.Core.Path.{◌≡◌, refl, sym, ap, ◌∙◌}
-use native.Mathlib.Nat.{le_antisymm}
 use native.Mathlib.Numerals.{add-one}
 use native.Mathlib.Omega.{arith}
-use borrow.Author.Tests.{eq-eqb, ne_eqb, eqb-true}
-use lib.ListN.{length, get_or, take, drop, length-append, length-drop}
-use lib.Seq.{slice, slice-cons, slice_empty, take_all, length-take-le, take_at, drop-drop, get_or-drop}
+use borrow.Author.Tests.{eq-eqb, eqb-true}
+use lib.ListN.{length, get_or, take, drop, drop_of_length-le, length-append, length-drop}
+use lib.Seq.{drop-cons, take_all, length-take-le, take_at, drop-drop, get_or-drop}
 use Rattle.answer.specs.declared.Reason.{Reason}
-use Rattle.answer.specs.declared.Reason.TheVariants.{WrongLength}
-use Rattle.answer.specs.declared.Answer.{Answer}
-use Rattle.answer.specs.declared.Answer.TheVariants.{Accepted, Refused}
+use Rattle.answer.specs.Answers.{Answer, Accepted, Refused}
 use Rattle.answer.specs.Refusals.{answer_place}
 use Rattle.answer.specs.Orders.{◌then◌, moved_by, behind, capped_behind}
 use Rattle.answer.proofs.Orders.{behind_is_exact}
@@ -20,11 +17,9 @@ use Rattle.decimal.specs.Places.{width_of}
 use Rattle.layout.specs.declared.Field.{Field}
 use Rattle.layout.specs.declared.Kind.TheVariants as kind
 use Rattle.layout.specs.declared.Record.{Record}
-use Rattle.layout.specs.declared.Rows.{Rows}
-use Rattle.layout.specs.Layouts.{record_length, row, table, rows_of, layout_of, stretch_of, given_of, given_at, given_length, widths_of, covers, InRecord}
+use Rattle.layout.specs.Layouts.{record_length, row, layout_of, stretch_of, given_of, given_at, given_length, widths_of, covers, InRecord}
 use Rattle.layout.proofs.Layouts.{Next, next, covers_end, fields_cover}
 use Rattle.layout.proofs.Tables.{every}
-use Rattle.record.proofs.Walks.{in_table}
 use Rattle.kinds.specs.Terms.{Terms, version_answer}
 use Rattle.fields.specs.Making.{written_of, is_money, written_answer, given_width, field_made, field_made_answer, amounts_after, made_of, making_answer, make_answer}
 use Rattle.fields.proofs.Parts.{given_width_is, fits_field, written_length, layout_fits}
@@ -41,7 +36,7 @@ pub record Making (t : Terms) (rows : List Field) (given amounts made : List ℕ
   pub answer : making_answer t rows (drop at given) (drop used amounts) ≡ r
 
 pub start : (t : Terms) (r : Record) {rows : List Field} (given amounts made : List ℕ) → rows ≡ layout_of r → length made ≡ record_length → length given ≡ given_length r
-    → Making t rows given amounts made 0 0 0 (making_answer t rows given amounts) (made_of rows given amounts)
+    → Making t rows given amounts made 0 0 0 (making_answer t (layout_of r) given amounts) (made_of (layout_of r) given amounts)
 unfolding given_length
 start t r given amounts made e n g =
     rw e (record {
@@ -54,7 +49,7 @@ start t r given amounts made e n g =
       answer = refl;
     })
 
-pub finish : {t : Terms} {given amounts made : List ℕ} {done at used : ℕ} {r : Answer} {whole : List ℕ} → Making t [] given amounts made done at used r whole
+finish : {t : Terms} {given amounts made : List ℕ} {done at used : ℕ} {r : Answer} {whole : List ℕ} → Making t [] given amounts made done at used r whole
     → (Accepted ≡ r) × (made ≡ whole)
 finish {made = made} {done = done} m =
     let d : done ≡ record_length = omega (arith, eqb-true (done + 1) (record_length + 1) m.cover) in
@@ -91,7 +86,7 @@ module _ {t : Terms} {f : Field} {fs : List Field} {given amounts made : List �
   pub placed : InRecord f
   placed = record { start = omega (arith, here.here); order = omega (arith, here.here, here.wide); end = ends.1 }
 
-  piece_length_holds : length (take (given_width f) (drop at given)) ≡ (given_of f.kind (width_of (stretch_of f))).to - (given_of f.kind (width_of (stretch_of f))).from
+  piece_length_holds : length (take (given_width f) (drop at given)) ≡ (given_of f.kind (width_of (stretch_of f))).end - (given_of f.kind (width_of (stretch_of f))).start
   piece_length_holds = length-take-le (given_width f) (drop at given) (omega (arith, length-drop at given, m.left)) ∙ sym (given_width_is f placed.start)
 
   -- the bytes of the record up to it, and all of them
@@ -107,9 +102,6 @@ module _ {t : Terms} {f : Field} {fs : List Field} {given amounts made : List �
 
   -- the bytes that are given for it
   module _ {wide : ℕ} (e : wide ≡ given_width f) where
-    pub in_given : at + wide ≤ length given
-    in_given = omega (arith, m.left)
-
     piece : take (at + wide - at) (drop at given) ≡ take (given_width f) (drop at given)
     piece = let n : at + wide - at ≡ given_width f = omega arith in ap (λ (k : ℕ). take k (drop at given)) n
 
@@ -159,26 +151,18 @@ module _ {t : Terms} {f : Field} {fs : List Field} {given amounts made : List �
             answer = rw (gn, un) (rw z at m.answer);
           }
 
--- at a row of the table
-pub at_row : (which : Record) {t : Terms} {rows : Rows} {copy : List Field} {i : ℕ} {given amounts made : List ℕ} {done at used : ℕ} {r : Answer} {whole : List ℕ}
-    → copy ≡ table → rows ≡ rows_of which → i < rows.to → Making t (slice i rows.to copy) given amounts made done at used r whole
-    → Making t (get_or copy i (row 0 0 (kind.Mark 0)) ∷ slice (i + 1) rows.to copy) given amounts made done at used r whole
-at_row which {rows = rows} {copy = copy} {i = i} tb e h m = rw add-one (rw (slice-cons i rows.to copy (row 0 0 (kind.Mark 0)) h (in_table which tb e)) at m)
+-- at a row
+pub at_row : (rows : List Field) (k : ℕ) {t : Terms} {given amounts made : List ℕ} {done at used : ℕ} {r : Answer} {whole : List ℕ}
+    → k < length rows → Making t (drop k rows) given amounts made done at used r whole
+    → Making t (get_or rows k (row 0 0 (kind.Mark 0)) ∷ drop (k + 1) rows) given amounts made done at used r whole
+at_row rows k h m = rw add-one (rw (drop-cons rows k (row 0 0 (kind.Mark 0)) h) at m)
 
-pub at_end : (copy : List Field) (i to : ℕ) {t : Terms} {given amounts made : List ℕ} {done at used : ℕ} {r : Answer} {whole : List ℕ} → i ≤ to → to ≤ i
-    → Making t (slice i to copy) given amounts made done at used r whole → (Accepted ≡ r) × (made ≡ whole)
-at_end copy i to h k m = finish (rw (le_antisymm h k, slice_empty) at m)
+pub at_end : (rows : List Field) (k : ℕ) {t : Terms} {given amounts made : List ℕ} {done at used : ℕ} {r : Answer} {whole : List ℕ} → length rows ≤ k
+    → Making t (drop k rows) given amounts made done at used r whole → (Accepted ≡ r) × (made ≡ whole)
+at_end rows k h m = finish (rw (drop_of_length-le rows h) at m)
 
 -- Both lengths first, then the fields.
 module _ (t : Terms) (r : Record) (given amounts : List ℕ) {size : ℕ} where
-  pub wrong_size : (size ≡ record_length → ⊥) → Refused WrongLength 0 ≡ make_answer t r given amounts size
-  unfolding make_answer
-  wrong_size h = rw (ne_eqb size record_length h)
-
-  pub wrong_given : {n : ℕ} → size ≡ record_length → n ≡ given_length r → (length given ≡ n → ⊥) → Refused WrongLength 0 ≡ make_answer t r given amounts size
-  unfolding make_answer
-  wrong_given e q h = rw (eq-eqb size record_length e, ne_eqb (length given) (given_length r) (λ k. h (k ∙ sym q)))
-
   pub goes_on : {a : Answer} → size ≡ record_length → length given ≡ given_length r → a ≡ (version_answer t.version r then making_answer t (layout_of r) given amounts) → a ≡ make_answer t r given amounts size
   unfolding make_answer
   goes_on e q h = rw (eq-eqb size record_length e, eq-eqb (length given) (given_length r) q) h

@@ -1,30 +1,26 @@
 -- Laws of what is given of a field, and of its kinds. Assumes nothing.
-use Prim.Native.Nat.{ℕ, ◌+◌, ◌-◌, ◌≤◌}
+use Prim.Native.Nat.{ℕ, ◌-◌, ◌≤◌}
 use mathlib.Core.Bool.{Bool, true}
-use mathlib.Core.List.{List, [], ◌∷◌}
-use mathlib.Core.Logic.{◌⊎◌, inl, inr}
-use mathlib.Core.Path.{◌≡◌, refl, sym, ap, ◌∙◌}
+use mathlib.Core.List.{List}
+use mathlib.Core.Path.{◌≡◌, refl, sym, ◌∙◌}
 use native.Mathlib.Omega.{arith}
 use borrow.Author.Tests.{eqb-true}
 use lib.Dec.{eqb}
-use lib.ListN.{length, take, drop, length-drop, length-replicate}
+use lib.ListN.{length, drop, length-drop, length-replicate}
 use lib.Seq.{length-take-le}
-use types.Run.{OneOf, miss}
-use denote.Enum.Declared.{tag_of}
+use Rattle.std.specs.declared.ops.Range.{Range}
 use Rattle.decimal.proofs.Numbers.{digits_fill}
 use Rattle.decimal.specs.Places.{width_of, part_at}
 use Rattle.layout.specs.declared.Field.{Field}
-use Rattle.layout.specs.declared.Given.{Given}
 use Rattle.layout.specs.declared.Kind.{Kind}
 use Rattle.layout.specs.declared.Kind.TheVariants as kind
 use Rattle.layout.specs.declared.Record.{Record}
 use Rattle.layout.specs.declared.Record.TheVariants.{Header, Payment, Trailer}
 use Rattle.layout.specs.Layouts.{record_length, layout_of, stretch_of, given_of, given_at, InRecord}
 use Rattle.layout.proofs.Tables.{every}
-use Rattle.layout.specs.contracts.Kind.{the_type}
 use Rattle.fields.specs.Making.{written_of, given_width}
 
-pub given_order : (k : Kind) (w : ℕ) → (given_of k w).from ≤ (given_of k w).to
+pub given_order : (k : Kind) (w : ℕ) → (given_of k w).start ≤ (given_of k w).end
 given_order (kind.Mark byte) w = omega arith
 given_order kind.Version w = omega arith
 given_order kind.Service w = omega arith
@@ -37,7 +33,7 @@ given_order kind.Barcode w = omega arith
 given_order kind.Capture w = omega arith
 given_order kind.Form w = omega arith
 
-pub given_width_is : (f : Field) → 1 ≤ f.first → (given_of f.kind (width_of (stretch_of f))).to - (given_of f.kind (width_of (stretch_of f))).from ≡ given_width f
+pub given_width_is : (f : Field) → 1 ≤ f.first → (given_of f.kind (width_of (stretch_of f))).end - (given_of f.kind (width_of (stretch_of f))).start ≡ given_width f
 given_width_is f h = omega (arith, given_order f.kind (width_of (stretch_of f)))
 
 pub part_length : {f : Field} (rec : List ℕ) → InRecord f → length rec ≡ record_length → (given_at f).last ≤ f.last → length (part_at (given_at f) rec) ≡ given_width f
@@ -59,7 +55,7 @@ fits_kind kind.Barcode w = true
 fits_kind kind.Capture w = true
 fits_kind kind.Form w = true
 
-pub written_length : (k : Kind) (w : ℕ) (piece : List ℕ) (n : ℕ) → fits_kind k w ≡ true → length piece ≡ (given_of k w).to - (given_of k w).from
+pub written_length : (k : Kind) (w : ℕ) (piece : List ℕ) (n : ℕ) → fits_kind k w ≡ true → length piece ≡ (given_of k w).end - (given_of k w).start
     → length (written_of k w piece n) ≡ w
 unfolding fits_kind
 written_length (kind.Mark byte) w piece n t e = sym (eqb-true w 1 t)
@@ -84,7 +80,7 @@ layout_fits Payment = (refl, omega arith)
 layout_fits Trailer = (refl, omega arith)
 
 -- what is given of a field lies in it
-pub given_in : (k : Kind) (w : ℕ) → fits_kind k w ≡ true → (given_of k w).to ≤ w
+pub given_in : (k : Kind) (w : ℕ) → fits_kind k w ≡ true → (given_of k w).end ≤ w
 unfolding fits_kind
 given_in (kind.Mark byte) w t = omega arith
 given_in kind.Version w t = omega arith
@@ -98,49 +94,7 @@ given_in kind.Barcode w t = omega arith
 given_in kind.Capture w t = omega arith
 given_in kind.Form w t = omega arith
 
--- The part of a field that is given, as the code has it.
-module _ {f : Field} (l : InRecord f) {g : Given} (e : g ≡ given_of f.kind (f.last - (f.first - 1))) where
-  pub part_order : g.from ≤ g.to
-  part_order = rw e (given_order f.kind (width_of (stretch_of f)))
-
-  pub part_width : g.to - g.from ≡ given_width f
-  part_width = rw e (given_width_is f l.start)
-
-  pub part_ends : (given_at f).last ≤ f.last → (f.first - 1 + g.from ≤ f.first - 1 + g.to) × (f.first - 1 + g.to ≤ record_length)
-  part_ends h = let to : f.first - 1 + g.to ≤ f.last = rw e h in (omega (arith, part_order), omega (arith, l.end))
-
-  pub part_is : (rec : List ℕ) → take (f.first - 1 + g.to - (f.first - 1 + g.from)) (drop (f.first - 1 + g.from) rec) ≡ part_at (given_at f) rec
-  part_is rec =
-      let a : f.first - 1 + g.from ≡ (given_at f).first - 1 = rw e (omega (arith, l.start)) in
-      let b : f.first - 1 + g.to - (f.first - 1 + g.from) ≡ given_width f = omega (arith, part_order, part_width) in
-      rw (b, a)
-
--- Kinds by their variants' positions, as a match of several at once tells them.
-
-abbrev wholes : List ℕ
-wholes = 1 ∷ 4 ∷ 5 ∷ 7 ∷ 8 ∷ 9 ∷ 10 ∷ []
-
-pub whole_tags : (k : Kind)
-    → (k ≡ kind.Version)
-    ⊎ ((k ≡ kind.Text) ⊎ ((k ≡ kind.Digits) ⊎ ((k ≡ kind.Date) ⊎ ((k ≡ kind.Barcode) ⊎ ((k ≡ kind.Capture) ⊎ (k ≡ kind.Form))))))
-    → OneOf wholes (tag_of the_type k)
-whole_tags k (inl e) = inl (ap (tag_of the_type) e)
-whole_tags k (inr (inl e)) = inr (inl (ap (tag_of the_type) e))
-whole_tags k (inr (inr (inl e))) = inr (inr (inl (ap (tag_of the_type) e)))
-whole_tags k (inr (inr (inr (inl e)))) = inr (inr (inr (inl (ap (tag_of the_type) e))))
-whole_tags k (inr (inr (inr (inr (inl e))))) = inr (inr (inr (inr (inl (ap (tag_of the_type) e)))))
-whole_tags k (inr (inr (inr (inr (inr (inl e)))))) = inr (inr (inr (inr (inr (inl (ap (tag_of the_type) e))))))
-whole_tags k (inr (inr (inr (inr (inr (inr e)))))) = inr (inr (inr (inr (inr (inr (ap (tag_of the_type) e))))))
-
-pub given_whole : (k : Kind) → OneOf wholes (tag_of the_type k) → (w n : ℕ) (given : List ℕ) → given ≡ written_of k w given n
-given_whole (kind.Mark byte) h w n given = absurd (miss wholes 0 tt h)
-given_whole kind.Version h w n given = refl
-given_whole kind.Service h w n given = absurd (miss wholes 2 tt h)
-given_whole kind.Blank h w n given = absurd (miss wholes 3 tt h)
-given_whole kind.Text h w n given = refl
-given_whole kind.Digits h w n given = refl
-given_whole kind.Money h w n given = absurd (miss wholes 6 tt h)
-given_whole kind.Date h w n given = refl
-given_whole kind.Barcode h w n given = refl
-given_whole kind.Capture h w n given = refl
-given_whole kind.Form h w n given = refl
+-- how wide the part of a field is that is given, as the code has it
+pub part_width : {f : Field} → InRecord f → {g : Range ℕ} → g ≡ given_of f.kind (f.last - (f.first - 1))
+    → g.end - g.start ≡ given_width f
+part_width {f} l e = rw e (given_width_is f l.start)

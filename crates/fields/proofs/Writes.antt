@@ -1,16 +1,13 @@
 -- Laws of one field that is written: its bytes, its answer, and bytes copied into as many. Assumes nothing.
-use Prim.Native.Nat.{ℕ, suc, ◌+◌, ◌^◌, ◌≤◌, ◌<◌}
+use Prim.Native.Nat.{ℕ, ◌^◌, ◌≤◌}
 use mathlib.Core.Bool.{Bool, true, false, cond}
-use mathlib.Core.List.{List, [], ◌∷◌, ◌++◌}
+use mathlib.Core.List.{List}
 use mathlib.Core.Path.{◌≡◌, refl, sym, ap, ◌∙◌}
-use native.Mathlib.Numerals.{add-one}
 use native.Mathlib.Omega.{arith}
 use lib.Dec.{ltb}
-use lib.ListN.{length, set, take, replicate, replicate-append-replicate}
-use lib.Seq.{take_all, take-suc-set}
+use lib.ListN.{length}
 use Rattle.answer.specs.declared.Reason.TheVariants.{NoDigit, TooWide}
-use Rattle.answer.specs.declared.Answer.{Answer}
-use Rattle.answer.specs.declared.Answer.TheVariants.{Accepted}
+use Rattle.answer.specs.Answers.{Answer, Accepted}
 use Rattle.answer.specs.Refusals.{answer_place}
 use Rattle.answer.specs.Orders.{if_accepted}
 use Rattle.answer.proofs.Orders.{accepted_takes, require_place, then_place, then_accepted}
@@ -27,21 +24,6 @@ use Rattle.kinds.specs.Terms.{Terms}
 use Rattle.kinds.specs.Kinds.{kind_answer}
 use Rattle.kinds.proofs.KindLaws.{kind_place}
 use Rattle.fields.specs.Making.{written_of, is_money, written_answer}
-
-pub made_copied : (made out : List ℕ) {l x : List ℕ} {a : Answer} → a ≡ Accepted → made ≡ x → l ≡ made → l ≡ if_accepted a x out
-made_copied made out e f q = rw e (q ∙ f)
-
--- one blank more
-pub blank_step : (out : List ℕ) (i : ℕ) → i < length out → take i out ≡ replicate i 32 → take (i + 1) (set out i 32) ≡ replicate (i + 1) 32
-blank_step out i h e =
-    let f : take (suc i) (set out i 32) ≡ take i out ++ (32 ∷ []) = take-suc-set out i 32 h in
-    rw add-one (f ∙ rw e (replicate-append-replicate i 1 32 ∙ rw add-one))
-
-pub blank_end : (out old : List ℕ) (i : ℕ) → length out ≤ i → i ≤ length out → length out ≡ length old → take i out ≡ replicate i 32
-    → out ≡ replicate (length old) 32
-blank_end out old i h k n e =
-    let l : i ≡ length old = omega arith in
-    sym (take_all i out h) ∙ e ∙ ap (λ (m : ℕ). replicate m 32) l
 
 -- Money is its digits, and everything else is checked by its kind.
 

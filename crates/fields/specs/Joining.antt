@@ -1,12 +1,9 @@
 -- The field bytes of an accepted A or G, joined in record order, which the writer takes (SPEC.md, "Field bytes").
 -- Assumes nothing.
-use Rattle.std.specs.Prelude.{ℕ, Bool, true, false, List, [], eqb, length, get_or}
+use Rattle.std.specs.Prelude.{None, Option, Some, ℕ, Bool, true, false, List, [], eqb, length, get_or}
 use Rattle.answer.specs.declared.Reason.TheVariants.{WrongLength, NotExpected}
-use Rattle.answer.specs.declared.Answer.{Answer}
-use Rattle.answer.specs.declared.Answer.TheVariants.{Refused}
+use Rattle.answer.specs.Answers.{Answer, Refused}
 use Rattle.answer.specs.Orders.{require, ◌then◌}
-use Rattle.layout.specs.declared.MaybeRecord.{MaybeRecord}
-use Rattle.layout.specs.declared.MaybeRecord.TheVariants.{Is, Other}
 use Rattle.layout.specs.declared.Record.{Record}
 use Rattle.layout.specs.declared.Record.TheVariants.{Header, Payment, Trailer}
 use Rattle.layout.specs.Layouts.{record_length, named_by, given_length, joined_of}
@@ -22,13 +19,13 @@ is_given Trailer = false
 
 -- 9 for a record that has no field bytes, 1 for a buffer of another length, 10 for a G that is told a number other than
 -- 4 and 6, then the fields
-abbrev pub named_join : Terms → MaybeRecord → List ℕ → ℕ → Answer
-named_join t (Is r) rec size =
+abbrev pub named_join : Terms → Option Record → List ℕ → ℕ → Answer
+named_join t (Some r) rec size =
     require (is_given r) NotExpected 1
     then require (eqb size (given_length r)) WrongLength 0
     then version_answer t.version r
     then layout_answer t r rec
-named_join t Other rec size = Refused NotExpected 1
+named_join t None rec size = Refused NotExpected 1
 
 -- 1 for the record's length, then as above
 unfoldable pub join_answer : Terms → List ℕ → ℕ → Answer
@@ -40,6 +37,6 @@ abbrev pub join_check : Terms → List ℕ → ℕ → Answer
 join_check t rec size = list_answer t.agreed then join_answer t rec size
 
 -- the field bytes of the record that a first byte names
-abbrev pub joined_in : MaybeRecord → List ℕ → List ℕ
-joined_in (Is r) rec = joined_of r rec
-joined_in Other rec = []
+abbrev pub joined_in : Option Record → List ℕ → List ℕ
+joined_in (Some r) rec = joined_of r rec
+joined_in None rec = []

@@ -1,15 +1,13 @@
 -- A record made from its field bytes and amounts (SPEC.md, "Field bytes"). Assumes nothing.
 use Rattle.std.specs.Prelude.{ℕ, ◌-◌, Bool, true, false, cond, ◌&&◌, List, [], ◌∷◌, ◌++◌, eqb, length, get_or, take, drop, replicate}
 use Rattle.answer.specs.declared.Reason.TheVariants.{WrongLength}
-use Rattle.answer.specs.declared.Answer.{Answer}
-use Rattle.answer.specs.declared.Answer.TheVariants.{Accepted}
+use Rattle.answer.specs.Answers.{Answer, Accepted}
 use Rattle.answer.specs.Orders.{require, ◌then◌, moved_by, behind}
 use Rattle.decimal.specs.Numbers.{digits_of, width_answer}
 use Rattle.decimal.specs.Places.{width_of}
 use Rattle.layout.specs.declared.Field.{Field}
 use Rattle.layout.specs.declared.Kind.{Kind}
-use Rattle.layout.specs.declared.Kind.TheVariants.{Mark, Version, Service, Blank, Text, Digits, Money}
-use Rattle.layout.specs.declared.Kind.TheVariants.{Date, Barcode, Capture, Form}
+use Rattle.layout.specs.declared.Kind.TheVariants.{Mark, Version, Service, Blank, Text, Digits, Money, Date, Barcode, Capture, Form}
 use Rattle.layout.specs.declared.Record.{Record}
 use Rattle.layout.specs.Layouts.{record_length, layout_of, stretch_of, given_at, given_length}
 use Rattle.barcode.specs.Agreed.{list_answer}

@@ -1,10 +1,9 @@
 -- Claims: a record's fields make it again, and what is made has the fields it was given. Assumes nothing.
-use Rattle.std.specs.Prelude.{ℕ, false, cond, List, [], ◌∷◌, ◌≡◌, length, get_or}
+use Rattle.std.specs.Prelude.{Some, ℕ, false, cond, List, [], ◌∷◌, ◌≡◌, length, get_or}
 use Rattle.answer.specs.declared.Reason.TheVariants.{FixedDiffers}
-use Rattle.answer.specs.declared.Answer.TheVariants.{Accepted, Refused}
+use Rattle.answer.specs.Answers.{Accepted, Refused}
 use Rattle.decimal.specs.Numbers.{number_of}
 use Rattle.layout.specs.declared.Field.{Field}
-use Rattle.layout.specs.declared.MaybeRecord.TheVariants.{Is}
 use Rattle.layout.specs.declared.Record.{Record}
 use Rattle.layout.specs.declared.Record.TheVariants.{Payment}
 use Rattle.layout.specs.Layouts.{record_length, named_by, layout_of, row_at, version_row, given_length, joined_of}
@@ -44,11 +43,11 @@ OtherJoinsIgnoreTerms =
 abbrev pub OtherMakesIgnoreTerms : Type 0
 OtherMakesIgnoreTerms =
     (t u : Terms) (r : Record) (given amounts : List ℕ) (size : ℕ) → list_answer t.agreed ≡ list_answer u.agreed
-    → is_payment (Is r) ≡ false → make_check t r given amounts size ≡ make_check u r given amounts size
+    → is_payment (Some r) ≡ false → make_check t r given amounts size ≡ make_check u r given amounts size
 
 -- a G that is told a number other than 4 and 6 is refused 10 at the version's place in a header, behind every 1
 abbrev pub PaymentsJoinUnderAVersion : Type 0
 PaymentsJoinUnderAVersion =
     (t : Terms) (rec : List ℕ) → RightList t.agreed → length rec ≡ record_length
-    → named_by (get_or rec 0 0) ≡ Is Payment → is_version t.version ≡ false
+    → named_by (get_or rec 0 0) ≡ Some Payment → is_version t.version ≡ false
     → join_check t rec (given_length Payment) ≡ Refused FixedDiffers (row_at version_row).first

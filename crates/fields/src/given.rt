@@ -1,5 +1,5 @@
-// What joining and making share: how many bytes are given for a field, and a copy into as many bytes.
-ghost use Rattle.std.specs.Prelude.{◌≡◌, length};
+// What joining and making share: how many bytes are given for a field.
+ghost use Rattle.std.specs.Prelude.{◌≡◌};
 ghost use Rattle.layout.specs.Layouts.{InRecord};
 ghost use Rattle.fields.specs.Making.{given_width};
 
@@ -12,14 +12,5 @@ pub(crate) fn given_width(f: Field) -> usize
     ensures { result ≡ given_width f }
 {
     let kind = f.kind;
-    let given = layout::given_of(kind, f.last - (f.first - 1));
-    given.to - given.from
-}
-
-// All of the source's bytes, in place of all of the destination's.
-pub(crate) fn copy_all(src: &[u8], out: &mut [u8])
-    requires { length src.now ≡ length out.old }
-    ensures { out.new ≡ src.now }
-{
-    out.copy_from_slice(src);
+    layout::given_of(kind, f.last - (f.first - 1)).len()
 }

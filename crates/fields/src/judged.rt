@@ -7,13 +7,14 @@ ghost use Rattle.kinds.specs.Terms.{told};
 ghost use Rattle.fields.specs.Making.{made_of, make_answer};
 
 use crate::making;
-use answer::{Answer, Reason};
+use answer::{Answer, Reason, require};
 use layout::Record;
 
 // Writes the record with these field bytes and amounts into the caller's buffer: a header takes no amount, a payment
 // received and tariff, a trailer its total; amounts that the record has no field for are ignored. A refusal leaves the
 // buffer unchanged: 1 unless it has 150 bytes and the field bytes are as many as the record takes, then 10 at 80 for a
 // payment under a number other than 4 and 6, then the fields in their order, with their places in the record.
+#[tactic(auto, unfolding(crate::specs::Making::make_answer))]
 pub fn make(
     which: Record,
     given: &[u8],
@@ -28,19 +29,14 @@ pub fn make(
     ensures bytes { out.new ≡ if_accepted result
         (made_of (layout_of which) given.now (first ∷ second ∷ [])) out.old }
 {
-    if out.len() != layout::LENGTH {
-        return Answer::Refused(Reason::WrongLength, 0);
-    }
-    if given.len() != layout::given_length(which) {
-        return Answer::Refused(Reason::WrongLength, 0);
-    }
+    require(out.len() == layout::LENGTH, Reason::WrongLength, 0)?;
+    require(
+        given.len() == layout::given_length(which),
+        Reason::WrongLength,
+        0,
+    )?;
     let mut made = [0u8; layout::LENGTH];
-    let a = making::make_named(which, given, version, first, second, agreed, &mut made);
-    match a {
-        Answer::Accepted => {
-            out.copy_from_slice(&made);
-            a
-        }
-        Answer::Refused(_, _) => a,
-    }
+    making::make_named(which, given, version, first, second, agreed, &mut made)?;
+    out.copy_from_slice(&made);
+    Ok(())
 }

@@ -26,11 +26,8 @@ pub fn join(rec: &[u8], version: u64, agreed: &[u64], out: &mut [u8]) -> Answer
     ensures bytes { out.new ≡ if_accepted result
         (joined_in (named_by (get_or rec.now 0 0)) rec.now) out.old }
 {
-    let list = barcode::check_list(agreed);
-    match list {
-        Answer::Accepted => joining::join(rec, version, agreed, out),
-        Answer::Refused(_, _) => list,
-    }
+    barcode::check_list(agreed)?;
+    joining::join(rec, version, agreed, out)
 }
 
 // Writes the record with these field bytes and amounts into the caller's buffer, as `judged::make` does, unless the
@@ -49,9 +46,6 @@ pub fn make(
     ensures bytes { out.new ≡ if_accepted result
         (made_of (layout_of which) given.now (first ∷ second ∷ [])) out.old }
 {
-    let list = barcode::check_list(agreed);
-    match list {
-        Answer::Accepted => judged::make(which, given, version, first, second, agreed, out),
-        Answer::Refused(_, _) => list,
-    }
+    barcode::check_list(agreed)?;
+    judged::make(which, given, version, first, second, agreed, out)
 }

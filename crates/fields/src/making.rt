@@ -1,13 +1,13 @@
 // A record made from its field bytes and amounts, along layout's table (SPEC.md, "Field bytes").
 ghost use Rattle.std.specs.Prelude.{◌+◌, ◌≤◌, false, cond, [], ◌∷◌, ◌≡◌, length, get_or, replicate};
-ghost use Rattle.answer.specs.declared.Answer.TheVariants as answers;
+ghost use Rattle.answer.specs.Answers as answers;
 ghost use Rattle.answer.specs.Orders.{◌then◌};
-ghost use Rattle.layout.specs.Layouts.{record_length, layout_of, given_length};
+ghost use Rattle.layout.specs.Layouts.{layout_of, given_length};
 ghost use Rattle.kinds.specs.Terms.{told, version_answer};
 ghost use Rattle.kinds.specs.Kinds.{service_of};
 ghost use Rattle.fields.specs.Making.{written_of, is_money, written_answer, made_of, making_answer};
 
-use crate::given::{copy_all, given_width};
+use crate::given::given_width;
 use answer::Answer;
 use layout::{Kind, Record};
 
@@ -15,18 +15,16 @@ use layout::{Kind, Record};
 fn is_money(kind: Kind) -> bool
     ensures { result ≡ is_money kind }
 {
-    match kind {
-        Kind::Money => true,
-        _ => false,
-    }
+    matches!(kind, Kind::Money)
 }
 
+// This and the next take a part that is cut by its ends, and no array: a conversion would bring a case that nothing can
+// reach.
 fn put_mark(byte: u8, out: &mut [u8])
     requires { length out.old ≡ 1 }
     ensures { out.new ≡ byte ∷ [] }
 {
-    let mark = [byte];
-    copy_all(&mark, out);
+    out.copy_from_slice(&[byte]);
 }
 
 // The service field with the given second byte, 0 where none is given.
@@ -35,23 +33,19 @@ fn put_service(given: &[u8], out: &mut [u8])
     ensures { out.new ≡ service_of (get_or given.now 0 0) }
 {
     let spelled = kinds::service(kinds::byte_at(given, 0));
-    copy_all(&spelled, out);
+    out.copy_from_slice(&spelled);
 }
 
 fn put_blanks(out: &mut [u8])
     ensures { out.new ≡ replicate (length out.old) 32 }
 {
-    let mut i = 0;
-    while i < out.len() {
-        out[i] = 32;
-        i += 1;
-    }
+    out.fill(32);
 }
 
 // Writes a field that is no amount: what is fixed, else the bytes given for it.
 fn put_bytes(kind: Kind, given: &[u8], out: &mut [u8])
-    requires kind_value { is_money kind ≡ false }
-    requires given_len { length (written_of kind (length out.old) given.now 0) ≡ length out.old }
+    requires no_amount { is_money kind ≡ false }
+    requires sized { length (written_of kind (length out.old) given.now 0) ≡ length out.old }
     ensures { out.new ≡ written_of kind (length out.old) given.now 0 }
 {
     match kind {
@@ -65,7 +59,7 @@ fn put_bytes(kind: Kind, given: &[u8], out: &mut [u8])
         | Kind::Date
         | Kind::Barcode
         | Kind::Capture
-        | Kind::Form => copy_all(given, out),
+        | Kind::Form => out.copy_from_slice(given),
     }
 }
 
@@ -96,13 +90,7 @@ fn put_field(
 fn amount_at(used: usize, first: u64, second: u64) -> u64
     ensures { result ≡ get_or (first ∷ second ∷ []) used 0 }
 {
-    if used == 0 {
-        return first;
-    }
-    if used == 1 {
-        return second;
-    }
-    0
+    [first, second].get(used).copied().unwrap_or(0)
 }
 
 // How many amounts are used after a field of this kind.
@@ -122,39 +110,33 @@ fn make_rows(
     first: u64,
     second: u64,
     agreed: &[u64],
-    made: &mut [u8],
+    made: &mut [u8; layout::LENGTH],
 ) -> Answer
-    requires made_len { length made.old ≡ record_length }
-    requires given_len { length given.now ≡ given_length which }
+    requires { length given.now ≡ given_length which }
     ensures answer { result ≡ making_answer (told version agreed.now) (layout_of which) given.now
         (first ∷ second ∷ []) }
     ensures bytes { result ≡ answers.Accepted
         → made.new ≡ made_of (layout_of which) given.now (first ∷ second ∷ []) }
 {
     let table = layout::table();
-    let rows = layout::rows_of(which);
-    let to = rows.to;
-    let mut i = rows.from;
     let mut done = 0;
     let mut at = 0;
     let mut used = 0;
-    while i < to {
-        let f = table[i];
+    for f in &table[layout::rows_of(which)] {
         let kind = f.kind;
         let end = f.last;
-        let next = at + given_width(f);
+        let next = at + given_width(*f);
         let amount = amount_at(used, first, second);
         let part = &given[at..next];
-        let a = put_field(kind, part, version, amount, agreed, &mut made[done..end]);
-        let Answer::Accepted = a else {
-            return a.behind(done);
-        };
+        let field = &mut made[done..end];
+        if let Err(refusal) = put_field(kind, part, version, amount, agreed, field) {
+            return Err(refusal.behind(done));
+        }
         used = used_after(kind, used);
         at = next;
         done = end;
-        i += 1;
     }
-    Answer::Accepted
+    Ok(())
 }
 
 // Makes the record: 10 for a G under a number other than 4 and 6, then field by field. After a refusal the bytes made
@@ -166,18 +148,14 @@ pub(crate) fn make_named(
     first: u64,
     second: u64,
     agreed: &[u64],
-    made: &mut [u8],
+    made: &mut [u8; layout::LENGTH],
 ) -> Answer
-    requires made_len { length made.old ≡ record_length }
-    requires given_len { length given.now ≡ given_length which }
+    requires { length given.now ≡ given_length which }
     ensures answer { result ≡ version_answer version which then making_answer (told version agreed.now)
         (layout_of which) given.now (first ∷ second ∷ []) }
     ensures bytes { result ≡ answers.Accepted
         → made.new ≡ made_of (layout_of which) given.now (first ∷ second ∷ []) }
 {
-    let a = kinds::check_version(which, version);
-    match a {
-        Answer::Accepted => make_rows(which, given, version, first, second, agreed, made),
-        Answer::Refused(_, _) => a,
-    }
+    kinds::check_version(which, version)?;
+    make_rows(which, given, version, first, second, agreed, made)
 }

@@ -1,4 +1,5 @@
 -- The laws of a file and of its trailer. Assumes nothing.
+use Rattle.std.specs.Prelude.{Err}
 use Prim.Native.Nat.{ℕ, ◌+◌, ◌<◌, ◌≤◌}
 use mathlib.Core.Bool.{Bool, true}
 use mathlib.Core.List.{List, [], ◌∷◌}
@@ -11,8 +12,7 @@ use lib.ListN.{length}
 use Rattle.answer.specs.Refusals.{received_place}
 use Rattle.answer.specs.declared.Reason.{Reason}
 use Rattle.answer.specs.declared.Reason.TheVariants.{CountDiffers, TotalDiffers, FileFull, FileTotalPassed}
-use Rattle.answer.specs.declared.Answer.{Answer}
-use Rattle.answer.specs.declared.Answer.TheVariants.{Accepted, Refused}
+use Rattle.answer.specs.Answers.{Answer, Accepted}
 use Rattle.answer.specs.Orders.{require, ◌then◌, if_accepted}
 use Rattle.answer.proofs.Orders.{require_accepts, then_accepts, refusal_keeps}
 use Rattle.file.specs.declared.File.{File}
@@ -46,7 +46,7 @@ stays_within = (λ version lined. record { taken = omega arith; total = omega ar
     go f received w Accepted e =
         let h = (file_accepts f received).0 e in
         record { taken = omega arith; total = h.1 }
-    go f received w (Refused why p) e = w
+    go f received w (Err refusal) e = w
 
 -- from any file within its limits
 takes : (f : File) → FileWithin f → (xs : List ℕ)

@@ -10,7 +10,7 @@ use lib.Dec.{eqb, leb}
 use lib.ListN.{length, get_or, drop, length-append, take-append-drop, drop_of_length-le}
 use lib.Seq.{take_at, take_all, drop-cons, get_or-take, get_or-append-add, length-take-le}
 use Rattle.answer.specs.declared.Reason.TheVariants.{NoLineEnd}
-use Rattle.answer.specs.declared.Answer.TheVariants.{Accepted}
+use Rattle.answer.specs.Answers.{Accepted}
 use Rattle.answer.specs.Orders.{require}
 use Rattle.answer.proofs.Orders.{require_accepts}
 use Rattle.answer.proofs.Tests.{unequal, or_cases, lt_or_le}
@@ -106,17 +106,6 @@ ends_bare bytes = refl
 ends_lined : (bytes : List ℕ) → end_answer true true bytes ≡ require (has_line_end bytes) NoLineEnd end_place
 unfolding end_answer
 ends_lined bytes = refl
-
--- by the state, as code meets it
-pub closed_ends : {opened : Bool} (lined : Bool) (bytes : List ℕ) → opened ≡ false → Accepted ≡ end_answer opened lined bytes
-closed_ends lined bytes e = rw (e, ends_closed lined bytes)
-
-pub bare_ends : {opened lined : Bool} (bytes : List ℕ) → opened ≡ true → lined ≡ false → Accepted ≡ end_answer opened lined bytes
-bare_ends bytes e f = rw (e, f, ends_bare bytes)
-
-pub lined_ends : {opened lined t : Bool} (bytes : List ℕ) → opened ≡ true → lined ≡ true → has_line_end bytes ≡ t
-    → require t NoLineEnd end_place ≡ end_answer opened lined bytes
-lined_ends bytes e f g = rw (e, f, ends_lined bytes, g)
 
 -- by the length
 pub not_ended : (bytes : List ℕ) → (length bytes ≡ lined_length → ⊥) → has_line_end bytes ≡ false

@@ -2,13 +2,10 @@
 use Rattle.std.specs.Prelude.{ℕ, ◌+◌, ◌^◌, ◌<◌, ◌≤◌, Bool, false, List, [], ◌∷◌, ◌↔◌, ◌≡◌, eqb, ltb, leb, length}
 use Rattle.answer.specs.Refusals.{received_place}
 use Rattle.answer.specs.declared.Reason.TheVariants.{CountDiffers, TotalDiffers, FileFull, FileTotalPassed}
-use Rattle.answer.specs.declared.Answer.{Answer}
-use Rattle.answer.specs.declared.Answer.TheVariants.{Accepted}
+use Rattle.answer.specs.Answers.{Answer, Accepted}
 use Rattle.answer.specs.Orders.{require, ◌then◌, if_accepted}
 use Rattle.file.specs.declared.File.{File}
-use Rattle.file.specs.declared.FileResult.{FileResult}
 use Rattle.file.specs.declared.Figures.{Figures}
-use Rattle.file.specs.declared.CloseResult.{CloseResult}
 
 -- the most payments of a file, and the most centavos: what a trailer can show
 abbrev pub most_payments : ℕ
@@ -36,6 +33,11 @@ abbrev pub file_with : File → ℕ → File
 file_with f received =
     record { taken = f.taken + 1; total = f.total + received; version = f.version; lined = f.lined }
 
+-- the answer to a payment and the file after it; a refusal leaves the file as it was
+pub record FileResult : Type 0 where
+  pub answer : Answer
+  pub file : File
+
 abbrev pub file_result_of : File → ℕ → FileResult
 file_result_of f received =
     record { answer = file_answer f received; file = if_accepted (file_answer f received) (file_with f received) f }
@@ -62,6 +64,11 @@ unfoldable pub closing_answer : File → Answer
 closing_answer f =
     require (leb f.taken most_payments) FileFull 1
     then require (leb f.total most_centavos) FileTotalPassed received_place
+
+-- the answer to the end of a file and the figures of its trailer; zeros where the file is refused
+pub record CloseResult : Type 0 where
+  pub answer : Answer
+  pub figures : Figures
 
 abbrev pub close_result_of : File → CloseResult
 close_result_of f =

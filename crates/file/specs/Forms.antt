@@ -3,8 +3,7 @@
 use Rattle.std.specs.Prelude.{ℕ, ◌+◌, Bool, cond, ◌&&◌, ◌||◌, List, [], ◌∷◌, ◌++◌, ◌↔◌, ◌≡◌, eqb, leb, length, get_or, take}
 use Rattle.std.proofs.Math.Bool as bool
 use Rattle.answer.specs.declared.Reason.TheVariants.{NoLineEnd}
-use Rattle.answer.specs.declared.Answer.{Answer}
-use Rattle.answer.specs.declared.Answer.TheVariants.{Accepted}
+use Rattle.answer.specs.Answers.{Answer, Accepted}
 use Rattle.answer.specs.Orders.{require}
 use Rattle.layout.specs.Layouts.{record_length}
 

@@ -3,15 +3,17 @@
 #![tactic(auto)]
 
 ghost use Rattle.std.specs.Prelude.{◌≡◌};
-ghost use Rattle.file.specs.Files.{fresh_file, file_result_of, figures_answer, close_result_of};
+ghost use Rattle.answer.specs.Answers.{◌gives◌};
+ghost use Rattle.file.specs.Files.{fresh_file, file_answer, file_with, figures_answer, closing_answer, figures_of};
 ghost use Rattle.file.specs.Forms.{length_of, has_line_end};
 
-use answer::{Answer, Reason};
+use answer::{Answer, Reason, Refusal, require};
 
 // How many payments were taken, the centavos they received in all, the version of the layout that the header names, 4
-// or 6, and whether CR and LF follow each record. In a session all are 0 and false while no file is open.
+// or 6, and whether CR and LF follow each record. In a session all are 0 and false while no file is open. The version
+// is a number and no enum: C reads it, and under one that is no version each payment record is refused 10.
 #[repr(C)]
-#[derive(Clone, Copy)]
+#[derive(Clone, Copy, Debug, PartialEq, Eq)]
 pub struct File {
     pub taken: u64,
     pub total: u64,
@@ -19,25 +21,11 @@ pub struct File {
     pub lined: bool,
 }
 
-// The file with the payment; a refusal leaves it as it was.
-#[derive(Clone, Copy)]
-pub struct FileResult {
-    pub answer: Answer,
-    pub file: File,
-}
-
 // What a trailer shows: how many records the file has, header and trailer included, and the centavos received.
-#[derive(Clone, Copy)]
+#[derive(Clone, Copy, Debug, PartialEq, Eq)]
 pub struct Figures {
     pub count: u64,
     pub total: u64,
-}
-
-// The figures of the trailer to write; zeros where the file is refused.
-#[derive(Clone, Copy)]
-pub struct CloseResult {
-    pub answer: Answer,
-    pub figures: Figures,
 }
 
 // The bytes of a record with CR and LF behind it.
@@ -95,81 +83,54 @@ impl File {
         }
     }
 
-    // Takes one payment more, which received so many centavos: refused 15 where the file has the most payments, then 16
-    // where the total would pass the most centavos; both also of a file in an arbitrary state.
-    pub fn take(self, received: u64) -> FileResult
-        ensures { result ≡ file_result_of self received }
+    // The file with one payment more, which received so many centavos: refused 15 where the file has the most payments,
+    // then 16 where the total would pass the most centavos; both also of a file in an arbitrary state.
+    #[tactic(auto, unfolding(crate::specs::Files::file_answer))]
+    pub fn take(self, received: u64) -> Result<File, Refusal>
+        ensures { result ≡ (file_answer self received gives file_with self received) }
     {
-        if Self::MOST_PAYMENTS <= self.taken {
-            return FileResult {
-                answer: Answer::Refused(Reason::FileFull, 1),
-                file: self,
-            };
-        }
-        // The sum is made only after it is known to fit.
-        if Self::MOST_CENTAVOS < self.total {
-            return FileResult {
-                answer: Answer::Refused(Reason::FileTotalPassed, answer::RECEIVED_PLACE),
-                file: self,
-            };
-        }
-        if Self::MOST_CENTAVOS - self.total < received {
-            return FileResult {
-                answer: Answer::Refused(Reason::FileTotalPassed, answer::RECEIVED_PLACE),
-                file: self,
-            };
-        }
-        FileResult {
-            answer: Answer::Accepted,
-            file: File {
-                taken: self.taken + 1,
-                total: self.total + received,
-                version: self.version,
-                lined: self.lined,
-            },
-        }
+        require(self.taken < Self::MOST_PAYMENTS, Reason::FileFull, 1)?;
+        // A sum past 64 bits stays at the largest number, which is past the most centavos too.
+        require(
+            self.total.saturating_add(received) <= Self::MOST_CENTAVOS,
+            Reason::FileTotalPassed,
+            answer::RECEIVED_PLACE,
+        )?;
+        Ok(File {
+            taken: self.taken + 1,
+            total: self.total + received,
+            ..self
+        })
     }
 
     // Checks a trailer that was read: refused 13, then 14, where it shows another count or total than this file has.
+    #[tactic(auto, unfolding(crate::specs::Files::figures_answer))]
     pub fn check_trailer(self, shown: Figures) -> Answer
         ensures { result ≡ figures_answer self shown }
     {
-        if shown.count < 2 {
-            return Answer::Refused(Reason::CountDiffers, COUNT_PLACE);
-        }
-        if shown.count - 2 != self.taken {
-            return Answer::Refused(Reason::CountDiffers, COUNT_PLACE);
-        }
-        if shown.total != self.total {
-            return Answer::Refused(Reason::TotalDiffers, TOTAL_PLACE);
-        }
-        Answer::Accepted
+        require(
+            self.taken.checked_add(2) == Some(shown.count),
+            Reason::CountDiffers,
+            COUNT_PLACE,
+        )?;
+        require(shown.total == self.total, Reason::TotalDiffers, TOTAL_PLACE)
     }
 
     // The figures of this file's trailer. Refused 15, then 16, where a trailer has no room for them, which only happens
     // to a file in an arbitrary state.
-    pub fn close(self) -> CloseResult
-        ensures { result ≡ close_result_of self }
+    #[tactic(auto, unfolding(crate::specs::Files::closing_answer))]
+    pub fn close(self) -> Result<Figures, Refusal>
+        ensures { result ≡ (closing_answer self gives figures_of self) }
     {
-        let none = Figures { count: 0, total: 0 };
-        if Self::MOST_PAYMENTS < self.taken {
-            return CloseResult {
-                answer: Answer::Refused(Reason::FileFull, 1),
-                figures: none,
-            };
-        }
-        if Self::MOST_CENTAVOS < self.total {
-            return CloseResult {
-                answer: Answer::Refused(Reason::FileTotalPassed, answer::RECEIVED_PLACE),
-                figures: none,
-            };
-        }
-        CloseResult {
-            answer: Answer::Accepted,
-            figures: Figures {
-                count: self.taken + 2,
-                total: self.total,
-            },
-        }
+        require(self.taken <= Self::MOST_PAYMENTS, Reason::FileFull, 1)?;
+        require(
+            self.total <= Self::MOST_CENTAVOS,
+            Reason::FileTotalPassed,
+            answer::RECEIVED_PLACE,
+        )?;
+        Ok(Figures {
+            count: self.taken + 2,
+            total: self.total,
+        })
     }
 }

@@ -1,4 +1,6 @@
 -- Nothing is lost in crossing. Assumes nothing.
+use Rattle.std.specs.Prelude.{Err, None, Option, Some}
+use Rattle.layout.specs.declared.Record.{Record}
 use Prim.Native.Nat.{ℕ, zero, suc, ◌+◌, ◌-◌, ◌≤◌}
 use mathlib.Core.Bool.{Bool, true, false, cond, ◌&&◌}
 use mathlib.Core.List.{List, [], ◌∷◌}
@@ -8,8 +10,7 @@ use borrow.Author.Tests.{ne_eqb}
 use lib.Dec.{eqb, leb, ltb}
 use lib.ListN.{length, get_or, take, drop, length-drop}
 use lib.Seq.{length-take-le}
-use Rattle.answer.specs.declared.Answer.{Answer}
-use Rattle.answer.specs.declared.Answer.TheVariants.{Accepted, Refused}
+use Rattle.answer.specs.Answers.{Answer, Accepted}
 use Rattle.answer.specs.Orders.{if_accepted}
 use Rattle.answer.proofs.Refusals.{numbers_differ, zero_is_accepted}
 use Rattle.answer.proofs.Orders.{refusal_keeps}
@@ -18,8 +19,6 @@ use Rattle.barcode.specs.Agreed.{barcode_check}
 use Rattle.barcode.specs.Shown.{shown_free}
 use Rattle.barcode.proofs.RoundTrips.{check_tells}
 use Rattle.barcode.proofs.Codes.{accepted_length}
-use Rattle.layout.specs.declared.MaybeRecord.{MaybeRecord}
-use Rattle.layout.specs.declared.MaybeRecord.TheVariants.{Is, Other}
 use Rattle.layout.specs.Layouts.{row_at, rows_of, named_by}
 use Rattle.record.specs.Records.{record_check, field_bytes}
 use Rattle.record.specs.Values.{field_in, shown_field}
@@ -27,16 +26,15 @@ use Rattle.writer.specs.declared.Stage.{Stage}
 use Rattle.writer.specs.declared.Stage.TheVariants as stage
 use Rattle.hollytrot.specs.Forms as forms
 use Rattle.hollytrot.specs.Forms.{bytes_in, stage_of, stage_number, c_writer_of, free_part, field_part}
-use Rattle.hollytrot.specs.Promises.{AnswersStayApart, WriterComesBack, RefusalKeepsCWriter}
-use Rattle.hollytrot.specs.Promises.{FreePartIsShown, FieldPartIsShown}
+use Rattle.hollytrot.specs.Promises.{AnswersStayApart, WriterComesBack, RefusalKeepsCWriter, FreePartIsShown, FieldPartIsShown}
 
 -- Answers and writers.
 
 pub answers_stay_apart : AnswersStayApart
 answers_stay_apart Accepted b e = sym ((zero_is_accepted b).0 (sym (ap (λ s. s.number) e)))
-answers_stay_apart (Refused why place) Accepted e = (zero_is_accepted (Refused why place)).0 (ap (λ s. s.number) e)
-answers_stay_apart (Refused why place) (Refused other at) e =
-    let same = numbers_differ why other (ap (λ s. s.number) e) in
+answers_stay_apart (Err refusal) Accepted e = (zero_is_accepted (Err refusal)).0 (ap (λ s. s.number) e)
+answers_stay_apart (Err refusal) (Err other) e =
+    let same = numbers_differ refusal.why other.why (ap (λ s. s.number) e) in
     let here = ap (λ s. s.place) e in
     rw (same, here)
 
@@ -92,7 +90,7 @@ module _ (agreed code : List ℕ) where
   free_shown Accepted h =
       let within = end_within (eqb (digit_at 2 code) 6) in
       free_law (issuer_end (digit_at 2 code) + 1 - 1) code within (accepted_length code (check_tells agreed code h).1)
-  free_shown (Refused why place) h = refl
+  free_shown (Err refusal) h = refl
 
 pub free_part_is_shown : FreePartIsShown
 unfolding free_part
@@ -109,11 +107,11 @@ module _ (row : ℕ) (rec : List ℕ) where
   field_where false = refl
 
   field_shown :
-      (a : Answer) (n : MaybeRecord)
+      (a : Answer) (n : Option Record)
       → let x = if_accepted a (field_in n row rec) [] in take (length x) (drop start rec) ≡ x
-  field_shown (Refused why place) n = refl
-  field_shown Accepted Other = refl
-  field_shown Accepted (Is r) = field_where (leb (rows_of r).from row && ltb row (rows_of r).to)
+  field_shown (Err refusal) n = refl
+  field_shown Accepted None = refl
+  field_shown Accepted (Some r) = field_where (leb (rows_of r).start row && ltb row (rows_of r).end)
 
 pub field_part_is_shown : FieldPartIsShown
 unfolding field_part

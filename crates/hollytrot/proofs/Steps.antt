@@ -1,4 +1,5 @@
 -- What the proofs of the exported functions share. Assumes nothing.
+use Rattle.std.specs.Prelude.{Err}
 use Prim.Native.Nat.{ℕ, ◌+◌, ◌-◌, ◌≤◌}
 use mathlib.Core.Bool.{Bool, true, false}
 use mathlib.Core.List.{List, []}
@@ -7,9 +8,7 @@ use native.Mathlib.Omega.{arith}
 use borrow.Author.Tests.{ltb-true, ltb-false}
 use lib.Dec.{ltb}
 use lib.ListN.{length, drop, length-take, get_or-eq_default}
-use Rattle.answer.specs.declared.Reason.{Reason}
-use Rattle.answer.specs.declared.Answer.{Answer}
-use Rattle.answer.specs.declared.Answer.TheVariants.{Accepted, Refused}
+use Rattle.answer.specs.Answers.{Answer, Accepted}
 use Rattle.answer.specs.Orders.{if_accepted}
 use Rattle.barcode.specs.Codes.{code_length, digit_at, issuer_end, free_of}
 use Rattle.barcode.specs.Agreed.{barcode_check}
@@ -19,19 +18,8 @@ use Rattle.layout.specs.Layouts.{no_field, table, row_at}
 use Rattle.layout.proofs.Layouts.{row_lies}
 use Rattle.kinds.specs.Terms.{Terms}
 use Rattle.record.specs.Values.{shown_field}
-use Rattle.writer.specs.declared.Writer.{Writer}
-use Rattle.writer.specs.declared.WriteResult.{WriteResult}
-use Rattle.hollytrot.specs.declared.CAnswer.{CAnswer}
 use Rattle.hollytrot.specs.declared.CPart.{CPart}
-use Rattle.hollytrot.specs.declared.CWriter.{CWriter}
-use Rattle.hollytrot.specs.declared.CWriteResult.{CWriteResult}
-use Rattle.hollytrot.specs.Forms.{c_answer_of, c_part_of, free_part, field_part, writer_of, c_writer_of, c_write_result_of}
-
--- an answer in its form, and the buffer that it left
-pub crossed :
-    {s : CAnswer} {a b : Answer} {x : List ℕ} (new old : List ℕ)
-    → s ≡ c_answer_of a → a ≡ b → x ≡ if_accepted a new old → (s ≡ c_answer_of b) × (x ≡ if_accepted b new old)
-crossed new old f e k = (f ∙ ap c_answer_of e, k ∙ ap (λ z. if_accepted z new old) e)
+use Rattle.hollytrot.specs.Forms.{c_part_of, free_part, field_part}
 
 -- Parts of the caller's bytes, from the part that was shown.
 
@@ -40,7 +28,7 @@ free_few_of : (code : List ℕ) (a : Answer) → length (if_accepted a (free_of 
 free_few_of code Accepted =
     let start = issuer_end (digit_at 2 code) + 1 - 1 in
     omega (arith, length-take (code_length - start) (drop start code))
-free_few_of code (Refused why place) = omega arith
+free_few_of code (Err refusal) = omega arith
 
 pub free_few : (agreed code : List ℕ) {free : List ℕ} → free ≡ shown_free agreed code → length free ≤ code_length
 free_few agreed code e = rw e (free_few_of code (barcode_check agreed code))
@@ -67,26 +55,3 @@ pub at_field :
 unfolding field_part
 at_field t row rec {field} e s h =
     h ∙ ap (λ x. c_part_of (x.first - 1) (length field)) s ∙ ap (λ x. c_part_of ((row_at row).first - 1) (length x)) e
-
--- The result of a writer's call: refused, accepted, and over the writer that was given.
-
-module _ (p : CWriter) (w : WriteResult) where
-  pub wrote_refused :
-      {s : CAnswer} {why : Reason} {place : ℕ} → s ≡ c_answer_of w.answer → w.answer ≡ Refused why place
-      → ◌≡◌ {A = CWriteResult} (record { answer = s; writer = p }) (c_write_result_of p w)
-  wrote_refused e h = rw (e, h)
-
-  pub wrote_accepted :
-      {s : CAnswer} {q : CWriter} → s ≡ c_answer_of w.answer → w.answer ≡ Accepted → q ≡ c_writer_of w.writer
-      → ◌≡◌ {A = CWriteResult} (record { answer = s; writer = q }) (c_write_result_of p w)
-  wrote_accepted e h f = rw (e, h, f)
-
-module _ (f : Writer → WriteResult) (g : Writer → List ℕ) (p : CWriter) (old : List ℕ) where
-  pub written :
-      {o : Writer} {w : WriteResult} {r : CWriteResult} {x : List ℕ}
-      → o ≡ writer_of p → w ≡ f o → x ≡ if_accepted w.answer (g o) old → r ≡ c_write_result_of p w
-      → (r ≡ c_write_result_of p (f (writer_of p))) × (x ≡ if_accepted (f (writer_of p)).answer (g (writer_of p)) old)
-  written {o} {w} {r} {x} a b bytes h =
-      let same : w ≡ f (writer_of p) = b ∙ ap f a in
-      let kept = ap (λ z. if_accepted z.answer (g o) old) same in
-      (h ∙ ap (c_write_result_of p) same, bytes ∙ kept ∙ ap (λ z. if_accepted (f (writer_of p)).answer (g z) old) a)

@@ -1,30 +1,29 @@
 -- The forms in which values cross to other languages: numbers and structs of them. Assumes nothing.
-use Rattle.std.specs.Prelude.{ℕ, ◌-◌, cond, List, eqb, length, take, drop}
-use Rattle.answer.specs.declared.Answer.{Answer}
-use Rattle.answer.specs.declared.Answer.TheVariants as answer
+use Rattle.std.specs.Prelude.{Result, Err, Ok, ℕ, ◌-◌, cond, List, eqb, length, take, drop}
+use Rattle.answer.specs.declared.Refusal.{Refusal}
+use Rattle.answer.specs.Answers.{Answer}
+use Rattle.answer.specs.Answers as answer
 use Rattle.answer.specs.Refusals.{answer_number, answer_place}
 use Rattle.answer.specs.Orders.{if_accepted}
 use Rattle.barcode.specs.declared.Fields.{Fields}
-use Rattle.barcode.specs.declared.Decoded.{Decoded}
-use Rattle.barcode.specs.declared.Decoded.TheVariants as barcode
+use Rattle.barcode.specs.Shown.{Decoded, no_fields, shown_free}
 use Rattle.barcode.specs.Codes.{code_length}
-use Rattle.barcode.specs.Shown.{no_fields, shown_free}
 use Rattle.layout.specs.declared.Record.TheVariants as layout
 use Rattle.layout.specs.Layouts.{mark_of, row_at}
 use Rattle.kinds.specs.Terms.{Terms}
 use Rattle.record.specs.declared.Header.{Header}
 use Rattle.record.specs.declared.Payment.{Payment}
 use Rattle.record.specs.declared.Trailer.{Trailer}
-use Rattle.record.specs.declared.Decoded as record-decoded
-use Rattle.record.specs.declared.Decoded.TheVariants as decoded
+use Rattle.record.specs.declared.Contents.TheVariants as contents
+use Rattle.record.specs.Values as values
 use Rattle.record.specs.Values.{day_of, shown_field}
 use Rattle.writer.specs.declared.Stage.{Stage}
 use Rattle.writer.specs.declared.Stage.TheVariants as stage
 use Rattle.writer.specs.declared.Writer.{Writer}
-use Rattle.writer.specs.declared.WriteResult.{WriteResult}
-use Rattle.session.specs.declared.TakeResult.{TakeResult}
+use Rattle.writer.specs.Writers.{WriteResult}
+use Rattle.session.specs.Sessions.{TakeResult}
 use Rattle.session.specs.declared.RunResult.{RunResult}
-use Rattle.page.specs.declared.PrintResult.{PrintResult}
+use Rattle.page.specs.Pages.{PrintResult}
 use Rattle.hollytrot.specs.declared.CAnswer.{CAnswer}
 use Rattle.hollytrot.specs.declared.CPart.{CPart}
 use Rattle.hollytrot.specs.declared.CFields.{CFields}
@@ -65,8 +64,8 @@ abbrev pub no_cFields : CFields
 no_cFields = c_fields_of no_fields
 
 abbrev pub c_decoded_of : Decoded → CDecoded
-c_decoded_of (barcode.Read f) = record { answer = c_answer_of answer.Accepted; fields = c_fields_of f }
-c_decoded_of (barcode.Refused why place) = record { answer = c_answer_of (answer.Refused why place); fields = no_cFields }
+c_decoded_of (Ok f) = record { answer = c_answer_of answer.Accepted; fields = c_fields_of f }
+c_decoded_of (Err refusal) = record { answer = c_answer_of (Err refusal); fields = no_cFields }
 
 abbrev pub c_payment_of : Payment → CPayment
 c_payment_of p =
@@ -98,8 +97,8 @@ no_cPayment =
 abbrev pub no_trailer : Trailer
 no_trailer = record { count = 0; total = 0 }
 
-abbrev pub c_record_of : record-decoded.Decoded → CRecord
-c_record_of (decoded.Header h) =
+abbrev pub c_record_of : values.Decoded → CRecord
+c_record_of (Ok (contents.Header h)) =
     record {
       answer = c_answer_of answer.Accepted;
       letter = mark_of layout.Header;
@@ -107,7 +106,7 @@ c_record_of (decoded.Header h) =
       payment = no_cPayment;
       trailer = no_trailer;
     }
-c_record_of (decoded.Payment p) =
+c_record_of (Ok (contents.Payment p)) =
     record {
       answer = c_answer_of answer.Accepted;
       letter = mark_of layout.Payment;
@@ -115,7 +114,7 @@ c_record_of (decoded.Payment p) =
       payment = c_payment_of p;
       trailer = no_trailer;
     }
-c_record_of (decoded.Trailer t) =
+c_record_of (Ok (contents.Trailer t)) =
     record {
       answer = c_answer_of answer.Accepted;
       letter = mark_of layout.Trailer;
@@ -123,9 +122,9 @@ c_record_of (decoded.Trailer t) =
       payment = no_cPayment;
       trailer = t;
     }
-c_record_of (decoded.Refused why place) =
+c_record_of (Err refusal) =
     record {
-      answer = c_answer_of (answer.Refused why place);
+      answer = c_answer_of (Err refusal);
       letter = 0;
       header = no_header;
       payment = no_cPayment;
@@ -146,6 +145,11 @@ writer_of p = record { stage = stage_of p.stage; file = p.file }
 
 abbrev pub c_writer_of : Writer → CWriter
 c_writer_of w = record { stage = stage_number w.stage; file = w.file }
+
+-- the writer behind a call: after a refusal the given one itself
+abbrev pub writer_behind : CWriter → Result Writer Refusal → CWriter
+writer_behind p (Ok w) = c_writer_of w
+writer_behind p (Err refusal) = p
 
 -- the result of a call: after a refusal the given writer itself
 abbrev pub c_write_result_of : CWriter → WriteResult → CWriteResult

@@ -1,12 +1,11 @@
 -- Nothing is lost in crossing: what the forms say is what the engine's values say. Assumes nothing.
 use Rattle.std.specs.Prelude.{ℕ, List, ◌≡◌}
-use Rattle.answer.specs.declared.Answer.{Answer}
-use Rattle.answer.specs.declared.Answer.TheVariants.{Accepted}
+use Rattle.answer.specs.Answers.{Answer, Accepted}
 use Rattle.barcode.specs.Shown.{shown_free}
 use Rattle.kinds.specs.Terms.{Terms}
 use Rattle.record.specs.Values.{shown_field}
 use Rattle.writer.specs.declared.Writer.{Writer}
-use Rattle.writer.specs.declared.WriteResult.{WriteResult}
+use Rattle.writer.specs.Writers.{WriteResult}
 use Rattle.hollytrot.specs.declared.CWriter.{CWriter}
 use Rattle.hollytrot.specs.Forms.{c_answer_of, bytes_in, free_part, field_part, writer_of, c_writer_of, c_write_result_of}
 

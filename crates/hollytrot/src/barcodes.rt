@@ -29,7 +29,7 @@ pub extern "C" fn hollytrot_issuer_key(issuer: Issuer) -> u64
 pub extern "C" fn hollytrot_barcode_check(code: &[u8], agreed: &[u64]) -> CAnswer
     ensures { result ≡ c_answer_of (barcode_check agreed.now code.now) }
 {
-    forms::c_answer(barcode::check(code, agreed))
+    CAnswer::from(barcode::check(code, agreed))
 }
 
 // The same answer, with the fields of an accepted barcode.
@@ -37,7 +37,7 @@ pub extern "C" fn hollytrot_barcode_check(code: &[u8], agreed: &[u64]) -> CAnswe
 pub extern "C" fn hollytrot_barcode_decode(code: &[u8], agreed: &[u64]) -> CDecoded
     ensures { result ≡ c_decoded_of (decoded_barcode agreed.now code.now) }
 {
-    forms::c_decoded(barcode::decode(code, agreed))
+    CDecoded::from(barcode::decode(code, agreed))
 }
 
 // Where the free field is in the barcode: its last 25 bytes, in segment 6 its last 21. The empty part if the barcode or
@@ -70,7 +70,7 @@ pub extern "C" fn hollytrot_barcode_build(
         (build_check agreed.now (length out.old) issuer kind value free.now)
         (built_of issuer kind value free.now) out.old }
 {
-    forms::c_answer(barcode::builder::build(issuer, kind, value, free, agreed, out))
+    CAnswer::from(barcode::builder::build(issuer, kind, value, free, agreed, out))
 }
 
 // Accepted, or the first refusal: that of the list, then the typed line's. Any length; all but 48 bytes are refused.
@@ -78,7 +78,7 @@ pub extern "C" fn hollytrot_barcode_build(
 pub extern "C" fn hollytrot_line_check(line: &[u8], agreed: &[u64]) -> CAnswer
     ensures { result ≡ c_answer_of (lines.line_check agreed.now line.now) }
 {
-    forms::c_answer(line::check(line, agreed))
+    CAnswer::from(line::check(line, agreed))
 }
 
 // The same answer, with the fields of an accepted line.
@@ -86,7 +86,7 @@ pub extern "C" fn hollytrot_line_check(line: &[u8], agreed: &[u64]) -> CAnswer
 pub extern "C" fn hollytrot_line_decode(line: &[u8], agreed: &[u64]) -> CDecoded
     ensures { result ≡ c_decoded_of (lines.decoded_line agreed.now line.now) }
 {
-    forms::c_decoded(line::decode(line, agreed))
+    CDecoded::from(line::decode(line, agreed))
 }
 
 // Writes the barcode of a line into `out`, 44 bytes. A refusal leaves `out` as it was.
@@ -97,7 +97,7 @@ pub extern "C" fn hollytrot_line_to_barcode(line: &[u8], agreed: &[u64], out: &m
         ≡ if_accepted (lines.to_code_check agreed.now (length out.old) line.now)
         (lines.code_of line.now) out.old }
 {
-    forms::c_answer(line::to_barcode(line, agreed, out))
+    CAnswer::from(line::to_barcode(line, agreed, out))
 }
 
 // Writes the typed line of a barcode into `out`, 48 bytes. A refusal leaves `out` as it was.
@@ -112,7 +112,7 @@ pub extern "C" fn hollytrot_line_from_barcode(
         ≡ if_accepted (lines.to_line_check agreed.now (length out.old) code.now)
         (lines.line_of code.now) out.old }
 {
-    forms::c_answer(line::from_barcode(code, agreed, out))
+    CAnswer::from(line::from_barcode(code, agreed, out))
 }
 
 // The date that eight digits, YYYYMMDD, are; all zeros if they are no date or are not eight digits.

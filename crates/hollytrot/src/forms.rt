@@ -1,25 +1,27 @@
-// The engine's values in the forms that cross to C, and a writer back from its form. `no_..` is the form of a value
-// that is not there: all zeros.
+// The engine's values in the forms that cross to C, and a writer back from its form. A value that is not there is all
+// zeros, its form's `default`.
 ghost use Rattle.std.specs.Prelude.{◌≡◌};
 ghost use Rattle.record.specs.Values.{day_of};
-ghost use Rattle.hollytrot.specs.Forms.{c_answer_of, c_part_of, c_fields_of, no_cFields, c_decoded_of, c_payment_of};
-ghost use Rattle.hollytrot.specs.Forms.{no_cPayment, no_header, no_trailer, c_record_of, stage_of, stage_number};
-ghost use Rattle.hollytrot.specs.Forms.{writer_of, c_writer_of};
+ghost use Rattle.hollytrot.specs.Forms.{c_answer_of, c_part_of, c_fields_of, c_decoded_of, c_payment_of, c_record_of};
+ghost use Rattle.hollytrot.specs.Forms.{stage_of, stage_number, writer_of, c_writer_of};
 
 use crate::{CAnswer, CDecoded, CFields, CPart, CPayment, CRecord, CWriter};
 use answer::Answer;
-use barcode::{Fields, Issuer};
-use calendar::{Date, MaybeDate};
-use record::{Header, Payment, Trailer};
+use barcode::{Decoded, Fields};
+use calendar::Date;
+use layout::{a, g, z};
+use record::{Contents, Header, Payment, Trailer};
 use writer::{Stage, Writer};
 
 // An answer as its number and place; 0 and 0 if it is accepted.
-pub(crate) fn c_answer(a: Answer) -> CAnswer
-    ensures { result ≡ c_answer_of a }
-{
-    CAnswer {
-        number: a.number() as u64,
-        place: a.place(),
+impl From<Answer> for CAnswer {
+    ghost from_gives = { λ a c. c ≡ c_answer_of a };
+
+    fn from(a: Answer) -> CAnswer {
+        CAnswer {
+            number: u64::from(answer::number(a)),
+            place: answer::place(a),
+        }
     }
 }
 
@@ -33,149 +35,90 @@ pub(crate) fn c_part(from: usize, length: usize) -> CPart
     CPart { from, length }
 }
 
-fn no_date() -> Date
-    ensures { result ≡ record { year = 0; month = 0; day = 0 } }
-{
-    Date {
-        year: 0,
-        month: 0,
-        day: 0,
-    }
-}
-
 // The date, or three zeros.
-pub(crate) fn date_or_zeros(d: MaybeDate) -> Date
+pub(crate) fn date_or_zeros(d: Option<Date>) -> Date
     ensures { result ≡ day_of d }
 {
-    match d {
-        MaybeDate::On(date) => date,
-        MaybeDate::NoDate => no_date(),
-    }
+    d.unwrap_or_default()
 }
 
 // Without a due date its three numbers are 0.
-fn c_fields(f: Fields) -> CFields
-    ensures { result ≡ c_fields_of f }
-{
-    let issuer = f.issuer;
-    let due = f.due;
-    CFields {
-        kind: f.kind,
-        value: f.value,
-        issuer,
-        due: date_or_zeros(due),
-    }
-}
+impl From<Fields> for CFields {
+    ghost from_gives = { λ f c. c ≡ c_fields_of f };
 
-fn no_c_fields() -> CFields
-    ensures { result ≡ no_cFields }
-{
-    CFields {
-        kind: 0,
-        value: 0,
-        issuer: Issuer {
-            segment: 0,
-            number: 0,
-        },
-        due: no_date(),
+    fn from(f: Fields) -> CFields {
+        CFields {
+            kind: f.kind,
+            value: f.value,
+            issuer: f.issuer,
+            due: date_or_zeros(f.due),
+        }
     }
 }
 
 // The fields of a barcode or a typed line; of a refused one zeros.
-pub(crate) fn c_decoded(d: barcode::Decoded) -> CDecoded
-    ensures { result ≡ c_decoded_of d }
-{
-    match d {
-        barcode::Decoded::Read(f) => CDecoded {
-            answer: c_answer(Answer::Accepted),
-            fields: c_fields(f),
-        },
-        barcode::Decoded::Refused(why, place) => CDecoded {
-            answer: c_answer(Answer::Refused(why, place)),
-            fields: no_c_fields(),
-        },
+impl From<Decoded> for CDecoded {
+    ghost from_gives = { λ d c. c ≡ c_decoded_of d };
+
+    fn from(d: Decoded) -> CDecoded {
+        match d {
+            Ok(f) => CDecoded {
+                answer: CAnswer::from(Ok(())),
+                fields: CFields::from(f),
+            },
+            Err(refusal) => CDecoded {
+                answer: CAnswer::from(Err(refusal)),
+                fields: CFields::default(),
+            },
+        }
     }
 }
 
-fn c_payment(p: Payment) -> CPayment
-    ensures { result ≡ c_payment_of p }
-{
-    let on = p.paid;
-    let credited = p.credited;
-    let fields = p.barcode;
-    CPayment {
-        paid: on,
-        credited,
-        barcode: c_fields(fields),
-        received: p.received,
-        tariff: p.tariff,
-        number: p.number,
-    }
-}
+impl From<Payment> for CPayment {
+    ghost from_gives = { λ p c. c ≡ c_payment_of p };
 
-fn no_header() -> Header
-    ensures { result ≡ no_header }
-{
-    Header {
-        bank: 0,
-        date: no_date(),
-        sequence: 0,
-        version: 0,
+    fn from(p: Payment) -> CPayment {
+        CPayment {
+            paid: p.paid,
+            credited: p.credited,
+            barcode: CFields::from(p.barcode),
+            received: p.received,
+            tariff: p.tariff,
+            number: p.number,
+        }
     }
-}
-
-fn no_c_payment() -> CPayment
-    ensures { result ≡ no_cPayment }
-{
-    CPayment {
-        paid: no_date(),
-        credited: no_date(),
-        barcode: no_c_fields(),
-        received: 0,
-        tariff: 0,
-        number: 0,
-    }
-}
-
-fn no_trailer() -> Trailer
-    ensures { result ≡ no_trailer }
-{
-    Trailer { count: 0, total: 0 }
 }
 
 // The values of the record that it is; those of the other two, and all of a refused one, are zeros.
-pub(crate) fn c_record(d: record::Decoded) -> CRecord
-    ensures { result ≡ c_record_of d }
-{
-    match d {
-        record::Decoded::Header(h) => CRecord {
-            answer: c_answer(Answer::Accepted),
-            letter: 65,
-            header: h,
-            payment: no_c_payment(),
-            trailer: no_trailer(),
-        },
-        record::Decoded::Payment(p) => CRecord {
-            answer: c_answer(Answer::Accepted),
-            letter: 71,
-            header: no_header(),
-            payment: c_payment(p),
-            trailer: no_trailer(),
-        },
-        record::Decoded::Trailer(t) => CRecord {
-            answer: c_answer(Answer::Accepted),
-            letter: 90,
-            header: no_header(),
-            payment: no_c_payment(),
-            trailer: t,
-        },
-        record::Decoded::Refused(why, place) => CRecord {
-            answer: c_answer(Answer::Refused(why, place)),
+impl From<record::Decoded> for CRecord {
+    ghost from_gives = { λ d c. c ≡ c_record_of d };
+
+    fn from(d: record::Decoded) -> CRecord {
+        let none = CRecord {
+            answer: CAnswer::from(d.map(|_| ())),
             letter: 0,
-            header: no_header(),
-            payment: no_c_payment(),
-            trailer: no_trailer(),
-        },
+            header: Header::default(),
+            payment: CPayment::default(),
+            trailer: Trailer::default(),
+        };
+        match d {
+            Ok(Contents::Header(header)) => CRecord {
+                letter: u64::from(a::LETTER),
+                header,
+                ..none
+            },
+            Ok(Contents::Payment(payment)) => CRecord {
+                letter: u64::from(g::LETTER),
+                payment: CPayment::from(payment),
+                ..none
+            },
+            Ok(Contents::Trailer(trailer)) => CRecord {
+                letter: u64::from(z::LETTER),
+                trailer,
+                ..none
+            },
+            Err(_) => none,
+        }
     }
 }
 
@@ -203,24 +146,25 @@ fn stage_number(s: Stage) -> u64
 }
 
 // A writer from its form, whatever the number of its stage.
-pub(crate) fn writer_from_c(p: CWriter) -> Writer
-    ensures { result ≡ writer_of p }
-{
-    let file = p.file;
-    Writer {
-        stage: stage_from_number(p.stage),
-        file,
+impl From<CWriter> for Writer {
+    ghost from_gives = { λ p w. w ≡ writer_of p };
+
+    fn from(p: CWriter) -> Writer {
+        Writer {
+            stage: stage_from_number(p.stage),
+            file: p.file,
+        }
     }
 }
 
 // A writer in its form.
-pub(crate) fn c_writer(w: Writer) -> CWriter
-    ensures { result ≡ c_writer_of w }
-{
-    let stage = w.stage;
-    let file = w.file;
-    CWriter {
-        stage: stage_number(stage),
-        file,
+impl From<Writer> for CWriter {
+    ghost from_gives = { λ w p. p ≡ c_writer_of w };
+
+    fn from(w: Writer) -> CWriter {
+        CWriter {
+            stage: stage_number(w.stage),
+            file: w.file,
+        }
     }
 }

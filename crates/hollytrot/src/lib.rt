@@ -43,9 +43,12 @@ pub use writers::{
     hollytrot_writer_trailer,
 };
 
+// The structs from here on are those of include/hollytrot.h: an answer beside its value and a number for an enum, since
+// C has no Result.
+
 // An answer: number 0 and place 0 if accepted, else the refusal's number (SPEC.md, "Refusals") and its place.
 #[repr(C)]
-#[derive(Clone, Copy)]
+#[derive(Clone, Copy, Debug, PartialEq, Eq)]
 pub struct CAnswer {
     pub number: u64,
     pub place: usize,
@@ -53,7 +56,7 @@ pub struct CAnswer {
 
 // A part of the caller's bytes: its offset, counted from 0, and its length. The empty part is 0 and 0.
 #[repr(C)]
-#[derive(Clone, Copy)]
+#[derive(Clone, Copy, Debug, PartialEq, Eq)]
 pub struct CPart {
     pub from: usize,
     pub length: usize,
@@ -61,7 +64,7 @@ pub struct CPart {
 
 // The fields of a barcode; the due date is all zeros if there is none.
 #[repr(C)]
-#[derive(Clone, Copy)]
+#[derive(Clone, Copy, Debug, Default, PartialEq, Eq)]
 pub struct CFields {
     pub kind: u64,
     pub value: u64,
@@ -71,7 +74,7 @@ pub struct CFields {
 
 // The fields are all zeros if the answer is a refusal.
 #[repr(C)]
-#[derive(Clone, Copy)]
+#[derive(Clone, Copy, Debug, PartialEq, Eq)]
 pub struct CDecoded {
     pub answer: CAnswer,
     pub fields: CFields,
@@ -79,7 +82,7 @@ pub struct CDecoded {
 
 // `received` and `tariff` are centavos.
 #[repr(C)]
-#[derive(Clone, Copy)]
+#[derive(Clone, Copy, Debug, Default, PartialEq, Eq)]
 pub struct CPayment {
     pub paid: Date,
     pub credited: Date,
@@ -92,7 +95,7 @@ pub struct CPayment {
 // `letter`, the record's first byte, says which of the three has its values; the other two are all zeros. It is 0, and
 // all three are zeros, if the answer is a refusal.
 #[repr(C)]
-#[derive(Clone, Copy)]
+#[derive(Clone, Copy, Debug, PartialEq, Eq)]
 pub struct CRecord {
     pub answer: CAnswer,
     pub letter: u64,
@@ -103,7 +106,7 @@ pub struct CRecord {
 
 // A writer: `stage` is 0 before the header and 1 in an open file; every other number is a closed file.
 #[repr(C)]
-#[derive(Clone, Copy)]
+#[derive(Clone, Copy, Debug, PartialEq, Eq)]
 pub struct CWriter {
     pub stage: u64,
     pub file: File,
@@ -111,7 +114,7 @@ pub struct CWriter {
 
 // The writer after the call; the given one, as it was, if the answer is a refusal.
 #[repr(C)]
-#[derive(Clone, Copy)]
+#[derive(Clone, Copy, Debug, PartialEq, Eq)]
 pub struct CWriteResult {
     pub answer: CAnswer,
     pub writer: CWriter,
@@ -119,7 +122,7 @@ pub struct CWriteResult {
 
 // The session after the call; the given one, as it was, if the answer is a refusal.
 #[repr(C)]
-#[derive(Clone, Copy)]
+#[derive(Clone, Copy, Debug, PartialEq, Eq)]
 pub struct CTakeResult {
     pub answer: CAnswer,
     pub session: Session,
@@ -127,7 +130,7 @@ pub struct CTakeResult {
 
 // The session after the accepted records, how many they are, how many files they closed, and how many bytes they had.
 #[repr(C)]
-#[derive(Clone, Copy)]
+#[derive(Clone, Copy, Debug, PartialEq, Eq)]
 pub struct CRunResult {
     pub answer: CAnswer,
     pub session: Session,
@@ -138,7 +141,7 @@ pub struct CRunResult {
 
 // How many bytes of the buffer are the page; 0 if the answer is a refusal.
 #[repr(C)]
-#[derive(Clone, Copy)]
+#[derive(Clone, Copy, Debug, PartialEq, Eq)]
 pub struct CPageResult {
     pub answer: CAnswer,
     pub length: usize,

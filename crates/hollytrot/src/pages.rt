@@ -3,7 +3,7 @@ ghost use Rattle.std.specs.Prelude.{◌≡◌};
 ghost use Rattle.page.specs.Pages.{page_of, print_result_of, bytes_with};
 ghost use Rattle.hollytrot.specs.Forms.{c_page_result_of};
 
-use crate::{CAnswer, CPageResult, forms};
+use crate::{CAnswer, CPageResult};
 use board::Board;
 
 // Writes the page of an answer, two counts and a board into `out`, 10657 bytes, and returns the page's length; the
@@ -24,9 +24,8 @@ pub extern "C" fn hollytrot_page(
         ≡ bytes_with (page_of answer.number answer.place records files board) out.old }
 {
     let printed = page::print(answer.number, answer.place, records, files, board, out);
-    let a = printed.answer;
     CPageResult {
-        answer: forms::c_answer(a),
-        length: printed.length,
+        answer: CAnswer::from(printed.map(|_| ())),
+        length: printed.unwrap_or(0),
     }
 }

@@ -17,7 +17,7 @@ use crate::{CAnswer, CPart, CRecord, forms};
 pub extern "C" fn hollytrot_record_check(rec: &[u8], version: u64, agreed: &[u64]) -> CAnswer
     ensures { result ≡ c_answer_of (record_check (told version agreed.now) rec.now) }
 {
-    forms::c_answer(record::check(rec, version, agreed))
+    CAnswer::from(record::check(rec, version, agreed))
 }
 
 // The same answer, with the values of an accepted record.
@@ -25,7 +25,7 @@ pub extern "C" fn hollytrot_record_check(rec: &[u8], version: u64, agreed: &[u64
 pub extern "C" fn hollytrot_record_decode(rec: &[u8], version: u64, agreed: &[u64]) -> CRecord
     ensures { result ≡ c_record_of (decoded_record (told version agreed.now) rec.now) }
 {
-    forms::c_record(record::decode(rec, version, agreed))
+    CRecord::from(record::decode(rec, version, agreed))
 }
 
 // Where a field of an accepted record is, by its row in the table of fields. The empty part if the record or the list
@@ -61,5 +61,5 @@ pub extern "C" fn hollytrot_record_join(
         ≡ if_accepted (join_check (told version agreed.now) rec.now (length out.old))
         (joined_in (named_by (get_or rec.now 0 0)) rec.now) out.old }
 {
-    forms::c_answer(fields::join(rec, version, agreed, out))
+    CAnswer::from(fields::join(rec, version, agreed, out))
 }

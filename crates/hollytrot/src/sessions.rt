@@ -1,10 +1,12 @@
 // Exports for a session, a value that the caller holds: each call returns the session after it.
 ghost use Rattle.std.specs.Prelude.{◌≡◌};
+ghost use Rattle.answer.specs.Answers.{answer_of, state_behind};
 ghost use Rattle.session.specs.Sessions.{session_limits, fresh_session, take_of, abandon_of, finish_of};
 ghost use Rattle.session.specs.Runs.{run_of};
-ghost use Rattle.hollytrot.specs.Forms.{c_take_result_of, c_run_result_of};
+ghost use Rattle.hollytrot.specs.Forms.{c_answer_of, c_take_result_of, c_run_result_of};
 
-use crate::{CRunResult, CTakeResult, forms};
+use crate::{CAnswer, CRunResult, CTakeResult};
+use answer::Refusal;
 use board::Board;
 use session::{Limits, Session};
 
@@ -34,7 +36,7 @@ pub extern "C" fn hollytrot_session_take(
 ) -> CTakeResult
     ensures { result ≡ c_take_result_of (take_of agreed.now session rec.now) }
 {
-    c_take_result(session.take(rec, agreed))
+    c_take_result(session, session.take(rec, agreed))
 }
 
 // Takes records that follow each other, each with CR and LF behind it in a lined file, up to the first refused one;
@@ -55,7 +57,7 @@ pub extern "C" fn hollytrot_session_run(
     let answer = ran.answer;
     let after = ran.session;
     CRunResult {
-        answer: forms::c_answer(answer),
+        answer: CAnswer::from(answer),
         session: after,
         records: ran.records,
         files: ran.files,
@@ -76,7 +78,7 @@ pub extern "C" fn hollytrot_session_abandon(session: Session) -> Session
 pub extern "C" fn hollytrot_session_finish(session: Session) -> CTakeResult
     ensures { result ≡ c_take_result_of (finish_of session) }
 {
-    c_take_result(session.finish())
+    c_take_result(session, session.finish())
 }
 
 // The board shown, of accepted files only. It is the session's member `shown`.
@@ -87,13 +89,12 @@ pub extern "C" fn hollytrot_session_board(session: Session) -> Board
     session.shown
 }
 
-fn c_take_result(t: session::TakeResult) -> CTakeResult
-    ensures { result ≡ c_take_result_of t }
+// A refusal returns the given session.
+fn c_take_result(given: Session, taken: Result<Session, Refusal>) -> CTakeResult
+    ensures { result ≡ record { answer = c_answer_of (answer_of taken); session = state_behind given taken } }
 {
-    let answer = t.answer;
-    let after = t.session;
     CTakeResult {
-        answer: forms::c_answer(answer),
-        session: after,
+        answer: CAnswer::from(taken.map(|_| ())),
+        session: taken.unwrap_or(given),
     }
 }

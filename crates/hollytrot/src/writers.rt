@@ -1,12 +1,13 @@
 // Exports for the writer of one return file, a value that the caller holds: each call returns the writer after it.
 ghost use Rattle.std.specs.Prelude.{◌≡◌, length};
+ghost use Rattle.answer.specs.Answers.{answer_of};
 ghost use Rattle.answer.specs.Orders.{if_accepted};
 ghost use Rattle.file.specs.Forms.{in_form};
 ghost use Rattle.writer.specs.Writers as writers;
-ghost use Rattle.hollytrot.specs.Forms.{writer_of, c_writer_of, c_write_result_of};
+ghost use Rattle.hollytrot.specs.Forms.{c_answer_of, writer_of, c_writer_of, writer_behind, c_write_result_of};
 
-use crate::{CWriteResult, CWriter, forms};
-use answer::Answer;
+use crate::{CAnswer, CWriteResult, CWriter};
+use answer::Refusal;
 use writer::Writer;
 
 // A writer that has written nothing.
@@ -14,7 +15,7 @@ use writer::Writer;
 pub extern "C" fn hollytrot_writer_new() -> CWriter
     ensures { result ≡ c_writer_of writers.fresh_writer }
 {
-    forms::c_writer(Writer::new())
+    CWriter::from(Writer::new())
 }
 
 // Writes the A from its 80 field bytes into `out`: 150 bytes for a bare file, 152 for a lined one, whose records all
@@ -33,7 +34,7 @@ pub extern "C" fn hollytrot_writer_header(
         (in_form (writers.is_lined_buffer (length out.old)) (writers.header_bytes fields.now))
         out.old }
 {
-    let w = forms::writer_from_c(writer);
+    let w = Writer::from(writer);
     c_write_result(writer, w.header(fields, out))
 }
 
@@ -60,7 +61,7 @@ pub extern "C" fn hollytrot_writer_payment(
         (writers.payment_bytes fields.now received tariff))
         out.old }
 {
-    let w = forms::writer_from_c(writer);
+    let w = Writer::from(writer);
     c_write_result(writer, w.payment(fields, received, tariff, agreed, out))
 }
 
@@ -74,24 +75,25 @@ pub extern "C" fn hollytrot_writer_trailer(writer: CWriter, out: &mut [u8]) -> C
         (in_form (writers.is_lined_buffer (length out.old)) (writers.trailer_bytes (writer_of writer)))
         out.old }
 {
-    let w = forms::writer_from_c(writer);
+    let w = Writer::from(writer);
     c_write_result(writer, w.trailer(out))
 }
 
-// A refusal returns the given writer itself: made anew from `writer_from_c` it could have another `stage` number.
-fn c_write_result(given: CWriter, w: writer::WriteResult) -> CWriteResult
-    ensures { result ≡ c_write_result_of given w }
+// A refusal returns the given writer itself: made anew from a Writer it could have another `stage` number.
+fn c_write_result(given: CWriter, written: Result<Writer, Refusal>) -> CWriteResult
+    ensures { result ≡ record {
+      answer = c_answer_of (answer_of written);
+      writer = writer_behind given written;
+    } }
 {
-    let a = w.answer;
-    let after = w.writer;
-    match a {
-        Answer::Refused(_, _) => CWriteResult {
-            answer: forms::c_answer(a),
-            writer: given,
+    match written {
+        Ok(after) => CWriteResult {
+            answer: CAnswer::from(Ok(())),
+            writer: CWriter::from(after),
         },
-        Answer::Accepted => CWriteResult {
-            answer: forms::c_answer(a),
-            writer: forms::c_writer(after),
+        Err(refusal) => CWriteResult {
+            answer: CAnswer::from(Err(refusal)),
+            writer: given,
         },
     }
 }

@@ -84,19 +84,19 @@ pub record ExportRefusals : Type 2 where
       (λ κs r. r.number ≡ 0) (λ κs. fourth) (λ κs given. fourth)
   pub hollytrot_c·hollytrot_session_take :
       KeepsState c.sessions.hollytrot_session_take.ended (λ M 𝓤. c.sessions.hollytrot_session_take.clauses)
-      (λ κs r. r.answer.number ≡ 0) (λ κs. first) (λ κs r. r.session)
+      (λ κs r. r.answer.number ≡ 0) (λ κs. first) (λ κs given r. r.session)
   pub hollytrot_c·hollytrot_session_finish :
       KeepsState c.sessions.hollytrot_session_finish.ended (λ M 𝓤. c.sessions.hollytrot_session_finish.clauses)
-      (λ κs r. r.answer.number ≡ 0) (λ κs. first) (λ κs r. r.session)
+      (λ κs r. r.answer.number ≡ 0) (λ κs. first) (λ κs given r. r.session)
   pub hollytrot_c·hollytrot_writer_header :
       KeepsBoth c.writers.hollytrot_writer_header.ended (λ M 𝓤. c.writers.hollytrot_writer_header.clauses)
-      (λ κs r. r.answer.number ≡ 0) (λ κs. first) (λ κs r. r.writer) (λ κs. third) (λ κs given. third)
+      (λ κs r. r.answer.number ≡ 0) (λ κs. first) (λ κs given r. r.writer) (λ κs. third) (λ κs given. third)
   pub hollytrot_c·hollytrot_writer_payment :
       KeepsBoth c.writers.hollytrot_writer_payment.ended (λ M 𝓤. c.writers.hollytrot_writer_payment.clauses)
-      (λ κs r. r.answer.number ≡ 0) (λ κs. first) (λ κs r. r.writer) (λ κs. sixth) (λ κs given. sixth)
+      (λ κs r. r.answer.number ≡ 0) (λ κs. first) (λ κs given r. r.writer) (λ κs. sixth) (λ κs given. sixth)
   pub hollytrot_c·hollytrot_writer_trailer :
       KeepsBoth c.writers.hollytrot_writer_trailer.ended (λ M 𝓤. c.writers.hollytrot_writer_trailer.clauses)
-      (λ κs r. r.answer.number ≡ 0) (λ κs. first) (λ κs r. r.writer) (λ κs. second) (λ κs given. second)
+      (λ κs r. r.answer.number ≡ 0) (λ κs. first) (λ κs given r. r.writer) (λ κs. second) (λ κs given. second)
   pub hollytrot_c·hollytrot_page :
       KeepsBuffer c.pages.hollytrot_page.ended (λ M 𝓤. c.pages.hollytrot_page.clauses)
       (λ κs r. r.answer.number ≡ 0) (λ κs. fifth) (λ κs given. fifth)

@@ -1,53 +1,32 @@
 -- Laws of the kinds of fields. Assumes nothing.
-use Prim.Native.Nat.{ℕ, suc, ◌+◌, ◌≤◌, ◌<◌}
-use mathlib.Core.Bool.{Bool, true, false, cond, ◌&&◌, and-eq-true_iff, and-false}
+use Rattle.std.specs.Prelude.{None, Some}
+use Prim.Native.Nat.{ℕ, ◌≤◌}
+use mathlib.Core.Bool.{Bool, true, false, cond, ◌&&◌, and-eq-true_iff}
 use mathlib.Core.List.{List, [], ◌∷◌}
-use mathlib.Core.Path.{◌≡◌, refl, sym, ap, ◌∙◌}
-use native.Mathlib.Numerals.{add-one}
+use mathlib.Core.Path.{◌≡◌, refl}
 use native.Mathlib.Omega.{arith}
-use borrow.Author.Tests.{eq-eqb, ne_eqb, eqb-true}
+use borrow.Author.Tests.{eqb-true}
 use lib.Dec.{eqb}
-use lib.ListN.{length, get_or, drop, drop_of_length-le}
-use lib.Seq.{drop-cons}
+use lib.ListN.{length, get_or}
 use Rattle.answer.specs.declared.Reason.{Reason}
 use Rattle.answer.specs.declared.Reason.TheVariants.{NoDigit, NoText, FixedDiffers, NoDate, UnknownCode}
-use Rattle.answer.specs.declared.Answer.TheVariants.{Accepted, Refused}
+use Rattle.answer.specs.Answers.{Accepted}
 use Rattle.answer.specs.Refusals.{answer_place}
-use Rattle.answer.specs.Orders.{require, ◌then◌}
+use Rattle.answer.specs.Orders.{require}
 use Rattle.answer.proofs.Orders.{require_place, then_place}
 use Rattle.decimal.specs.declared.Class.TheVariants as class
 use Rattle.decimal.specs.declared.Class.TheVariants.{Digit}
 use Rattle.decimal.specs.Bytes.{is_of, all, each_is}
 use Rattle.decimal.proofs.Bytes.{each_accepts, each_place}
 use Rattle.calendar.specs.declared.Date.{Date}
-use Rattle.calendar.specs.declared.MaybeDate.TheVariants.{On, NoDate as none}
 use Rattle.calendar.specs.Dates.{is_date, spelled, date_of, is_found}
 use Rattle.barcode.proofs.Lists.{under_place}
 use Rattle.layout.specs.declared.Kind.{Kind}
 use Rattle.layout.specs.declared.Kind.TheVariants as kind
 use Rattle.kinds.specs.Terms.{Terms}
-use Rattle.kinds.specs.Kinds.{same, is_version_text, service_of, is_spelling, is_service, date_answer, is_capture, is_form, kind_answer}
+use Rattle.kinds.specs.Kinds.{same, is_version_text, is_service, date_answer, is_capture, is_form, kind_answer}
 
--- A loop that compares two lists, at byte i: the bytes are the same, they differ, there are none left.
-module _ (xs bs : List ℕ) (i : ℕ) where
-  pub same_later : {r : Bool} → i < length xs → i < length bs → get_or xs i 0 ≡ get_or bs i 0
-      → same (drop i xs) (drop i bs) ≡ r
-      → same (drop (i + 1) xs) (drop (i + 1) bs) ≡ r
-  same_later h k e q = rw add-one (rw (drop-cons xs i 0 h, drop-cons bs i 0 k, eq-eqb _ _ e) at q)
-
-  pub same_here : {r : Bool} → i < length xs → i < length bs → (get_or xs i 0 ≡ get_or bs i 0 → ⊥)
-      → same (drop i xs) (drop i bs) ≡ r → false ≡ r
-  same_here h k e q = rw (drop-cons xs i 0 h, drop-cons bs i 0 k, ne_eqb _ _ e) at q
-
-  pub same_end : {r : Bool} → length xs ≤ i → length bs ≤ i → same (drop i xs) (drop i bs) ≡ r → true ≡ r
-  same_end h k q = rw (drop_of_length-le xs h, drop_of_length-le bs k) at q
-
-pub same_not : (xs bs : List ℕ) → (length xs ≡ length bs → ⊥) → false ≡ same xs bs
-same_not [] [] h = absurd (h refl)
-same_not [] (b ∷ bs) h = refl
-same_not (a ∷ xs) [] h = refl
-same_not (a ∷ xs) (b ∷ bs) h = rw (sym (same_not xs bs (λ e. h (ap suc e))), and-false)
-
+-- lists that are the same are equal
 pub same_equal : (xs bs : List ℕ) → same xs bs ≡ true → xs ≡ bs
 same_equal [] [] t = refl
 same_equal [] (b ∷ bs) t = cc
@@ -57,24 +36,19 @@ same_equal (a ∷ xs) (b ∷ bs) t =
     rw (eqb-true a b both.0, same_equal xs bs both.1)
 
 -- a date is eight digits
-dated_digits : (bs : List ℕ) (d : Date) → date_of bs ≡ On d → all (is_of Digit) bs ≡ true
+dated_digits : (bs : List ℕ) (d : Date) → date_of bs ≡ Some d → all (is_of Digit) bs ≡ true
 unfolding date_of
 dated_digits bs d e = go (eqb (length bs) 8 && (all (is_of Digit) bs && is_date (spelled bs))) refl e
   where
     go : (t : Bool) → (eqb (length bs) 8 && (all (is_of Digit) bs && is_date (spelled bs))) ≡ t
-        → cond t (On (spelled bs)) none ≡ On d
+        → cond t (Some (spelled bs)) None ≡ Some d
         → all (is_of Digit) bs ≡ true
     go true h q = ((and-eq-true_iff (all (is_of Digit) bs) (is_date (spelled bs))).0 ((and-eq-true_iff (eqb (length bs) 8) (all (is_of Digit) bs && is_date (spelled bs))).0 h).1).0
     go false h q = let z : ◌≡◌ {A = ℕ} 0 1 = cc in absurd (omega arith)
 
-pub date_accepted : (bs : List ℕ) (d : Date) → date_of bs ≡ On d → Accepted ≡ date_answer bs
+pub date_accepted : (bs : List ℕ) (d : Date) → date_of bs ≡ Some d → Accepted ≡ date_answer bs
 unfolding date_answer
 date_accepted bs d e = rw ((each_accepts (is_of Digit) NoDigit 1 bs).1 (dated_digits bs d e), e)
-
-pub no_date : (bs : List ℕ) → date_of bs ≡ none
-    → each_is (is_of Digit) NoDigit 1 bs then Refused NoDate 1 ≡ date_answer bs
-unfolding date_answer
-no_date bs e = rw e
 
 -- no place of an answer is far past a field of a record
 at_first : (t : Bool) (why : Reason) → answer_place (require t why 1) ≤ 151
@@ -97,15 +71,3 @@ kind_place t kind.Date bs h =
 kind_place t kind.Barcode bs h = omega (arith, under_place t.agreed bs)
 kind_place t kind.Capture bs h = at_first (is_capture t.version (get_or bs 0 0)) UnknownCode
 kind_place t kind.Form bs h = at_first (is_form t.version (get_or bs 0 0)) UnknownCode
-
--- The service field, by its second byte.
-module _ (bs : List ℕ) {s : ℕ} {t : Bool} (second : s ≡ get_or bs 1 0) (spelled : t ≡ is_spelling s) where
-  pub no_service : t ≡ false → false ≡ is_service bs
-  unfolding is_service
-  no_service e = let f : is_spelling (get_or bs 1 0) ≡ false = ap is_spelling (sym second) ∙ sym spelled ∙ e in rw f
-
-  pub service_same : {u : Bool} → t ≡ true → u ≡ same bs (service_of s) → u ≡ is_service bs
-  unfolding is_service
-  service_same e q =
-      let f : is_spelling (get_or bs 1 0) ≡ true = ap is_spelling (sym second) ∙ sym spelled ∙ e in
-      rw f (q ∙ ap (λ (x : ℕ). same bs (service_of x)) second)

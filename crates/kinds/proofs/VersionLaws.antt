@@ -9,8 +9,7 @@ use borrow.Author.Tests.{eqb-true, le-leb}
 use lib.Dec.{eqb, lit≤}
 use lib.ListN.{length, get_or}
 use Rattle.answer.specs.declared.Reason.TheVariants.{NoDigit, NoText, FixedDiffers, UnknownCode}
-use Rattle.answer.specs.declared.Answer.{Answer}
-use Rattle.answer.specs.declared.Answer.TheVariants.{Accepted}
+use Rattle.answer.specs.Answers.{Answer, Accepted}
 use Rattle.answer.specs.Orders.{require, ◌then◌}
 use Rattle.answer.proofs.Orders.{require_accepts, then_accepted}
 use Rattle.answer.proofs.Tests.{or_cases, unequal}

@@ -1,7 +1,7 @@
 -- What each kind of field may hold (SPEC.md, "Records" and "Field bytes"). Assumes nothing.
 use Rattle.std.specs.Prelude.{ℕ, ◌+◌, Bool, true, false, ◌&&◌, ◌||◌, List, [], ◌∷◌, ◌↔◌, ◌⊎◌, ◌≡◌, eqb, length, get_or}
 use Rattle.answer.specs.declared.Reason.TheVariants.{NoDigit, NoText, FixedDiffers, NoDate, UnknownCode}
-use Rattle.answer.specs.declared.Answer.{Answer}
+use Rattle.answer.specs.Answers.{Answer}
 use Rattle.answer.specs.Orders.{require, ◌then◌}
 use Rattle.decimal.specs.declared.Class.TheVariants as class
 use Rattle.decimal.specs.Bytes.{within, is_of, all, each_is}
@@ -9,8 +9,7 @@ use Rattle.decimal.specs.Numbers.{number_of}
 use Rattle.calendar.specs.Dates.{date_of, is_found}
 use Rattle.barcode.specs.Agreed.{barcode_under}
 use Rattle.layout.specs.declared.Kind.{Kind}
-use Rattle.layout.specs.declared.Kind.TheVariants.{Mark, Version, Service, Blank, Text, Digits, Money, Date, Barcode}
-use Rattle.layout.specs.declared.Kind.TheVariants.{Capture, Form}
+use Rattle.layout.specs.declared.Kind.TheVariants.{Mark, Version, Service, Blank, Text, Digits, Money, Date, Barcode, Capture, Form}
 use Rattle.kinds.specs.Terms.{Terms, is_version, captures_of, forms_of}
 
 -- two lists of bytes are the same

@@ -3,7 +3,7 @@ ghost use Rattle.std.specs.Prelude.{◌≤◌, ◌≡◌};
 ghost use Rattle.kinds.specs.Terms.{is_version, version_answer};
 ghost use Rattle.kinds.specs.Kinds.{is_capture_among, is_capture, is_form};
 
-use answer::{Answer, Reason};
+use answer::{Answer, Reason, require};
 use layout::{Record, a};
 
 const VERSION_04: u64 = 4;
@@ -55,17 +55,12 @@ pub fn is_form(b: u8, version: u64) -> bool
 
 // Whether a record can be read or written under this version: a G is refused 10, at the version's place in a header,
 // for a number other than 4 and 6; a header and a trailer ignore it.
+#[tactic(auto, unfolding(crate::specs::Terms::version_answer))]
 pub fn check_version(which: Record, version: u64) -> Answer
     ensures { result ≡ version_answer version which }
 {
     match which {
-        Record::Header => Answer::Accepted,
-        Record::Payment => {
-            if is_version(version) {
-                return Answer::Accepted;
-            }
-            Answer::Refused(Reason::FixedDiffers, a::VERSION.first)
-        }
-        Record::Trailer => Answer::Accepted,
+        Record::Payment => { require(is_version(version), Reason::FixedDiffers, a::VERSION.first) }
+        Record::Header | Record::Trailer => Ok(()),
     }
 }

@@ -6,8 +6,8 @@ use mathlib.Core.Path.{◌≡◌, refl, sym}
 use native.Mathlib.Omega.{arith}
 use borrow.Author.Tests.{leb-true, eqb-true}
 use lib.Dec.{leb, eqb}
-use lib.ListN.{length, get_or, drop, drop_of_length-le, take-append-drop}
-use lib.Seq.{slice, drop-drop}
+use lib.ListN.{length, get_or, take, drop, drop_of_length-le, take-append-drop}
+use lib.Seq.{drop-drop}
 use Rattle.decimal.specs.Places.{gather}
 use Rattle.layout.specs.declared.Field.{Field}
 use Rattle.layout.specs.declared.Record.{Record}
@@ -80,7 +80,7 @@ pub record_is_its_fields : RecordIsItsFields
 record_is_its_fields r rec k = joined_from (layout_of r) 1 rec (omega arith) k (fields_cover r)
 
 -- the rows of each record in the table
-pub rows_are : (r : Record) → slice (rows_of r).from (rows_of r).to table ≡ layout_of r
+pub rows_are : (r : Record) → take ((rows_of r).end - (rows_of r).start) (drop (rows_of r).start table) ≡ layout_of r
 unfolding rows_of table layout_of
 rows_are Header = refl
 rows_are Payment = refl

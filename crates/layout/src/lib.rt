@@ -8,24 +8,19 @@ pub mod z;
 ghost use Rattle.std.specs.Prelude.{◌≡◌};
 ghost use Rattle.layout.specs.Layouts.{table, row_at, named_by, rows_of, given_of, given_length};
 
+use std::ops::Range;
+
 // The header, A, the payment, G, and the trailer, Z.
-#[derive(Clone, Copy)]
+#[derive(Clone, Copy, Debug, PartialEq, Eq)]
 pub enum Record {
     Header,
     Payment,
     Trailer,
 }
 
-// What the first byte of a record names.
-#[derive(Clone, Copy)]
-pub enum MaybeRecord {
-    Is(Record),
-    Other,
-}
-
 // What a field holds (crate kinds checks it): `Mark` this one byte, `Version` a version of the layout, `Service` the
 // name of the service, `Capture` and `Form` one byte that says how the payment was taken in and made.
-#[derive(Clone, Copy)]
+#[derive(Clone, Copy, Debug, PartialEq, Eq)]
 pub enum Kind {
     Mark(u8),
     Version,
@@ -41,25 +36,11 @@ pub enum Kind {
 }
 
 // A field of a record, from its first place to its last; places count from 1.
-#[derive(Clone, Copy)]
+#[derive(Clone, Copy, Debug, PartialEq, Eq)]
 pub struct Field {
     pub first: usize,
     pub last: usize,
     pub kind: Kind,
-}
-
-// Rows of the table, from `from` up to `to`, which is not included.
-#[derive(Clone, Copy)]
-pub struct Rows {
-    pub from: usize,
-    pub to: usize,
-}
-
-// A part of a field, from index `from` up to `to`, which is not included.
-#[derive(Clone, Copy)]
-pub struct Given {
-    pub from: usize,
-    pub to: usize,
 }
 
 // How many bytes a record has.
@@ -121,44 +102,41 @@ pub fn row(i: usize) -> Field
     }
 }
 
-// The record that a first byte names; `Other` for any byte but A, G and Z.
-pub fn named_by(mark: u8) -> MaybeRecord
+// The record that a first byte names; none for any byte but A, G and Z.
+#[tactic(auto, unfolding(crate::specs::Layouts::named_by))]
+pub fn named_by(mark: u8) -> Option<Record>
     ensures { result ≡ named_by mark }
 {
-    if mark == a::LETTER {
-        return MaybeRecord::Is(Record::Header);
+    match mark {
+        a::LETTER => Some(Record::Header),
+        g::LETTER => Some(Record::Payment),
+        z::LETTER => Some(Record::Trailer),
+        _ => None,
     }
-    if mark == g::LETTER {
-        return MaybeRecord::Is(Record::Payment);
-    }
-    if mark == z::LETTER {
-        return MaybeRecord::Is(Record::Trailer);
-    }
-    MaybeRecord::Other
 }
 
 // The rows of the table that are a record's fields.
-pub fn rows_of(which: Record) -> Rows
+pub fn rows_of(which: Record) -> Range<usize>
     ensures { result ≡ rows_of which }
 {
     match which {
-        Record::Header => Rows { from: 0, to: 11 },
-        Record::Payment => Rows { from: 11, to: 24 },
-        Record::Trailer => Rows { from: 24, to: 28 },
+        Record::Header => 0..11,
+        Record::Payment => 11..24,
+        Record::Trailer => 24..28,
     }
 }
 
 // The part of a field, of this kind and this many bytes, that a caller of the writer gives as bytes: all of it, but
 // nothing of what is fixed or money, and of the service field the second byte.
-pub fn given_of(kind: Kind, width: usize) -> Given
+pub fn given_of(kind: Kind, width: usize) -> Range<usize>
     ensures { result ≡ given_of kind width }
 {
-    let none = Given { from: 0, to: 0 };
-    let all = Given { from: 0, to: width };
+    let none = 0..0;
+    let all = 0..width;
     match kind {
         Kind::Mark(_) => none,
         Kind::Version => all,
-        Kind::Service => Given { from: 1, to: 2 },
+        Kind::Service => 1..2,
         Kind::Blank => none,
         Kind::Text => all,
         Kind::Digits => all,

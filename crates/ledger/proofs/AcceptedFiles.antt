@@ -1,17 +1,16 @@
 -- What is accepted is right by itself, was expected, and has the form of its file. Assumes nothing.
+use Rattle.std.specs.Prelude.{None, Option, Some}
 use Prim.Native.Nat.{ℕ}
 use mathlib.Core.Bool.{Bool, true, false, not}
 use mathlib.Core.List.{List, [], ◌∷◌, ◌++◌, map}
 use mathlib.Core.Path.{◌≡◌, refl, sym, ap, ap₂, ◌∙◌}
 use lib.ListN.{length, get_or}
 use Rattle.answer.specs.declared.Reason.TheVariants.{WrongLength, NotExpected}
-use Rattle.answer.specs.declared.Answer.TheVariants.{Accepted}
+use Rattle.answer.specs.Answers.{Accepted}
 use Rattle.answer.specs.Orders.{Each}
 use Rattle.answer.proofs.Orders.{then_accepts, accepted_takes}
 use Rattle.answer.proofs.Steps.{passed}
 use Rattle.answer.proofs.Tests.{never, unequal}
-use Rattle.layout.specs.declared.MaybeRecord.{MaybeRecord}
-use Rattle.layout.specs.declared.MaybeRecord.TheVariants.{Is, Other}
 use Rattle.layout.specs.declared.Record.{Record}
 use Rattle.layout.specs.declared.Record.TheVariants.{Header, Payment, Trailer}
 use Rattle.layout.specs.Layouts.{record_length, named_by}
@@ -22,9 +21,8 @@ use Rattle.record.specs.Values.{version_in, record_shown, shown_unless_refused}
 use Rattle.file.specs.Forms.{in_form, body_of, has_line_end, fits_length, end_answer, is_taken_lined}
 use Rattle.file.proofs.Forms.{first_in, fitting_is_in_form}
 use Rattle.session.specs.declared.Session.{Session}
-use Rattle.session.specs.declared.TakeResult.{TakeResult}
+use Rattle.session.specs.Sessions.{TakeResult, opened_at, pair_in, session_terms, session_expects, session_with_payment, session_answer, session_with, take_result, take_answer, take_of}
 use Rattle.pairs.specs.Pairs.{memory_answer}
-use Rattle.session.specs.Sessions.{opened_at, pair_in, session_terms, session_expects, session_with_payment, session_answer, session_with, take_result, take_answer, take_of}
 use Rattle.ledger.specs.Ledgers.{lane_of_record, header_terms, taking}
 use Rattle.ledger.specs.Promises.{answers_of}
 use Rattle.ledger.specs.WholeFiles.{IsRight, all_in_form, AllAccepted, AcceptedFileIsWhole}
@@ -59,19 +57,19 @@ taken_right agreed s rec e =
       form = form.1;
     }
 
-header_expected : (m : MaybeRecord) → session_expects false m ≡ true → m ≡ Is Header
-header_expected (Is Header) e = refl
-header_expected (Is Payment) e = never e
-header_expected (Is Trailer) e = never e
-header_expected Other e = never e
+header_expected : (m : Option Record) → session_expects false m ≡ true → m ≡ Some Header
+header_expected (Some Header) e = refl
+header_expected (Some Payment) e = never e
+header_expected (Some Trailer) e = never e
+header_expected None e = never e
 
 -- the record in what was taken, by its kind
-right_body : (agreed : List ℕ) (s : Session) (r : Record) (rec : List ℕ) → TakenRight agreed s rec → named_by (get_or rec 0 0) ≡ Is r → IsRight (session_terms agreed s) r (body_of rec)
+right_body : (agreed : List ℕ) (s : Session) (r : Record) (rec : List ℕ) → TakenRight agreed s rec → named_by (get_or rec 0 0) ≡ Some r → IsRight (session_terms agreed s) r (body_of rec)
 right_body agreed s r rec h n = (h.own, ap named_by (first_in rec) ∙ n)
 
 -- in an open file of this form and version: payments that are accepted keep it open, and both
-rest_right : (agreed : List ℕ) (version : ℕ) (lined : Bool) (z : List ℕ) → named_by (get_or z 0 0) ≡ Is Trailer → (recs : List (List ℕ)) (s : Session)
-    → Each (λ (rec : List ℕ). named_by (get_or rec 0 0) ≡ Is Payment) recs → s.opened ≡ true → s.file.lined ≡ lined → s.file.version ≡ version
+rest_right : (agreed : List ℕ) (version : ℕ) (lined : Bool) (z : List ℕ) → named_by (get_or z 0 0) ≡ Some Trailer → (recs : List (List ℕ)) (s : Session)
+    → Each (λ (rec : List ℕ). named_by (get_or rec 0 0) ≡ Some Payment) recs → s.opened ≡ true → s.file.lined ≡ lined → s.file.version ≡ version
     → AllAccepted (answers_of s (map (taking agreed) (recs ++ (z ∷ []))))
     → let t = told version agreed in
     Each (IsRight t Payment) (map body_of recs) × IsRight t Trailer (body_of z)
@@ -84,7 +82,7 @@ rest_right agreed version lined z last (rec ∷ recs) s h opened form under e =
     let own = taken_right agreed s rec e.0 in
     let body = body_of rec in
     let right = right_body agreed s Payment rec own h.0 in
-    let shown = record_shown agreed (Is Payment) body in
+    let shown = record_shown agreed (Some Payment) body in
     let in-form : rec ≡ in_form lined body = rw (opened, form) at own.form in
     let takes = ap (take_of agreed s) in-form ∙ taken agreed own.list s lined Payment body right opened (λ x. sym form) in
     let accepts : session_answer s body shown ≡ Accepted = sym (ap (λ (x : TakeResult). x.answer) takes) ∙ e.0 in
@@ -98,7 +96,7 @@ accepted_file_is_whole agreed s a recs z closed payments last e =
     let own = taken_right agreed s a e.0 in
     let body = body_of a in
     let lined = has_line_end a in
-    let named : named_by (get_or a 0 0) ≡ Is Header = header_expected (named_by (get_or a 0 0)) (rw closed at own.expected) in
+    let named : named_by (get_or a 0 0) ≡ Some Header = header_expected (named_by (get_or a 0 0)) (rw closed at own.expected) in
     let right = right_body agreed s Header a own named in
     let in-form : a ≡ in_form lined body = rw closed at own.form in
     let start = opened_at s.shown s.memory (version_in body) lined (pair_in body) in

@@ -1,4 +1,5 @@
 -- A session and the ledger agree at first and after every step, so their answers are equal. Assumes nothing.
+use Rattle.std.specs.Prelude.{Err, None, Option as Maybe, Some}
 use Prim.Native.Nat.{ℕ, ◌+◌, ◌≤◌}
 use mathlib.Core.Bool.{Bool, true, false, not, false≢true}
 use mathlib.Core.List.{List, [], ◌∷◌, ◌++◌, append_assoc, append-nil}
@@ -9,14 +10,12 @@ use lib.Dec.{ltb, leb}
 use lib.ListN.{length, get_or, length-append}
 use Rattle.answer.specs.Refusals.{received_place}
 use Rattle.answer.specs.declared.Reason.TheVariants.{WrongLength, NotExpected, FileFull, FileTotalPassed}
-use Rattle.answer.specs.declared.Answer.{Answer}
-use Rattle.answer.specs.declared.Answer.TheVariants.{Accepted, Refused}
+use Rattle.answer.specs.Answers.{Answer, Accepted}
 use Rattle.answer.specs.Orders.{require, ◌then◌, if_accepted}
 use Rattle.answer.proofs.Orders.{not_both, then_accepts, then_groups}
 use Rattle.answer.proofs.Steps.{passed}
 use Rattle.answer.proofs.Tests.{never, split}
-use Rattle.layout.specs.declared.MaybeRecord.{MaybeRecord}
-use Rattle.layout.specs.declared.MaybeRecord.TheVariants.{Is, Other}
+use Rattle.layout.specs.declared.Record.{Record}
 use Rattle.layout.specs.declared.Record.TheVariants.{Header, Payment, Trailer}
 use Rattle.layout.specs.Layouts.{named_by}
 use Rattle.barcode.specs.Agreed.{list_answer}
@@ -72,20 +71,20 @@ module _ (agreed : List ℕ) (s : Session) (files : List Filed) (rec : List ℕ)
       omega (arith, ap length h.memory, in_use s.memory h.sound_memory.whole) in
       ap (λ qs. pair_answer qs (pair_in rec)) h.memory ∙ header_answer_holds files rec few
 
-  record_answer_holds : (o : Option Opened) (n : MaybeRecord) (a : Answer) → Agrees s (record { accepted = files; opened = o })
+  record_answer_holds : (o : Option Opened) (n : Maybe Record) (a : Answer) → Agrees s (record { accepted = files; opened = o })
       → require (session_expects s.opened n) NotExpected 1 then session_answer s rec (shown_unless_refused a (record_shown agreed n rec))
       ≡ require (ledger_expects o n) NotExpected 1 then a then state_answer files o n rec
-  record_answer_holds none (Is Header) Accepted h = rw h.opened (opening_answer none h)
-  record_answer_holds none (Is Header) (Refused why p) h = rw h.opened
-  record_answer_holds none (Is Payment) a h = rw h.opened
-  record_answer_holds none (Is Trailer) a h = rw h.opened
-  record_answer_holds none Other a h = refl
-  record_answer_holds (some f) (Is Header) a h = rw h.opened
-  record_answer_holds (some f) (Is Payment) Accepted h = rw h.opened (payment_answer_holds f h)
-  record_answer_holds (some f) (Is Payment) (Refused why p) h = rw h.opened
-  record_answer_holds (some f) (Is Trailer) Accepted h = rw h.opened (trailer_answer_holds f h)
-  record_answer_holds (some f) (Is Trailer) (Refused why p) h = rw h.opened
-  record_answer_holds (some f) Other a h = refl
+  record_answer_holds none (Some Header) Accepted h = rw h.opened (opening_answer none h)
+  record_answer_holds none (Some Header) (Err refusal) h = rw h.opened
+  record_answer_holds none (Some Payment) a h = rw h.opened
+  record_answer_holds none (Some Trailer) a h = rw h.opened
+  record_answer_holds none None a h = refl
+  record_answer_holds (some f) (Some Header) a h = rw h.opened
+  record_answer_holds (some f) (Some Payment) Accepted h = rw h.opened (payment_answer_holds f h)
+  record_answer_holds (some f) (Some Payment) (Err refusal) h = rw h.opened
+  record_answer_holds (some f) (Some Trailer) Accepted h = rw h.opened (trailer_answer_holds f h)
+  record_answer_holds (some f) (Some Trailer) (Err refusal) h = rw h.opened
+  record_answer_holds (some f) None a h = refl
 
 -- a record with its end
 pub answer_agrees : (agreed : List ℕ) (s : Session) (k : Ledger) (rec : List ℕ) → Agrees s k → take_answer agreed s rec ≡ ledger_answer agreed k rec
@@ -143,7 +142,7 @@ module _ (agreed : List ℕ) (s : Session) (files : List Filed) (ended : Bool) (
 
   opens : (o : Option Opened) → Agrees s (record { accepted = files; opened = o })
       → memory_answer s.memory (pair_in rec) ≡ Accepted
-      → Agrees (opened_at s.shown s.memory (version_in rec) ended (pair_in rec)) (with_record files none (Is Header) ended rec)
+      → Agrees (opened_at s.shown s.memory (version_in rec) ended (pair_in rec)) (with_record files none (Some Header) ended rec)
   opens o h e =
       let room = ((pair_accepted s.memory (pair_in rec)).0 e).1 in
       at_rest s.shown s.memory files (some (record { header = rec; payments = []; lined = ended })) h.shown h.sound_shown (remembers o h) (λ t. room) refl
@@ -164,17 +163,17 @@ module _ (agreed : List ℕ) (s : Session) (files : List Filed) (ended : Bool) (
           sound = memory_stays_sound.1 s.memory s.opening h.sound_memory;
         }
 
-    closes : Agrees (session_closed s) (with_record files (some f) (Is Trailer) ended rec)
+    closes : Agrees (session_closed s) (with_record files (some f) (Some Trailer) ended rec)
     closes =
         at_rest s.work (memory_with s.memory s.opening) (files ++ (filed_with f rec ∷ [])) none
         (rw (records_joined files (filed_with f rec ∷ []), append-nil f.payments) h.work) h.sound_work
         remembers_file never refl
 
-    more : all_records (with_record files (some f) (Is Payment) ended rec) ≡ (payment_records files ++ f.payments) ++ (rec ∷ [])
+    more : all_records (with_record files (some f) (Some Payment) ended rec) ≡ (payment_records files ++ f.payments) ++ (rec ∷ [])
     more = sym (append_assoc (payment_records files) f.payments (rec ∷ []))
 
     pays : pay_answer s (lane_of_record rec) ≡ Accepted
-        → Agrees (session_with_payment s (lane_of_record rec)) (with_record files (some f) (Is Payment) ended rec)
+        → Agrees (session_with_payment s (lane_of_record rec)) (with_record files (some f) (Some Payment) ended rec)
     pays e =
         let before = payment_records files ++ f.payments in
         let posted =
@@ -202,18 +201,18 @@ module _ (agreed : List ℕ) (s : Session) (files : List Filed) (ended : Bool) (
               with_sound s.work (lane_of_record rec) h.sound_work ((fit s.work (lane_of_record rec)).0 posted);
         }
 
-  followed : (o : Option Opened) (n : MaybeRecord) (a : Answer) → Agrees s (record { accepted = files; opened = o })
+  followed : (o : Option Opened) (n : Maybe Record) (a : Answer) → Agrees s (record { accepted = files; opened = o })
       → session_expects s.opened n ≡ true
       → session_answer s rec (shown_unless_refused a (record_shown agreed n rec)) ≡ Accepted
       → Agrees (session_with s ended rec (shown_unless_refused a (record_shown agreed n rec))) (with_record files o n ended rec)
-  followed o n (Refused why p) h x e = not_both _ refl e
-  followed o Other Accepted h x e = absurd (false≢true x)
-  followed none (Is Header) Accepted h x e = opens none h e
-  followed none (Is Payment) Accepted h x e = absurd (false≢true (sym h.opened ∙ x))
-  followed none (Is Trailer) Accepted h x e = absurd (false≢true (sym h.opened ∙ x))
-  followed (some f) (Is Header) Accepted h x e = absurd (false≢true (sym (ap not h.opened) ∙ x))
-  followed (some f) (Is Payment) Accepted h x e = pays f h e
-  followed (some f) (Is Trailer) Accepted h x e = closes f h
+  followed o n (Err refusal) h x e = not_both _ refl e
+  followed o None Accepted h x e = absurd (false≢true x)
+  followed none (Some Header) Accepted h x e = opens none h e
+  followed none (Some Payment) Accepted h x e = absurd (false≢true (sym h.opened ∙ x))
+  followed none (Some Trailer) Accepted h x e = absurd (false≢true (sym h.opened ∙ x))
+  followed (some f) (Some Header) Accepted h x e = absurd (false≢true (sym (ap not h.opened) ∙ x))
+  followed (some f) (Some Payment) Accepted h x e = pays f h e
+  followed (some f) (Some Trailer) Accepted h x e = closes f h
 
   abandoned : (o : Option Opened) → Agrees s (record { accepted = files; opened = o })
       → Agrees (abandon_of s) (record { accepted = files; opened = none })
@@ -229,7 +228,7 @@ take_agrees agreed s k rec h = rw (← check_agrees agreed s k rec h) (go (list_
   where
     go : (a : Answer) → list_answer agreed then take_answer agreed s rec ≡ a
         → Agrees (if_accepted a (next_session agreed s rec) s) (if_accepted a (next_ledger k rec) k)
-    go (Refused why p) e = h
+    go (Err refusal) e = h
     go Accepted e =
         let n = named_by (get_or rec 0 0) in
         let own = record_answer (session_terms agreed s) (body_of rec) in

@@ -1,4 +1,5 @@
 -- A session and the ledger agree after every call, a run included. Assumes nothing.
+use Rattle.std.specs.Prelude.{Err}
 use Prim.Native.Nat.{ℕ, zero, suc, ◌-◌}
 use mathlib.Core.Bool.{Bool, not}
 use mathlib.Core.List.{List, [], ◌∷◌, ◌++◌, map}
@@ -7,8 +8,7 @@ use mathlib.Core.Path.{◌≡◌, refl, sym, ap, ap₂, ◌∙◌, subst}
 use native.Mathlib.Omega.{arith}
 use lib.ListN.{length, take, drop}
 use Rattle.answer.specs.declared.Reason.TheVariants.{FileOpen, WrongList}
-use Rattle.answer.specs.declared.Answer.{Answer}
-use Rattle.answer.specs.declared.Answer.TheVariants.{Accepted, Refused}
+use Rattle.answer.specs.Answers.{Answer, Accepted, Refused}
 use Rattle.answer.specs.Orders.{require, ◌then◌, if_accepted}
 use Rattle.answer.proofs.Orders.{not_both}
 use Rattle.barcode.specs.Agreed.{RightList, list_answer}
@@ -43,7 +43,7 @@ same_records agreed zero (rec ∷ recs) k a h e all = go (ledger_check agreed k 
         → ([] ≡ if_accepted b (rec ∷ records_taken agreed next recs) []) × (a ≡ b then run_answer agreed next recs)
         × (0 ≡ length (if_accepted b (rec ∷ records_taken agreed next recs) []))
     go Accepted q = absurd (omega (arith, all q))
-    go (Refused why p) q = (refl, q, refl)
+    go (Err refusal) q = (refl, q, refl)
 same_records agreed (suc n) (rec ∷ recs) k a h e all =
     go (ledger_check agreed k rec) h.0 (same_records agreed n recs next a h.1 e (λ x. omega (arith, all x)))
   where
@@ -57,7 +57,7 @@ same_records agreed (suc n) (rec ∷ recs) k a h e all =
         × (a ≡ b then run_answer agreed next recs)
         × (suc n ≡ length (if_accepted b (rec ∷ records_taken agreed next recs) []))
     go Accepted q t = (ap (λ (l : List (List ℕ)). rec ∷ l) t.0, t.1, ap suc t.2)
-    go (Refused why p) q t = not_both _ refl q
+    go (Err refusal) q t = not_both _ refl q
 
 -- under a wrong list the ledger takes none
 none_taken : (agreed : List ℕ) → list_answer agreed ≡ Refused WrongList 0 → (k : Ledger) (recs : List (List ℕ)) → records_taken agreed k recs ≡ []

@@ -1,4 +1,5 @@
 -- A run over the bytes of a file, lined or bare, whose records are all accepted. Assumes nothing.
+use Rattle.std.specs.Prelude.{Err, None, Some}
 use Prim.Native.Nat.{ℕ, suc, ◌+◌, ◌≤◌}
 use mathlib.Core.Bool.{Bool, true, false, and-false}
 use mathlib.Core.List.{List, [], ◌∷◌, ◌++◌, map, append-nil}
@@ -8,12 +9,10 @@ use borrow.Author.Tests.{ne_eqb}
 use lib.Dec.{eqb}
 use lib.ListN.{length, get_or, take, drop, length-append, length-take, get_or-append}
 use lib.Seq.{take_at, drop_at, get_or-take, get_or-append-add}
-use Rattle.answer.specs.declared.Answer.{Answer}
-use Rattle.answer.specs.declared.Answer.TheVariants.{Accepted, Refused}
+use Rattle.answer.specs.Answers.{Answer, Accepted}
 use Rattle.answer.specs.Orders.{if_accepted, Each}
 use Rattle.answer.proofs.Orders.{then_accepts, accepted_takes}
 use Rattle.answer.proofs.Tests.{unequal}
-use Rattle.layout.specs.declared.MaybeRecord.TheVariants.{Is, Other}
 use Rattle.layout.specs.declared.Record.{Record}
 use Rattle.layout.specs.declared.Record.TheVariants.{Header, Payment, Trailer}
 use Rattle.layout.specs.Layouts.{record_length, named_by}
@@ -94,7 +93,7 @@ pieces_are_the_records agreed s lined (rec ∷ recs) form h =
 
     keeps : (a : Answer) → (if_accepted a (next_session agreed s (in_form lined rec)) s).opened ≡ true
         → (if_accepted a (next_session agreed s (in_form lined rec)) s).file.lined ≡ lined
-    keeps (Refused why p) e = form e
+    keeps (Err refusal) e = form e
     keeps Accepted e =
         let d = decoded_record_under (session_terms agreed s) rec in
         let next = next_in agreed s lined rec h.0.0 (λ x. sym (form x)) in
@@ -129,10 +128,10 @@ long : (t : Terms) (r : Record) (rec : List ℕ) → IsRight t r rec → length 
 long t r rec h = (accepted_is t rec h.0).0
 
 -- they do not begin with 13
-named_no_cr : (r : Record) (b : ℕ) → named_by b ≡ Is r → b ≡ 13 → ⊥
+named_no_cr : (r : Record) (b : ℕ) → named_by b ≡ Some r → b ≡ 13 → ⊥
 unfolding named_by
 named_no_cr r b h e =
-    let none : Other ≡ Is r = rw e at h in
+    let none : None ≡ Some r = rw e at h in
     let z : ◌≡◌ {A = ℕ} 0 1 = cc in
     omega arith
 
@@ -146,7 +145,7 @@ all_join lined t (rec ∷ recs) z h right = (joins lined t Payment rec h.0, all_
 
 -- how many files a record closes, in either form
 closes : (lined : Bool) (t : Terms) (r : Record) (rec : List ℕ) → IsRight t r rec
-    → files_closed (named_by (get_or (in_form lined rec) 0 0)) ≡ files_closed (Is r)
+    → files_closed (named_by (get_or (in_form lined rec) 0 0)) ≡ files_closed (Some r)
 closes lined t r rec h = ap (λ (b : ℕ). files_closed (named_by b)) (first_of_holds lined rec (long t r rec h)) ∙ ap files_closed h.1
 
 one_closed : (lined : Bool) (t : Terms) (recs : List (List ℕ)) (z : List ℕ) → Each (IsRight t Payment) recs → IsRight t Trailer z

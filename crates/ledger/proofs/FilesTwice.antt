@@ -1,4 +1,5 @@
 -- A file that was accepted is not accepted again. Assumes nothing.
+use Rattle.std.specs.Prelude.{Some}
 use Prim.Native.Nat.{ℕ}
 use mathlib.Core.Bool.{Bool, false}
 use mathlib.Core.List.{List, [], ◌∷◌, ◌++◌, map}
@@ -7,12 +8,10 @@ use mathlib.Core.Path.{◌≡◌, refl, sym, ap, subst, ◌∙◌}
 use borrow.Author.Tests.{ne_eqb}
 use Rattle.answer.specs.Refusals.{sequence_place}
 use Rattle.answer.specs.declared.Reason.TheVariants.{NotFollowing}
-use Rattle.answer.specs.declared.Answer.{Answer}
-use Rattle.answer.specs.declared.Answer.TheVariants.{Refused}
+use Rattle.answer.specs.Answers.{Answer, Refused}
 use Rattle.answer.specs.Orders.{◌then◌, Each}
 use Rattle.answer.proofs.Tests.{unequal}
 use Rattle.barcode.specs.Agreed.{RightList}
-use Rattle.layout.specs.declared.MaybeRecord.TheVariants.{Is}
 use Rattle.layout.specs.declared.Record.{Record}
 use Rattle.layout.specs.declared.Record.TheVariants.{Header, Payment, Trailer}
 use Rattle.layout.specs.Layouts.{named_by}
@@ -23,8 +22,7 @@ use Rattle.board.specs.Lanes.{lanes_from}
 use Rattle.pairs.specs.Pairs.{next_number, remembered_for, follows, pairs_of}
 use Rattle.pairs.proofs.Memories.{no_number_follows_itself}
 use Rattle.session.specs.declared.Session.{Session}
-use Rattle.session.specs.declared.TakeResult.{TakeResult}
-use Rattle.session.specs.Sessions.{pair_in, session_expects, take_answer, take_of}
+use Rattle.session.specs.Sessions.{TakeResult, pair_in, session_expects, take_answer, take_of}
 use Rattle.session.specs.Runs.{empty_run, run_all, run_of, bytes_of}
 use Rattle.session.proofs.Feeding.{run_right}
 use Rattle.ledger.specs.Ledgers.{Filed, payment_records, lanes_of_records, headers_of, number_shown, are_of_one_pair, latest_number, header_terms, is_open, Step, taking}
@@ -58,7 +56,7 @@ latest_here (g ∷ before) f after h = rw (latest_here before f after h)
 -- With no file open neither a payment nor a trailer is taken.
 
 module _ (agreed : List ℕ) (s : Session) (closed : s.opened ≡ false) (lined : Bool) (t : Terms) where
-  not_taken : (r : Record) (rec : List ℕ) → session_expects false (Is r) ≡ false → IsRight t r rec
+  not_taken : (r : Record) (rec : List ℕ) → session_expects false (Some r) ≡ false → IsRight t r rec
       → (take_of agreed s (in_form lined rec)).session ≡ s
   not_taken r rec e h =
       let named = ap named_by (first_of_holds lined rec (accepted_is t rec h.0).0) ∙ h.1 in

@@ -1,4 +1,5 @@
 -- Records with CR and LF behind them, against the same records bare. Assumes nothing.
+use Rattle.std.specs.Prelude.{Err, Ok}
 use Prim.Native.Nat.{ℕ}
 use mathlib.Core.Bool.{Bool, true, false}
 use mathlib.Core.List.{List, [], ◌∷◌, map, append-nil}
@@ -7,16 +8,14 @@ use native.Mathlib.Omega.{arith}
 use lib.ListN.{length, get_or}
 use lib.Seq.{take-take}
 use Rattle.answer.specs.declared.Reason.TheVariants.{NotExpected}
-use Rattle.answer.specs.declared.Answer.{Answer}
-use Rattle.answer.specs.declared.Answer.TheVariants.{Accepted, Refused}
+use Rattle.answer.specs.Answers.{Answer, Accepted}
 use Rattle.answer.specs.Orders.{require, ◌then◌, if_accepted, Each}
 use Rattle.answer.proofs.Orders.{then_accepted}
 use Rattle.answer.proofs.Tests.{never, unequal}
 use Rattle.layout.specs.Layouts.{record_length, named_by}
 use Rattle.barcode.specs.Agreed.{list_answer}
-use Rattle.record.specs.declared.Decoded.{Decoded}
-use Rattle.record.specs.declared.Decoded.TheVariants as decoded
-use Rattle.record.specs.Values.{decoded_record_under}
+use Rattle.record.specs.Values.{Decoded, decoded_record_under}
+use Rattle.record.specs.declared.Contents.TheVariants as contents
 use Rattle.file.specs.Files.{file_answer, figures_answer}
 use Rattle.file.specs.Forms.{in_form, body_of}
 use Rattle.file.proofs.Forms.{body_in, ended_in, fits_in, ends_in}
@@ -57,10 +56,10 @@ bare_next agreed s rec n form = ap (next_session agreed s) (sym (append-nil rec)
 
 state_bare : (s : Session) (rec : List ℕ) (d : Decoded) → session_answer s rec d ≡ session_answer (as_bare s) rec d
 unfolding file_answer figures_answer
-state_bare s rec (decoded.Header h) = refl
-state_bare s rec (decoded.Payment p) = refl
-state_bare s rec (decoded.Trailer t) = refl
-state_bare s rec (decoded.Refused why place) = refl
+state_bare s rec (Ok (contents.Header h)) = refl
+state_bare s rec (Ok (contents.Payment p)) = refl
+state_bare s rec (Ok (contents.Trailer t)) = refl
+state_bare s rec (Err refusal) = refl
 
 answer_bare : (agreed : List ℕ) (s : Session) (rec : List ℕ) → body_answer agreed s rec ≡ body_answer agreed (as_bare s) rec
 answer_bare agreed s rec =
@@ -69,10 +68,10 @@ answer_bare agreed s rec =
 
 next_bare : (s : Session) (ended : Bool) (rec : List ℕ) (d : Decoded)
     → as_bare (session_with s ended rec d) ≡ as_bare (session_with (as_bare s) false rec d)
-next_bare s ended rec (decoded.Header h) = refl
-next_bare s ended rec (decoded.Payment p) = refl
-next_bare s ended rec (decoded.Trailer t) = refl
-next_bare s ended rec (decoded.Refused why place) = refl
+next_bare s ended rec (Ok (contents.Header h)) = refl
+next_bare s ended rec (Ok (contents.Payment p)) = refl
+next_bare s ended rec (Ok (contents.Trailer t)) = refl
+next_bare s ended rec (Err refusal) = refl
 
 -- Two sessions that are equal but for the form: the file that is open in the first is lined, in the second bare.
 record Twins (s u : Session) : Type 0 where
@@ -82,10 +81,10 @@ record Twins (s u : Session) : Type 0 where
 
 pub keeps_form : (s : Session) (ended : Bool) (rec : List ℕ) (d : Decoded) → (s.opened ≡ true → ended ≡ s.file.lined)
     → (session_with s ended rec d).opened ≡ true → ended ≡ (session_with s ended rec d).file.lined
-keeps_form s ended rec (decoded.Header h) form e = refl
-keeps_form s ended rec (decoded.Payment p) form e = form e
-keeps_form s ended rec (decoded.Trailer t) form e = never e
-keeps_form s ended rec (decoded.Refused why place) form e = form e
+keeps_form s ended rec (Ok (contents.Header h)) form e = refl
+keeps_form s ended rec (Ok (contents.Payment p)) form e = form e
+keeps_form s ended rec (Ok (contents.Trailer t)) form e = never e
+keeps_form s ended rec (Err refusal) form e = form e
 
 twins_next : (s u : Session) (rec : List ℕ) (d : Decoded) → Twins s u → Twins (session_with s true rec d) (session_with u false rec d)
 twins_next s u rec d h =
@@ -108,7 +107,7 @@ module _ (agreed : List ℕ) (s u : Session) (h : Twins s u) (rec : List ℕ) (n
   one_terms = ap (session_terms agreed) h.same
 
   twins_left : (a : Answer) → Twins (if_accepted a (next_session agreed s (in_form true rec)) s) (if_accepted a (next_session agreed u rec) u)
-  twins_left (Refused why p) = h
+  twins_left (Err refusal) = h
   twins_left Accepted =
       let d = decoded_record_under (session_terms agreed u) rec in
       let lined : next_session agreed s (in_form true rec) ≡ session_with s true rec d = next_in agreed s true rec n h.lined ∙ rw one_terms in

@@ -1,4 +1,5 @@
 -- What holds of a ledger after any steps. Assumes nothing.
+use Rattle.std.specs.Prelude.{Err}
 use Prim.Native.Nat.{ℕ}
 use mathlib.Core.Bool.{true}
 use mathlib.Core.List.{List, [], ◌∷◌}
@@ -6,8 +7,7 @@ use mathlib.Core.Option.{none}
 use mathlib.Core.Path.{◌≡◌, refl}
 use lib.ListN.{get_or}
 use Rattle.answer.specs.declared.Reason.TheVariants.{WrongLength, NotExpected}
-use Rattle.answer.specs.declared.Answer.{Answer}
-use Rattle.answer.specs.declared.Answer.TheVariants.{Accepted, Refused}
+use Rattle.answer.specs.Answers.{Answer, Accepted}
 use Rattle.answer.specs.Orders.{◌then◌, if_accepted}
 use Rattle.answer.proofs.Orders.{then_accepts}
 use Rattle.answer.proofs.Steps.{passed}
@@ -48,7 +48,7 @@ module _ (P : Ledger → Type 0) (dropped : (k : Ledger) → P k → P (record {
   keeps k (taking agreed rec) h = go (ledger_check agreed k rec) refl
     where
       go : (a : Answer) → ledger_check agreed k rec ≡ a → P (if_accepted a (next_ledger k rec) k)
-      go (Refused why p) e = h
+      go (Err refusal) e = h
       go Accepted e = with-one k rec h (accepted_by agreed k rec e)
 
   pub all_keep : (k : Ledger) (steps : List Step) → P k → P (ledger_after k steps)

@@ -1,5 +1,6 @@
 -- Every accepted file of a ledger is whole: what holds of the open file, and of the accepted ones, is kept by each
 -- step. Assumes nothing.
+use Rattle.std.specs.Prelude.{None, Option as Maybe, Some}
 use Prim.Native.Nat.{ℕ, ◌+◌, ◌≤◌}
 use mathlib.Core.Bool.{Bool, true, false, false≢true}
 use mathlib.Core.List.{List, [], ◌∷◌, ◌++◌}
@@ -11,11 +12,10 @@ use lib.Dec.{ltb, leb}
 use lib.ListN.{length, get_or, length-append}
 use Rattle.answer.specs.Refusals.{received_place}
 use Rattle.answer.specs.declared.Reason.TheVariants.{FileFull, FileTotalPassed}
-use Rattle.answer.specs.declared.Answer.TheVariants.{Accepted}
+use Rattle.answer.specs.Answers.{Accepted}
 use Rattle.answer.specs.Orders.{Each}
 use Rattle.answer.proofs.Steps.{passed}
-use Rattle.layout.specs.declared.MaybeRecord.{MaybeRecord}
-use Rattle.layout.specs.declared.MaybeRecord.TheVariants.{Is, Other}
+use Rattle.layout.specs.declared.Record.{Record}
 use Rattle.layout.specs.declared.Record.TheVariants.{Header, Payment, Trailer}
 use Rattle.layout.specs.Layouts.{named_by}
 use Rattle.barcode.proofs.Lists.{empty_is_right}
@@ -55,9 +55,9 @@ each_last P [] x h p = (p, tt)
 each_last P (y ∷ xs) x h p = (h.0, each_last P xs x h.1 p)
 
 module _ (files : List Filed) (ended : Bool) (rec : List ℕ) (all : Each SoundFile files) where
-  with_payment : (f : Opened) → Right f → record_answer (header_terms [] f.header) rec ≡ Accepted → named_by (get_or rec 0 0) ≡ Is Payment
-      → state_answer files (some f) (Is Payment) rec ≡ Accepted
-      → Kept (with_record files (some f) (Is Payment) ended rec)
+  with_payment : (f : Opened) → Right f → record_answer (header_terms [] f.header) rec ≡ Accepted → named_by (get_or rec 0 0) ≡ Some Payment
+      → state_answer files (some f) (Some Payment) rec ≡ Accepted
+      → Kept (with_record files (some f) (Some Payment) ended rec)
   with_payment f h own n e =
       let room = passed (ltb (length f.payments) most_payments) FileFull 1 e in
       let less =
@@ -76,9 +76,9 @@ module _ (files : List Filed) (ended : Bool) (rec : List ℕ) (all : Each SoundF
             };
       }
 
-  with_trailer : (f : Opened) → Right f → record_answer (header_terms [] f.header) rec ≡ Accepted → named_by (get_or rec 0 0) ≡ Is Trailer
-      → state_answer files (some f) (Is Trailer) rec ≡ Accepted
-      → Kept (with_record files (some f) (Is Trailer) ended rec)
+  with_trailer : (f : Opened) → Right f → record_answer (header_terms [] f.header) rec ≡ Accepted → named_by (get_or rec 0 0) ≡ Some Trailer
+      → state_answer files (some f) (Some Trailer) rec ≡ Accepted
+      → Kept (with_record files (some f) (Some Trailer) ended rec)
   with_trailer f h own n e =
       record {
         files =
@@ -92,20 +92,20 @@ module _ (files : List Filed) (ended : Bool) (rec : List ℕ) (all : Each SoundF
         opened = tt;
       }
 
-  with_record_holds : (o : Option Opened) (n : MaybeRecord) → record_answer (ledger_terms [] o) rec ≡ Accepted → RightIfOpen o → named_by (get_or rec 0 0) ≡ n
+  with_record_holds : (o : Option Opened) (n : Maybe Record) → record_answer (ledger_terms [] o) rec ≡ Accepted → RightIfOpen o → named_by (get_or rec 0 0) ≡ n
       → ledger_expects o n ≡ true → state_answer files o n rec ≡ Accepted → Kept (with_record files o n ended rec)
-  with_record_holds none (Is Header) own h is x e =
+  with_record_holds none (Some Header) own h is x e =
       record {
         files = all;
         opened = record { header = right_under_any_terms (told 0 []) (header_terms [] rec) Header rec refl (own, is); payments = tt; few = omega arith; low = omega arith };
       }
-  with_record_holds none (Is Payment) own h is x e = absurd (false≢true x)
-  with_record_holds none (Is Trailer) own h is x e = absurd (false≢true x)
-  with_record_holds none Other own h is x e = absurd (false≢true x)
-  with_record_holds (some f) (Is Header) own h is x e = absurd (false≢true x)
-  with_record_holds (some f) (Is Payment) own h is x e = with_payment f h own is e
-  with_record_holds (some f) (Is Trailer) own h is x e = with_trailer f h own is e
-  with_record_holds (some f) Other own h is x e = absurd (false≢true x)
+  with_record_holds none (Some Payment) own h is x e = absurd (false≢true x)
+  with_record_holds none (Some Trailer) own h is x e = absurd (false≢true x)
+  with_record_holds none None own h is x e = absurd (false≢true x)
+  with_record_holds (some f) (Some Header) own h is x e = absurd (false≢true x)
+  with_record_holds (some f) (Some Payment) own h is x e = with_payment f h own is e
+  with_record_holds (some f) (Some Trailer) own h is x e = with_trailer f h own is e
+  with_record_holds (some f) None own h is x e = absurd (false≢true x)
 
 -- after any steps from a fresh ledger
 kept : (steps : List Step) → Kept (ledger_of steps)

@@ -1,4 +1,5 @@
 -- Sequence numbers over any history. Assumes nothing.
+use Rattle.std.specs.Prelude.{None, Option as Maybe, Some}
 use Prim.Native.Nat.{ℕ}
 use mathlib.Core.Bool.{Bool, true, false, cond}
 use mathlib.Core.List.{List, [], ◌∷◌, ◌++◌, map, append-nil}
@@ -9,11 +10,10 @@ use borrow.Author.Tests.{eqb-true}
 use lib.ListN.{length, get_or}
 use Rattle.answer.specs.Refusals.{sequence_place}
 use Rattle.answer.specs.declared.Reason.TheVariants.{NotFollowing}
-use Rattle.answer.specs.declared.Answer.TheVariants.{Accepted}
+use Rattle.answer.specs.Answers.{Accepted}
 use Rattle.answer.proofs.Steps.{passed}
 use Rattle.answer.proofs.Tests.{never}
-use Rattle.layout.specs.declared.MaybeRecord.{MaybeRecord}
-use Rattle.layout.specs.declared.MaybeRecord.TheVariants.{Is, Other}
+use Rattle.layout.specs.declared.Record.{Record}
 use Rattle.layout.specs.declared.Record.TheVariants.{Header, Payment, Trailer}
 use Rattle.layout.specs.Layouts.{named_by}
 use Rattle.file.specs.Forms.{body_of, has_line_end}
@@ -114,22 +114,22 @@ record Numbered (k : Ledger) : Type 0 where
   files : AllFollow (headers_of k.accepted)
   opened : FollowsIfOpen k.accepted k.opened
 
-with_record_holds : (files : List Filed) (o : Option Opened) (n : MaybeRecord) (ended : Bool) (rec : List ℕ) → AllFollow (headers_of files)
+with_record_holds : (files : List Filed) (o : Option Opened) (n : Maybe Record) (ended : Bool) (rec : List ℕ) → AllFollow (headers_of files)
     → FollowsIfOpen files o → ledger_expects o n ≡ true → state_answer files o n rec ≡ Accepted
     → Numbered (with_record files o n ended rec)
-with_record_holds files none (Is Header) ended rec all h x e =
+with_record_holds files none (Some Header) ended rec all h x e =
     record { files = all; opened = (passed (follows (latest_number rec (headers_of files)) (number_shown rec)) NotFollowing sequence_place e).0 }
-with_record_holds files none (Is Payment) ended rec all h x e = never x
-with_record_holds files none (Is Trailer) ended rec all h x e = never x
-with_record_holds files none Other ended rec all h x e = never x
-with_record_holds files (some f) (Is Header) ended rec all h x e = never x
-with_record_holds files (some f) (Is Payment) ended rec all h x e = record { files = all; opened = h }
-with_record_holds files (some f) (Is Trailer) ended rec all h x e =
+with_record_holds files none (Some Payment) ended rec all h x e = never x
+with_record_holds files none (Some Trailer) ended rec all h x e = never x
+with_record_holds files none None ended rec all h x e = never x
+with_record_holds files (some f) (Some Header) ended rec all h x e = never x
+with_record_holds files (some f) (Some Payment) ended rec all h x e = record { files = all; opened = h }
+with_record_holds files (some f) (Some Trailer) ended rec all h x e =
     record {
       files = subst AllFollow (sym (headers_joined files (filed_with f rec))) (all_follow (headers_of files) f.header all h);
       opened = tt;
     }
-with_record_holds files (some f) Other ended rec all h x e = never x
+with_record_holds files (some f) None ended rec all h x e = never x
 
 pub numbers_follow : NumbersFollow
 numbers_follow steps =

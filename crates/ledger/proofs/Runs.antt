@@ -1,4 +1,5 @@
 -- A run, record by record, against the ledger. Assumes nothing.
+use Rattle.std.specs.Prelude.{Err, None, Option as Maybe, Some}
 use Prim.Native.Nat.{ℕ, zero, suc, ◌+◌}
 use mathlib.Core.Bool.{Bool, true, cond, false≢true}
 use mathlib.Core.List.{List, [], ◌∷◌, map}
@@ -8,21 +9,18 @@ use native.Mathlib.Omega.{arith}
 use lib.Dec.{ltb}
 use lib.ListN.{length, get_or, take, drop, length-append}
 use Rattle.answer.specs.declared.Reason.TheVariants.{WrongLength, NotExpected}
-use Rattle.answer.specs.declared.Answer.{Answer}
-use Rattle.answer.specs.declared.Answer.TheVariants.{Accepted, Refused}
+use Rattle.answer.specs.Answers.{Answer, Accepted}
 use Rattle.answer.specs.Orders.{◌then◌}
 use Rattle.answer.proofs.Orders.{not_both, accepted_takes}
 use Rattle.answer.proofs.Steps.{passed}
-use Rattle.layout.specs.declared.MaybeRecord.{MaybeRecord}
-use Rattle.layout.specs.declared.MaybeRecord.TheVariants.{Is, Other}
+use Rattle.layout.specs.declared.Record.{Record}
 use Rattle.layout.specs.declared.Record.TheVariants.{Header, Payment, Trailer}
 use Rattle.layout.specs.Layouts.{named_by}
 use Rattle.barcode.specs.Agreed.{RightList}
 use Rattle.file.specs.Forms.{body_of, has_line_end, fits_length, next_length}
 use Rattle.session.specs.declared.Session.{Session}
 use Rattle.session.specs.declared.RunResult.{RunResult}
-use Rattle.session.specs.declared.TakeResult.{TakeResult}
-use Rattle.session.specs.Sessions.{fresh_session, take_answer, next_session, take_under, take_of}
+use Rattle.session.specs.Sessions.{TakeResult, fresh_session, take_answer, next_session, take_under, take_of}
 use Rattle.session.specs.Runs.{piece_length, least_left, pieces_up_to, pieces_of, files_closed, add_counts, stopped_if_refused, run_all}
 use Rattle.session.proofs.Feeding.{run_right, run_is_its_takes}
 use Rattle.ledger.specs.Ledgers.{Opened, Filed, Ledger, fresh_ledger, is_open, is_open_lined, ledger_expects, ledger_answer, ledger_check, filed_with, with_record, next_ledger, Step, taking, ledger_step, ledger_after, ledger_answers}
@@ -40,16 +38,16 @@ pub record RunOn (agreed : List ℕ) (s : Session) (k : Ledger) (recs : List (Li
   pub whole : r.answer ≡ Accepted → r.records ≡ length recs
 
 -- an accepted Z adds a file to the ledger, and no other record does
-files_after : (files : List Filed) (o : Option Opened) (n : MaybeRecord) (ended : Bool) (rec : List ℕ) → ledger_expects o n ≡ true
+files_after : (files : List Filed) (o : Option Opened) (n : Maybe Record) (ended : Bool) (rec : List ℕ) → ledger_expects o n ≡ true
     → length (with_record files o n ended rec).accepted ≡ length files + files_closed n
-files_after files none (Is Header) ended rec e = omega arith
-files_after files none (Is Payment) ended rec e = absurd (false≢true e)
-files_after files none (Is Trailer) ended rec e = absurd (false≢true e)
-files_after files none Other ended rec e = absurd (false≢true e)
-files_after files (some f) (Is Header) ended rec e = absurd (false≢true e)
-files_after files (some f) (Is Payment) ended rec e = omega arith
-files_after files (some f) (Is Trailer) ended rec e = length-append files (filed_with f rec ∷ [])
-files_after files (some f) Other ended rec e = absurd (false≢true e)
+files_after files none (Some Header) ended rec e = omega arith
+files_after files none (Some Payment) ended rec e = absurd (false≢true e)
+files_after files none (Some Trailer) ended rec e = absurd (false≢true e)
+files_after files none None ended rec e = absurd (false≢true e)
+files_after files (some f) (Some Header) ended rec e = absurd (false≢true e)
+files_after files (some f) (Some Payment) ended rec e = omega arith
+files_after files (some f) (Some Trailer) ended rec e = length-append files (filed_with f rec ∷ [])
+files_after files (some f) None ended rec e = absurd (false≢true e)
 
 -- one more record in front
 module _ (agreed rec : List ℕ) (recs : List (List ℕ)) (s next : Session) (k after : Ledger) (c : ℕ) (r : RunResult) where
@@ -89,7 +87,7 @@ run_on agreed list (rec ∷ recs) s k h = go (take_answer agreed s rec) refl (ru
     go : (a : Answer) → take_answer agreed s rec ≡ a
         → ((s : Session) (k : Ledger) → Agrees s k → RunOn agreed s k recs (run_all agreed s recs))
         → RunOn agreed s k (rec ∷ recs) (stopped_if_refused a s (add_counts 1 (files_closed (named_by (get_or rec 0 0))) (length rec) (run_all agreed (next_session agreed s rec) recs)))
-    go (Refused why p) e later =
+    go (Err refusal) e later =
         record {
           session = refl;
           files = omega arith;

@@ -1,4 +1,5 @@
 -- The trailer, and what holds of any session. Assumes nothing.
+use Rattle.std.specs.Prelude.{Err, None, Option, Some}
 use Prim.Native.Nat.{ℕ, ◌+◌}
 use mathlib.Core.Bool.{Bool, true, false, not, cond, false≢true}
 use mathlib.Core.List.{List, [], ◌∷◌}
@@ -10,20 +11,17 @@ use borrow.Author.Tests.{eqb-true, eq-eqb}
 use lib.Dec.{eqb}
 use lib.ListN.{length, get_or}
 use Rattle.answer.specs.declared.Reason.TheVariants.{WrongLength, NotExpected, CountDiffers, TotalDiffers, FileOpen}
-use Rattle.answer.specs.declared.Answer.{Answer}
-use Rattle.answer.specs.declared.Answer.TheVariants.{Accepted, Refused}
+use Rattle.answer.specs.Answers.{Answer, Accepted}
 use Rattle.answer.specs.Refusals.{answer_number, answer_place}
 use Rattle.answer.specs.Orders.{require, ◌then◌, if_accepted}
 use Rattle.answer.proofs.Orders.{require_accepts, then_accepts, refusal_keeps}
 use Rattle.answer.proofs.Steps.{passed}
-use Rattle.layout.specs.declared.MaybeRecord.{MaybeRecord}
-use Rattle.layout.specs.declared.MaybeRecord.TheVariants.{Is, Other}
+use Rattle.layout.specs.declared.Record.{Record}
 use Rattle.layout.specs.declared.Record.TheVariants.{Header, Payment, Trailer}
 use Rattle.layout.specs.Layouts.{named_by}
 use Rattle.barcode.specs.Agreed.{list_answer, RightList}
-use Rattle.record.specs.declared.Decoded.{Decoded}
+use Rattle.record.specs.Values.{Decoded, trailer_shown, record_shown, shown_unless_refused}
 use Rattle.record.specs.Records.{record_answer}
-use Rattle.record.specs.Values.{trailer_shown, record_shown, shown_unless_refused}
 use Rattle.record.proofs.Shown.{accepted_is, check_passes, needs_version}
 use Rattle.file.specs.Files.{count_place, total_place}
 use Rattle.file.specs.Forms.{body_of, has_line_end, fits_length, end_answer}
@@ -56,7 +54,7 @@ figures_accept f rec =
 -- of a Z with right fields the figures are checked, and what follows it
 trailer_answer_holds : (agreed : List ℕ) (k : Ledger) (f : Opened) (rec : List ℕ) → RightList agreed → k.opened ≡ some f
     → record_answer (header_terms agreed f.header) (body_of rec) ≡ Accepted
-    → named_by (get_or rec 0 0) ≡ Is Trailer
+    → named_by (get_or rec 0 0) ≡ Some Trailer
     → ledger_check agreed k rec
     ≡ require (fits_length true f.lined rec) WrongLength 0 then trailer_state_answer f (body_of rec) then end_answer true f.lined rec
 trailer_answer_holds agreed k f rec right o e n = rw (right, o, e, n)
@@ -93,24 +91,24 @@ refusal_keeps_session agreed s rec h = refusal_keeps (take_of agreed s rec).answ
 pub payments_taken_under_a_version : PaymentsTakenUnderAVersion
 payments_taken_under_a_version agreed s rec right opened none fits named =
     let body = body_of rec in
-    let first : named_by (get_or body 0 0) ≡ Is Payment = ap named_by (first_in rec) ∙ named in
+    let first : named_by (get_or body 0 0) ≡ Some Payment = ap named_by (first_in rec) ∙ named in
     let own = needs_version (session_terms agreed s) body (fits_body true s.file.lined rec fits) first none in
     rw (right, opened, fits, named, own)
 
 -- what a record leaves of the board shown and of the memory
 module _ (agreed : List ℕ) (s : Session) (ended : Bool) (rec : List ℕ) where
-  stays : (n : MaybeRecord) (own a : Answer) → (n ≡ Is Trailer → a ≡ Accepted → ⊥)
+  stays : (n : Option Record) (own a : Answer) → (n ≡ Some Trailer → a ≡ Accepted → ⊥)
       → let next = if_accepted a (session_with s ended rec (shown_unless_refused own (record_shown agreed n rec))) s in
       (next.shown ≡ s.shown) × (next.memory ≡ s.memory)
-  stays n own (Refused why p) h = (refl, refl)
-  stays n (Refused why p) Accepted h = (refl, refl)
-  stays (Is Header) Accepted Accepted h = (refl, refl)
-  stays (Is Payment) Accepted Accepted h = (refl, refl)
-  stays (Is Trailer) Accepted Accepted h = absurd (h refl refl)
-  stays Other Accepted Accepted h = (refl, refl)
+  stays n own (Err refusal) h = (refl, refl)
+  stays n (Err refusal) Accepted h = (refl, refl)
+  stays (Some Header) Accepted Accepted h = (refl, refl)
+  stays (Some Payment) Accepted Accepted h = (refl, refl)
+  stays (Some Trailer) Accepted Accepted h = absurd (h refl refl)
+  stays None Accepted Accepted h = (refl, refl)
 
 no_trailer_stays : (agreed : List ℕ) (s : Session) (rec : List ℕ)
-    → (named_by (get_or rec 0 0) ≡ Is Trailer → (take_of agreed s rec).answer ≡ Accepted → ⊥)
+    → (named_by (get_or rec 0 0) ≡ Some Trailer → (take_of agreed s rec).answer ≡ Accepted → ⊥)
     → ((take_of agreed s rec).session.shown ≡ s.shown) × ((take_of agreed s rec).session.memory ≡ s.memory)
 no_trailer_stays agreed s rec h =
     let body = body_of rec in
@@ -126,10 +124,10 @@ only_trailers_remember agreed s rec h = (no_trailer_stays agreed s rec h).1
 pub own_accepts : (s : Session) (rec : List ℕ) (a : Answer) (d : Decoded)
     → session_answer s rec (shown_unless_refused a d) ≡ Accepted → a ≡ Accepted
 own_accepts s rec Accepted d e = refl
-own_accepts s rec (Refused why p) d e = e
+own_accepts s rec (Err refusal) d e = e
 
 -- an accepted Z closes the file
-trailer_closes : (agreed : List ℕ) (s : Session) (rec : List ℕ) → named_by (get_or rec 0 0) ≡ Is Trailer
+trailer_closes : (agreed : List ℕ) (s : Session) (rec : List ℕ) → named_by (get_or rec 0 0) ≡ Some Trailer
     → (take_of agreed s rec).answer ≡ Accepted → (take_of agreed s rec).session ≡ session_closed s
 trailer_closes agreed s rec n e =
     let body = body_of rec in

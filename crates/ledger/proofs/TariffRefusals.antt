@@ -1,5 +1,6 @@
 -- Where 18 points at the tariff: nothing but the board gives that refusal, of a payment that is right in itself.
 -- Assumes nothing.
+use Rattle.std.specs.Prelude.{Err, None, Option, Some}
 use Prim.Native.Nat.{ℕ, ◌+◌, ◌≤◌}
 use mathlib.Core.Bool.{Bool, true, false, cond, ◌&&◌}
 use mathlib.Core.List.{List}
@@ -8,16 +9,13 @@ use mathlib.Core.Path.{◌≡◌, refl, sym, ap, ◌∙◌}
 use native.Mathlib.Omega.{arith}
 use lib.Dec.{eqb, ltb, leb}
 use lib.ListN.{length, get_or}
-use Rattle.answer.specs.declared.Reason.TheVariants.{WrongLength, NotExpected, CountDiffers, TotalDiffers}
-use Rattle.answer.specs.declared.Reason.TheVariants.{FileFull, FileTotalPassed, BoardTotalPassed, NoLineEnd, WrongList, NotFollowing, PairsFull}
+use Rattle.answer.specs.declared.Reason.TheVariants.{WrongLength, NotExpected, CountDiffers, TotalDiffers, FileFull, FileTotalPassed, BoardTotalPassed, NoLineEnd, WrongList, NotFollowing, PairsFull}
 use Rattle.answer.specs.declared.Reason.{Reason}
-use Rattle.answer.specs.declared.Answer.{Answer}
-use Rattle.answer.specs.declared.Answer.TheVariants.{Accepted, Refused}
+use Rattle.answer.specs.Answers.{Answer, Accepted, Refused}
 use Rattle.answer.specs.Refusals.{reason_number, answer_number, received_place, tariff_place, sequence_place, agreement_place}
 use Rattle.answer.specs.Orders.{require, ◌then◌}
 use Rattle.answer.proofs.Orders.{not_both, then_accepts}
-use Rattle.layout.specs.declared.MaybeRecord.{MaybeRecord}
-use Rattle.layout.specs.declared.MaybeRecord.TheVariants.{Is, Other}
+use Rattle.layout.specs.declared.Record.{Record}
 use Rattle.layout.specs.declared.Record.TheVariants.{Header, Payment, Trailer}
 use Rattle.layout.specs.Layouts.{named_by}
 use Rattle.barcode.specs.Agreed.{list_answer}
@@ -52,8 +50,8 @@ behind_test false why p next h e = not_number (Refused why p) e h
 behind_list : (a next : Answer) → (a ≡ Accepted) ⊎ (a ≡ Refused WrongList 0) → a then next ≡ past_tariff
     → (a ≡ Accepted) × (next ≡ past_tariff)
 behind_list Accepted next o e = (refl, e)
-behind_list (Refused why p) next o e =
-    ⊎_elim (λ h. not_both (Refused why p) refl h) (λ h. absurd (omega (arith, ap answer_number h, ap answer_number e))) o
+behind_list (Err refusal) next o e =
+    ⊎_elim (λ h. not_both (Err refusal) refl h) (λ h. absurd (omega (arith, ap answer_number h, ap answer_number e))) o
 
 -- two tests and nothing behind them never give it
 two_tests : (t u : Bool) (why more : Reason) (p q : ℕ) {X : Type 0} → (reason_number why ≡ 18 → ⊥)
@@ -64,7 +62,7 @@ two_tests false u why more p q h k e = not_number (Refused why p) e h
 
 -- nor does what is checked of a line end
 before_end : (a : Answer) (x y : Bool) → a then cond x (require y NoLineEnd end_place) Accepted ≡ past_tariff → a ≡ past_tariff
-before_end (Refused why p) x y e = e
+before_end (Err refusal) x y e = e
 before_end Accepted true true e = absurd (omega (arith, ap answer_number e))
 before_end Accepted true false e = absurd (omega (arith, ap answer_number e))
 before_end Accepted false y e = absurd (omega (arith, ap answer_number e))
@@ -79,23 +77,23 @@ from_the_board false u board e = absurd (omega (arith, ap answer_number e))
 
 -- nor do a header, a trailer and a record alone: it is a payment that is right in itself
 module _ (agreed : List ℕ) (s : Session) (rec : List ℕ) where
-  of_a_payment : (m : MaybeRecord) (own : Answer) → answer_number own ≤ 12
+  of_a_payment : (m : Option Record) (own : Answer) → answer_number own ≤ 12
       → session_answer s rec (shown_unless_refused own (record_shown agreed m rec)) ≡ past_tariff
-      → (own ≡ Accepted) × (m ≡ Is Payment) × (pay_answer s (lane_of_record rec) ≡ past_tariff)
+      → (own ≡ Accepted) × (m ≡ Some Payment) × (pay_answer s (lane_of_record rec) ≡ past_tariff)
   unfolding figures_answer
-  of_a_payment m (Refused why p) low e = absurd (omega (arith, low, ap answer_number e))
-  of_a_payment (Is Payment) Accepted low e = (refl, refl, e)
-  of_a_payment (Is Header) Accepted low e =
+  of_a_payment m (Err refusal) low e = absurd (omega (arith, low, ap answer_number e))
+  of_a_payment (Some Payment) Accepted low e = (refl, refl, e)
+  of_a_payment (Some Header) Accepted low e =
       let pair = pair_in rec in
       let last = remembered_for pair (pairs_of s.memory) in
       two_tests (follows last pair.sequence) (has_room last (length (pairs_of s.memory))) NotFollowing PairsFull
       sequence_place agreement_place (λ h. omega arith) (λ h. omega arith) e
-  of_a_payment (Is Trailer) Accepted low e =
+  of_a_payment (Some Trailer) Accepted low e =
       let shown = trailer_shown rec in
       let true-ones = figures_of s.file in
       two_tests (eqb shown.count true-ones.count) (eqb shown.total true-ones.total) CountDiffers TotalDiffers
       count_place total_place (λ h. omega arith) (λ h. omega arith) e
-  of_a_payment Other Accepted low e = absurd (omega (arith, ap answer_number e))
+  of_a_payment None Accepted low e = absurd (omega (arith, ap answer_number e))
 
 pub tariffs_are_asked_last : TariffsAreAskedLast
 unfolding file_answer end_answer
@@ -112,7 +110,7 @@ tariffs_are_asked_last agreed s rec =
           let met = behind_test (session_expects s.opened (named_by (get_or rec 0 0))) NotExpected 1 _ (λ h. omega arith) fits.1 in
           let answered = before_end (session_answer s body (decoded_record_under t body)) (s.opened && s.file.lined) (has_line_end rec) met.1 in
           let paid = of_a_payment agreed s body (named_by (get_or body 0 0)) own (own_refusals_up_to_twelve t body) answered in
-          let named : named_by (get_or rec 0 0) ≡ Is Payment = ap named_by (sym (first_in rec)) ∙ paid.1 in
+          let named : named_by (get_or rec 0 0) ≡ Some Payment = ap named_by (sym (first_in rec)) ∙ paid.1 in
           let opened : s.opened ≡ true = rw named at met.0 in
           let file =
           from_the_board (ltb s.file.taken most_payments) (leb (s.file.total + received_by body) most_centavos) posting paid.2 in
@@ -120,6 +118,6 @@ tariffs_are_asked_last agreed s rec =
           (opened, rw opened at fits.0, named, all.1 (listed.0, paid.0), file.0, b.0, b.1, b.2, b.3),
       λ h.
           let right = all.0 h.3 in
-          let first : named_by (get_or body 0 0) ≡ Is Payment = ap named_by (first_in rec) ∙ h.2 in
+          let first : named_by (get_or body 0 0) ≡ Some Payment = ap named_by (first_in rec) ∙ h.2 in
           rw (right.0, h.0, h.1, h.2, right.1, first, h.4, last.1 (h.5, h.6, h.7, h.8)),
     )

@@ -1,4 +1,5 @@
 -- A whole file, record by record, against the file and the board alone. Assumes nothing.
+use Rattle.std.specs.Prelude.{Some}
 use Prim.Native.Nat.{ℕ}
 use mathlib.Core.Bool.{Bool, true, false, not}
 use mathlib.Core.List.{List, [], ◌∷◌, ◌++◌, map}
@@ -6,11 +7,10 @@ use mathlib.Core.Logic.{◌↔◌}
 use mathlib.Core.Path.{◌≡◌, refl, sym, ap, ap₂, ◌∙◌}
 use native.Mathlib.Omega.{arith}
 use lib.ListN.{length, get_or, length-map}
-use Rattle.answer.specs.declared.Answer.TheVariants.{Accepted}
+use Rattle.answer.specs.Answers.{Accepted}
 use Rattle.answer.specs.Orders.{Each}
 use Rattle.answer.proofs.Orders.{then_accepts, then_accepted, accepted_takes}
 use Rattle.answer.proofs.Tests.{unequal}
-use Rattle.layout.specs.declared.MaybeRecord.TheVariants.{Is}
 use Rattle.layout.specs.declared.Record.{Record}
 use Rattle.layout.specs.declared.Record.TheVariants.{Header, Payment, Trailer}
 use Rattle.layout.specs.Layouts.{record_length}
@@ -32,15 +32,14 @@ use Rattle.board.proofs.Tallies.{low_fits}
 use Rattle.board.proofs.Boards.{fresh_board_takes, fresh_board_holds}
 use Rattle.pairs.specs.Pairs.{memory_answer, memory_with}
 use Rattle.session.specs.declared.Session.{Session}
-use Rattle.session.specs.declared.TakeResult.{TakeResult}
-use Rattle.session.specs.Sessions.{fresh_session, closed_at, opened_at, session_working, pair_in, session_terms, session_expects, figures_in, pay_answer, session_with_payment, session_closed, session_answer, session_with, take_result, take_of}
+use Rattle.session.specs.Sessions.{TakeResult, fresh_session, closed_at, opened_at, session_working, pair_in, session_terms, session_expects, figures_in, pay_answer, session_with_payment, session_closed, session_answer, session_with, take_result, take_of}
 use Rattle.ledger.specs.Ledgers.{lane_of_record, lanes_of_records, received_by, received_in, header_terms, Step, taking}
 use Rattle.ledger.specs.Promises.{session_after, answers_of}
 use Rattle.ledger.specs.WholeFiles.{IsRight, Whole, all_in_form, file_of, received_each, TrueFigures, AllAccepted, HeadersAskTheMemory, FileAccepted, FilePosted, FreshSessionAccepts, FreshSessionShows}
 use Rattle.ledger.proofs.Records.{lanes_tally, tariffs_small}
 
 -- a header and a trailer are right under any terms
-pub right_under_any_terms : (t u : Terms) (r : Record) (rec : List ℕ) → is_payment (Is r) ≡ false → IsRight t r rec → IsRight u r rec
+pub right_under_any_terms : (t u : Terms) (r : Record) (rec : List ℕ) → is_payment (Some r) ≡ false → IsRight t r rec → IsRight u r rec
 right_under_any_terms t u r rec e h = (other_ignores u t rec (ap is_payment h.1 ∙ e) ∙ h.0, h.1)
 
 -- a record's first byte, whatever follows the record
@@ -51,13 +50,14 @@ first_of_holds lined rec n = sym (first_in (in_form lined rec)) ∙ ap (λ (l : 
 pub as_many : (lined : Bool) (recs : List (List ℕ)) → length (all_in_form lined recs) ≡ length recs
 as_many lined recs = simp length-map
 
--- taking a record that is accepted by itself and expected, in the form of the open file if there is one, under a right list
+-- taking a record that is accepted by itself and expected, in the form of the open file if there is one, under a right
+-- list
 pub taken : (agreed : List ℕ) → RightList agreed → (s : Session) (lined : Bool) (r : Record) (rec : List ℕ) → IsRight (session_terms agreed s) r rec
-    → session_expects s.opened (Is r) ≡ true → (s.opened ≡ true → lined ≡ s.file.lined)
-    → take_of agreed s (in_form lined rec) ≡ take_result (session_answer s rec (record_shown agreed (Is r) rec)) (session_with s lined rec (record_shown agreed (Is r) rec)) s
+    → session_expects s.opened (Some r) ≡ true → (s.opened ≡ true → lined ≡ s.file.lined)
+    → take_of agreed s (in_form lined rec) ≡ take_result (session_answer s rec (record_shown agreed (Some r) rec)) (session_with s lined rec (record_shown agreed (Some r) rec)) s
 taken agreed right s lined r rec h e form =
     let n = (accepted_is (session_terms agreed s) rec h.0).0 in
-    rw (right, fits_in s.opened s.file.lined rec n lined form, ends_in s.opened s.file.lined rec n lined form, first_of_holds lined rec n, body_in rec n lined, ended_in rec n lined, h.1, h.0, e, then_accepted (session_answer s rec (record_shown agreed (Is r) rec)))
+    rw (right, fits_in s.opened s.file.lined rec n lined form, ends_in s.opened s.file.lined rec n lined form, first_of_holds lined rec n, body_in rec n lined, ended_in rec n lined, h.1, h.0, e, then_accepted (session_answer s rec (record_shown agreed (Some r) rec)))
 
 -- the payments and the trailer, and when they are accepted
 abbrev rest : List ℕ → Bool → List ℕ → List (List ℕ) → List Step

@@ -2,15 +2,13 @@
 -- Assumes nothing.
 use Rattle.std.specs.Prelude.{ℕ, ◌-◌, Bool, not, List, [], ◌∷◌, ◌++◌, map, ◌≡◌, length}
 use Rattle.answer.specs.declared.Reason.TheVariants.{FileOpen}
-use Rattle.answer.specs.declared.Answer.{Answer}
-use Rattle.answer.specs.declared.Answer.TheVariants.{Accepted}
+use Rattle.answer.specs.Answers.{Answer, Accepted}
 use Rattle.answer.specs.Orders.{require, ◌then◌, if_accepted}
 use Rattle.barcode.specs.Agreed.{list_answer}
 use Rattle.session.specs.declared.Session.{Session}
 use Rattle.session.specs.Sessions.{fresh_session, take_of, finish_of}
 use Rattle.session.specs.Runs.{run_of, bytes_of}
-use Rattle.ledger.specs.Ledgers.{Ledger, fresh_ledger, is_open, ledger_check, Step, taking, abandoning}
-use Rattle.ledger.specs.Ledgers.{ledger_step, ledger_after}
+use Rattle.ledger.specs.Ledgers.{Ledger, fresh_ledger, is_open, ledger_check, Step, taking, abandoning, ledger_step, ledger_after}
 use Rattle.ledger.specs.Promises.{session_step, reached, ledger_of, Agrees}
 use Rattle.ledger.specs.Runs.{ledger_pieces}
 

@@ -1,6 +1,6 @@
 -- Lined files against bare ones (SPEC.md, "Line ends"). Assumes nothing.
 use Rattle.std.specs.Prelude.{ℕ, true, false, List, map, ◌↔◌, ◌≡◌, length}
-use Rattle.answer.specs.declared.Answer.TheVariants.{Accepted}
+use Rattle.answer.specs.Answers.{Accepted}
 use Rattle.answer.specs.Orders.{Each}
 use Rattle.layout.specs.Layouts.{record_length}
 use Rattle.file.specs.Forms.{in_form, body_of}

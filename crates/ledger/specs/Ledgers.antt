@@ -1,20 +1,17 @@
 -- The ledger: a second meaning of the records, from their bytes, with no session, no board and no memory (SPEC.md,
 -- "Sessions" and "Sequence numbers"). Of the board it has the type of a lane, as plain data, and the two limits as
 -- numbers; of the memory which number follows another, and how many pairs there can be. Assumes nothing.
-use Rattle.std.specs.Prelude.{ℕ, ◌+◌, Bool, true, false, cond, ◌&&◌, List, [], ◌∷◌, ◌++◌, map, eqb, ltb, leb, length, get_or}
+-- `Maybe` is the code's Option, by which a first byte names a record; `Option` is the logic's.
+use Rattle.std.specs.Prelude.{ℕ, ◌+◌, Bool, true, false, cond, ◌&&◌, Option as Maybe, None, Some, List, [], ◌∷◌, ◌++◌, map, eqb, ltb, leb, length, get_or}
 use Rattle.std.proofs.Math.Option.{Option, none, some}
 use Rattle.answer.specs.Refusals.{received_place, tariff_place, issuer_place, sequence_place, agreement_place}
-use Rattle.answer.specs.declared.Reason.TheVariants.{WrongLength, NotExpected, CountDiffers, TotalDiffers, FileFull}
-use Rattle.answer.specs.declared.Reason.TheVariants.{FileTotalPassed, BoardFull, BoardTotalPassed, NotFollowing}
-use Rattle.answer.specs.declared.Reason.TheVariants.{PairsFull}
-use Rattle.answer.specs.declared.Answer.{Answer}
-use Rattle.answer.specs.declared.Answer.TheVariants.{Accepted}
+use Rattle.answer.specs.declared.Reason.TheVariants.{WrongLength, NotExpected, CountDiffers, TotalDiffers, FileFull, FileTotalPassed, BoardFull, BoardTotalPassed, NotFollowing, PairsFull}
+use Rattle.answer.specs.Answers.{Answer, Accepted}
 use Rattle.answer.specs.Orders.{require, ◌then◌, if_accepted}
 use Rattle.barcode.specs.declared.Issuer.{Issuer}
 use Rattle.barcode.specs.Codes.{issuer_of}
 use Rattle.barcode.specs.Agreed.{list_answer}
-use Rattle.layout.specs.declared.MaybeRecord.{MaybeRecord}
-use Rattle.layout.specs.declared.MaybeRecord.TheVariants.{Is, Other}
+use Rattle.layout.specs.declared.Record.{Record}
 use Rattle.layout.specs.declared.Record.TheVariants.{Header, Payment, Trailer}
 use Rattle.layout.specs.Layouts.{named_by, row_at, agreement_row, bank_row, sequence_row, barcode_row, received_row, tariff_row}
 use Rattle.record.specs.Records.{field_bytes, record_answer}
@@ -158,15 +155,15 @@ is_open_lined (some f) = f.lined
 -- The answer to a record.
 
 -- with no file open A is expected; in an open file G or Z
-abbrev pub ledger_expects : Option Opened → MaybeRecord → Bool
-ledger_expects none (Is Header) = true
-ledger_expects none (Is Payment) = false
-ledger_expects none (Is Trailer) = false
-ledger_expects none Other = false
-ledger_expects (some f) (Is Header) = false
-ledger_expects (some f) (Is Payment) = true
-ledger_expects (some f) (Is Trailer) = true
-ledger_expects (some f) Other = false
+abbrev pub ledger_expects : Option Opened → Maybe Record → Bool
+ledger_expects none (Some Header) = true
+ledger_expects none (Some Payment) = false
+ledger_expects none (Some Trailer) = false
+ledger_expects none None = false
+ledger_expects (some f) (Some Header) = false
+ledger_expects (some f) (Some Payment) = true
+ledger_expects (some f) (Some Trailer) = true
+ledger_expects (some f) None = false
 
 -- 17: these payments name more issuers than a board has lanes; 18: their number or what they received passes the limit,
 -- and then, at its own place, their tariffs do
@@ -197,15 +194,15 @@ header_state_answer files a =
     then require (leb (length (first_of_pairs [] (headers_of files ++ (a ∷ [])))) most_pairs) PairsFull agreement_place
 
 -- with no file open only an A gets this far
-abbrev pub state_answer : List Filed → Option Opened → MaybeRecord → List ℕ → Answer
-state_answer files none (Is Header) rec = header_state_answer files rec
-state_answer files none (Is Payment) rec = Accepted
-state_answer files none (Is Trailer) rec = Accepted
-state_answer files none Other rec = Accepted
-state_answer files (some f) (Is Header) rec = Accepted
-state_answer files (some f) (Is Payment) rec = payment_state_answer files f rec
-state_answer files (some f) (Is Trailer) rec = trailer_state_answer f rec
-state_answer files (some f) Other rec = Accepted
+abbrev pub state_answer : List Filed → Option Opened → Maybe Record → List ℕ → Answer
+state_answer files none (Some Header) rec = header_state_answer files rec
+state_answer files none (Some Payment) rec = Accepted
+state_answer files none (Some Trailer) rec = Accepted
+state_answer files none None rec = Accepted
+state_answer files (some f) (Some Header) rec = Accepted
+state_answer files (some f) (Some Payment) rec = payment_state_answer files f rec
+state_answer files (some f) (Some Trailer) rec = trailer_state_answer f rec
+state_answer files (some f) None rec = Accepted
 
 -- the version that a header's own bytes name; a record of the open file is read under that of its header, and under the
 -- list that is lent with it. With no file open only an A gets this far, which ignores both.
@@ -241,17 +238,17 @@ filed_with f z = record { header = f.header; payments = f.payments; trailer = z;
 
 -- an accepted A opens a file, lined if CR and LF follow it (`ended`), a G is added to it, a Z closes it: it is then an
 -- accepted file
-abbrev pub with_record : List Filed → Option Opened → MaybeRecord → Bool → List ℕ → Ledger
+abbrev pub with_record : List Filed → Option Opened → Maybe Record → Bool → List ℕ → Ledger
 with_record files none named ended rec =
     record { accepted = files; opened = some (record { header = rec; payments = []; lined = ended }) }
-with_record files (some f) (Is Header) ended rec = record { accepted = files; opened = some f }
-with_record files (some f) (Is Payment) ended rec =
+with_record files (some f) (Some Header) ended rec = record { accepted = files; opened = some f }
+with_record files (some f) (Some Payment) ended rec =
     record {
       accepted = files;
       opened = some (record { header = f.header; payments = f.payments ++ (rec ∷ []); lined = f.lined });
     }
-with_record files (some f) (Is Trailer) ended rec = record { accepted = files ++ (filed_with f rec ∷ []); opened = none }
-with_record files (some f) Other ended rec = record { accepted = files; opened = some f }
+with_record files (some f) (Some Trailer) ended rec = record { accepted = files ++ (filed_with f rec ∷ []); opened = none }
+with_record files (some f) None ended rec = record { accepted = files; opened = some f }
 
 -- the ledger with a record, if it is accepted
 abbrev pub next_ledger : Ledger → List ℕ → Ledger

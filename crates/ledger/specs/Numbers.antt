@@ -4,7 +4,7 @@ use Rattle.std.specs.Prelude.{ℕ, ◌≤◌, Bool, false, cond, List, [], ◌�
 use Rattle.std.proofs.Math.Option.{none}
 use Rattle.answer.specs.Refusals.{sequence_place}
 use Rattle.answer.specs.declared.Reason.TheVariants.{NotFollowing}
-use Rattle.answer.specs.declared.Answer.TheVariants.{Refused}
+use Rattle.answer.specs.Answers.{Refused}
 use Rattle.answer.specs.Orders.{Each}
 use Rattle.barcode.specs.Agreed.{RightList}
 use Rattle.file.specs.Forms.{in_form}
@@ -13,8 +13,7 @@ use Rattle.pairs.specs.declared.Pair.{Pair}
 use Rattle.pairs.specs.Pairs.{most_pairs, next_number, remembered_for, follows, pairs_of}
 use Rattle.session.specs.Sessions.{pair_in, take_of}
 use Rattle.session.specs.Runs.{empty_run, run_of, bytes_of}
-use Rattle.ledger.specs.Ledgers.{Filed, payment_records, lanes_of_records, headers_of, number_shown, are_of_one_pair}
-use Rattle.ledger.specs.Ledgers.{latest_number, first_of_pairs, Step}
+use Rattle.ledger.specs.Ledgers.{Filed, payment_records, lanes_of_records, headers_of, number_shown, are_of_one_pair, latest_number, first_of_pairs, Step}
 use Rattle.ledger.specs.Promises.{session_after, reached, ledger_of, shown_lanes}
 use Rattle.ledger.specs.WholeFiles.{records_of, all_in_form, file_of}
 

@@ -1,12 +1,10 @@
 -- The session against the ledger (SPEC.md, "Sessions" and "Board"; demand 2). Assumes nothing.
-use Rattle.std.specs.Prelude.{ℕ, ◌+◌, ◌≤◌, ◌<◌, true, false, ◌&&◌, List, [], ◌∷◌, ◌++◌, ◌↔◌, ◌≡◌, length, get_or}
+use Rattle.std.specs.Prelude.{ℕ, ◌+◌, ◌≤◌, ◌<◌, true, false, ◌&&◌, List, [], ◌∷◌, ◌++◌, ◌↔◌, ◌≡◌, length, get_or, Some}
 use Rattle.std.proofs.Math.Option.{Option, none, some}
 use Rattle.answer.specs.declared.Reason.TheVariants.{FixedDiffers, BoardTotalPassed}
-use Rattle.answer.specs.declared.Answer.{Answer}
-use Rattle.answer.specs.declared.Answer.TheVariants.{Accepted, Refused}
+use Rattle.answer.specs.Answers.{Answer, Accepted, Refused}
 use Rattle.answer.specs.Refusals.{answer_number, answer_place, tariff_place}
 use Rattle.answer.specs.Orders.{Each}
-use Rattle.layout.specs.declared.MaybeRecord.TheVariants.{Is}
 use Rattle.layout.specs.declared.Record.TheVariants.{Payment, Trailer}
 use Rattle.layout.specs.Layouts.{named_by, row_at, version_row}
 use Rattle.barcode.specs.Agreed.{RightList}
@@ -19,15 +17,10 @@ use Rattle.board.specs.declared.Lane.{Lane}
 use Rattle.board.specs.Lanes.{most_lanes, limit, payments_fit, tariff_fits, lanes_from, sum_by, each, issuers_of, Distinct}
 use Rattle.board.specs.Boards.{lanes_of, slot_of, grown_slot, SoundBoard}
 use Rattle.pairs.specs.declared.Pair.{Pair}
-use Rattle.pairs.specs.Pairs.{most_pairs, remembered_for, remembering, no_pair, pairs_of, memory_with, SoundMemory}
-use Rattle.pairs.specs.Pairs.{has_room_for}
+use Rattle.pairs.specs.Pairs.{most_pairs, remembered_for, remembering, no_pair, pairs_of, memory_with, SoundMemory, has_room_for}
 use Rattle.session.specs.declared.Session.{Session}
 use Rattle.session.specs.Sessions.{fresh_session, pair_in, session_terms, take_of, abandon_of, finish_of}
-use Rattle.ledger.specs.Ledgers.{Opened, Filed, Ledger, fresh_ledger, headers_of, payment_records, open_records}
-use Rattle.ledger.specs.Ledgers.{received_by, lane_of_record, lanes_of_records, is_open, is_open_lined}
-use Rattle.ledger.specs.Ledgers.{received_in, tariff_in, of_issuer, issuers_named, ledger_check, Step, taking}
-use Rattle.ledger.specs.Ledgers.{abandoning}
-use Rattle.ledger.specs.Ledgers.{header_terms, open_version, ledger_after, ledger_answers}
+use Rattle.ledger.specs.Ledgers.{Opened, Filed, Ledger, fresh_ledger, headers_of, payment_records, open_records, received_by, lane_of_record, lanes_of_records, is_open, is_open_lined, received_in, tariff_in, of_issuer, issuers_named, ledger_check, Step, taking, abandoning, header_terms, open_version, ledger_after, ledger_answers}
 
 -- The same steps through a session.
 
@@ -157,7 +150,7 @@ abbrev pub TrueTrailersOnly : Type 0
 TrueTrailersOnly =
     (steps : List Step) (f : Opened) (agreed rec : List ℕ)
     → (ledger_of steps).opened ≡ some f → record_check (header_terms agreed f.header) (body_of rec) ≡ Accepted
-    → named_by (get_or rec 0 0) ≡ Is Trailer
+    → named_by (get_or rec 0 0) ≡ Some Trailer
     → ((take_of agreed (reached steps) rec).answer ≡ Accepted)
     ↔ (((trailer_shown (body_of rec)).count ≡ length f.payments + 2)
     × ((trailer_shown (body_of rec)).total ≡ received_in f.payments) × (rec ≡ in_form f.lined (body_of rec)))
@@ -178,7 +171,7 @@ abbrev pub PaymentsTakenUnderAVersion : Type 0
 PaymentsTakenUnderAVersion =
     (agreed : List ℕ) (s : Session) (rec : List ℕ) → RightList agreed → s.opened ≡ true
     → is_version s.file.version ≡ false → fits_length true s.file.lined rec ≡ true
-    → named_by (get_or rec 0 0) ≡ Is Payment
+    → named_by (get_or rec 0 0) ≡ Some Payment
     → (take_of agreed s rec).answer ≡ Refused FixedDiffers (row_at version_row).first
 
 -- 18 points at the tariff exactly if a file is open, what is taken has a length that fits it and is a G that is right
@@ -190,7 +183,7 @@ TariffsAreAskedLast =
     → let body = body_of rec in let p = lane_of_record body in let slot = slot_of s.work p.issuer in
     let lane = (grown_slot slot p).lane.tally in let total = (grown_slot slot p).total in
     ((take_of agreed s rec).answer ≡ Refused BoardTotalPassed tariff_place)
-    ↔ ((s.opened ≡ true) × (fits_length true s.file.lined rec ≡ true) × (named_by (get_or rec 0 0) ≡ Is Payment)
+    ↔ ((s.opened ≡ true) × (fits_length true s.file.lined rec ≡ true) × (named_by (get_or rec 0 0) ≡ Some Payment)
     × (record_check (session_terms agreed s) body ≡ Accepted) × (file_answer s.file (received_by body) ≡ Accepted)
     × (slot.at < most_lanes) × (payments_fit lane ≡ true) × (payments_fit total ≡ true)
     × ((tariff_fits lane && tariff_fits total) ≡ false))
@@ -204,16 +197,16 @@ RefusalKeepsSession =
 -- the board shown stays as it was until a Z is accepted; then the payments of the open file are shown together
 abbrev pub OnlyTrailersShow : Type 0
 OnlyTrailersShow =
-    (agreed : List ℕ) (s : Session) (rec : List ℕ) → (named_by (get_or rec 0 0) ≡ Is Trailer → ⊥)
+    (agreed : List ℕ) (s : Session) (rec : List ℕ) → (named_by (get_or rec 0 0) ≡ Some Trailer → ⊥)
     → (take_of agreed s rec).session.shown ≡ s.shown
 
 abbrev pub TrailersShowAll : Type 0
 TrailersShowAll =
-    (agreed : List ℕ) (s : Session) (rec : List ℕ) → named_by (get_or rec 0 0) ≡ Is Trailer
+    (agreed : List ℕ) (s : Session) (rec : List ℕ) → named_by (get_or rec 0 0) ≡ Some Trailer
     → (take_of agreed s rec).answer ≡ Accepted → (take_of agreed s rec).session.shown ≡ s.work
 
 abbrev pub NoTrailer : Step → Type 0
-NoTrailer (taking agreed rec) = named_by (get_or rec 0 0) ≡ Is Trailer → ⊥
+NoTrailer (taking agreed rec) = named_by (get_or rec 0 0) ≡ Some Trailer → ⊥
 NoTrailer abandoning = Unit {0}
 
 abbrev pub NothingShowsBefore : Type 0
@@ -225,12 +218,12 @@ NothingShowsBefore = (s : Session) (steps : List Step) → Each NoTrailer steps 
 abbrev pub OnlyTrailersRemember : Type 0
 OnlyTrailersRemember =
     (agreed : List ℕ) (s : Session) (rec : List ℕ)
-    → (named_by (get_or rec 0 0) ≡ Is Trailer → (take_of agreed s rec).answer ≡ Accepted → ⊥)
+    → (named_by (get_or rec 0 0) ≡ Some Trailer → (take_of agreed s rec).answer ≡ Accepted → ⊥)
     → (take_of agreed s rec).session.memory ≡ s.memory
 
 abbrev pub TrailersRemember : Type 0
 TrailersRemember =
-    (agreed : List ℕ) (s : Session) (rec : List ℕ) → named_by (get_or rec 0 0) ≡ Is Trailer
+    (agreed : List ℕ) (s : Session) (rec : List ℕ) → named_by (get_or rec 0 0) ≡ Some Trailer
     → (take_of agreed s rec).answer ≡ Accepted
     → ((take_of agreed s rec).session.memory ≡ memory_with s.memory s.opening)
     × (length s.memory.pairs ≡ most_pairs → has_room_for s.memory s.opening ≡ true

@@ -1,7 +1,6 @@
 -- A run over many records against the ledger: what the program `quadro` shows. Assumes nothing.
 use Rattle.std.specs.Prelude.{ℕ, zero, suc, ◌+◌, Bool, true, false, cond, List, [], ◌∷◌, map, ◌≡◌, ltb, length, get_or, take, drop}
-use Rattle.answer.specs.declared.Answer.{Answer}
-use Rattle.answer.specs.declared.Answer.TheVariants.{Accepted}
+use Rattle.answer.specs.Answers.{Answer, Accepted}
 use Rattle.answer.specs.Orders.{Each}
 use Rattle.barcode.specs.Agreed.{RightList}
 use Rattle.layout.specs.Layouts.{record_length}
@@ -12,8 +11,7 @@ use Rattle.session.specs.declared.RunResult.{RunResult}
 use Rattle.session.specs.declared.Session.{Session}
 use Rattle.session.specs.Sessions.{fresh_session, closed_at, pair_in}
 use Rattle.session.specs.Runs.{least_left, pieces_of, run_of, bytes_of}
-use Rattle.ledger.specs.Ledgers.{Ledger, fresh_ledger, lanes_of_records, is_open, is_open_lined, ledger_check, Step}
-use Rattle.ledger.specs.Ledgers.{taking, ledger_step, ledger_answers}
+use Rattle.ledger.specs.Ledgers.{Ledger, fresh_ledger, lanes_of_records, is_open, is_open_lined, ledger_check, Step, taking, ledger_step, ledger_answers}
 use Rattle.ledger.specs.Promises.{answers_of, reached, ledger_of}
 use Rattle.ledger.specs.WholeFiles.{Whole, records_of, all_in_form, file_of, AllAccepted}
 

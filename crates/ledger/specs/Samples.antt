@@ -1,7 +1,7 @@
 -- The worked file (SPEC.md, "Samples"), a day past 32 bits, and other histories, each from a fresh session.
 -- Assumes nothing.
 use Rattle.std.specs.Prelude.{ℕ, zero, suc, ◌+◌, true, List, [], ◌∷◌, ◌++◌, map, ◌≡◌, replicate}
-use Rattle.answer.specs.declared.Answer.{Answer}
+use Rattle.answer.specs.Answers.{Answer}
 use Rattle.answer.specs.Refusals.{answer_number, answer_place}
 use Rattle.decimal.specs.Numbers.{digits_of}
 use Rattle.barcode.specs.declared.Issuer.{Issuer}

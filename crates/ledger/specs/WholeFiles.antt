@@ -1,9 +1,7 @@
 -- A whole file: when a session takes all its records, and what it then shows. Assumes nothing.
-use Rattle.std.specs.Prelude.{ℕ, ◌+◌, ◌≤◌, Bool, false, List, [], ◌∷◌, ◌++◌, map, ◌↔◌, ◌≡◌, length, get_or}
-use Rattle.answer.specs.declared.Answer.{Answer}
-use Rattle.answer.specs.declared.Answer.TheVariants.{Accepted}
+use Rattle.std.specs.Prelude.{ℕ, ◌+◌, ◌≤◌, Bool, false, List, [], ◌∷◌, ◌++◌, map, ◌↔◌, ◌≡◌, length, get_or, Some}
+use Rattle.answer.specs.Answers.{Answer, Accepted}
 use Rattle.answer.specs.Orders.{Each}
-use Rattle.layout.specs.declared.MaybeRecord.TheVariants.{Is}
 use Rattle.layout.specs.declared.Record.{Record}
 use Rattle.layout.specs.declared.Record.TheVariants.{Header, Payment, Trailer}
 use Rattle.layout.specs.Layouts.{named_by}
@@ -18,13 +16,12 @@ use Rattle.board.specs.Boards.{post_answers, board_with_all}
 use Rattle.session.specs.declared.Session.{Session}
 use Rattle.pairs.specs.Pairs.{memory_answer, memory_with}
 use Rattle.session.specs.Sessions.{fresh_session, closed_at, opened_at, pair_in, take_result, take_of}
-use Rattle.ledger.specs.Ledgers.{Filed, lanes_of_records, received_by, received_in, tariff_in, header_terms, Step}
-use Rattle.ledger.specs.Ledgers.{taking}
+use Rattle.ledger.specs.Ledgers.{Filed, lanes_of_records, received_by, received_in, tariff_in, header_terms, Step, taking}
 use Rattle.ledger.specs.Promises.{session_after, answers_of, reached, ledger_of, shown_lanes}
 
 -- a record of this kind that is accepted by itself, under these terms
 abbrev pub IsRight : Terms → Record → List ℕ → Type 0
-IsRight t r rec = (record_answer t rec ≡ Accepted) × (named_by (get_or rec 0 0) ≡ Is r)
+IsRight t r rec = (record_answer t rec ≡ Accepted) × (named_by (get_or rec 0 0) ≡ Some r)
 
 -- a file: A, its payments, Z, each right under the version that the header names and under a right list
 pub record Whole (agreed a : List ℕ) (recs : List (List ℕ)) (z : List ℕ) : Type 0 where
@@ -90,7 +87,7 @@ FilePosted =
 abbrev pub AcceptedFileIsWhole : Type 0
 AcceptedFileIsWhole =
     (agreed : List ℕ) (s : Session) (a : List ℕ) (recs : List (List ℕ)) (z : List ℕ) → s.opened ≡ false
-    → Each (λ (rec : List ℕ). named_by (get_or rec 0 0) ≡ Is Payment) recs → named_by (get_or z 0 0) ≡ Is Trailer
+    → Each (λ (rec : List ℕ). named_by (get_or rec 0 0) ≡ Some Payment) recs → named_by (get_or z 0 0) ≡ Some Trailer
     → AllAccepted (answers_of s (map (taking agreed) (records_of a recs z)))
     → Whole agreed (body_of a) (map body_of recs) (body_of z)
     × (records_of a recs z ≡ all_in_form (has_line_end a) (records_of (body_of a) (map body_of recs) (body_of z)))

@@ -1,6 +1,6 @@
 -- A file that the writer closed, as a fresh session takes it. Assumes nothing.
 use Rattle.std.specs.Prelude.{ℕ, ◌+◌, ◌≤◌, Bool, false, List, [], ◌∷◌, map, ◌≡◌, length}
-use Rattle.answer.specs.declared.Answer.TheVariants.{Accepted}
+use Rattle.answer.specs.Answers.{Accepted}
 use Rattle.barcode.specs.Agreed.{RightList}
 use Rattle.layout.specs.declared.Record.TheVariants.{Header, Payment}
 use Rattle.layout.specs.Layouts.{joined_of, received_row, tariff_row}
@@ -12,8 +12,7 @@ use Rattle.session.specs.declared.Session.{Session}
 use Rattle.session.specs.Sessions.{fresh_session}
 use Rattle.session.specs.Runs.{run_of, bytes_of}
 use Rattle.writer.specs.declared.Writer.{Writer}
-use Rattle.writer.specs.Writers.{fresh_writer, header_answer, header_written, header_bytes, payment_check, payment_written}
-use Rattle.writer.specs.Writers.{is_lined_buffer, payment_bytes, trailer_answer, trailer_bytes}
+use Rattle.writer.specs.Writers.{fresh_writer, header_answer, header_written, header_bytes, payment_check, payment_written, is_lined_buffer, payment_bytes, trailer_answer, trailer_bytes}
 use Rattle.ledger.specs.Ledgers.{Step, lanes_of_records}
 use Rattle.ledger.specs.Promises.{answers_of, shown_lanes}
 use Rattle.ledger.specs.WholeFiles.{Whole, records_of, all_in_form, file_of, TrueFigures, AllAccepted}

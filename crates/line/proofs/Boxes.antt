@@ -9,8 +9,7 @@ use lib.Dec.{eqb}
 use lib.ListN.{length, get_or, take, drop, length-drop, take-append-drop, get_or-append}
 use lib.Seq.{length-take-le, take_all, take_at, drop_at, drop-drop, get_or_at, get_or-take, get_or-drop, take-suc}
 use Rattle.answer.specs.declared.Reason.TheVariants.{WrongLength, WrongGeneralCheck}
-use Rattle.answer.specs.declared.Answer.{Answer}
-use Rattle.answer.specs.declared.Answer.TheVariants.{Accepted}
+use Rattle.answer.specs.Answers.{Answer, Accepted}
 use Rattle.answer.specs.Orders.{require, ◌then◌, first_refusal, moved_by}
 use Rattle.answer.proofs.Orders.{then_accepts, moved_accepts}
 use Rattle.answer.proofs.Steps.{passed}

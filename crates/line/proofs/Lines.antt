@@ -1,40 +1,30 @@
 -- Laws of the line's boxes and of the bytes that are put together. Assumes nothing.
+use Rattle.std.specs.Prelude.{Err}
 use Prim.Native.Nat.{ℕ, ◌+◌, ◌-◌, ◌*◌, ◌≤◌}
-use mathlib.Core.Bool.{Bool, true, false}
+use mathlib.Core.Bool.{true}
 use mathlib.Core.List.{List, [], ◌∷◌, ◌++◌, append_assoc, append-nil}
 use mathlib.Core.Logic.{◌↔◌}
 use mathlib.Core.Path.{◌≡◌, refl, sym, ap, ◌∙◌}
 use native.Mathlib.Nat.{le_of_eq}
 use native.Mathlib.Omega.{arith}
-use borrow.Author.Tests.{eq-eqb, ne_eqb, eqb-true}
+use borrow.Author.Tests.{eq-eqb}
 use lib.Dec.{eqb}
 use lib.ListN.{length, get_or, set, take, drop, length-append, length-drop, drop_of_length-le}
 use lib.Seq.{length-take-le, drop-cons, set_at}
-use Rattle.answer.specs.declared.Reason.{Reason}
-use Rattle.answer.specs.declared.Reason.TheVariants.{WrongLength, WrongBoxCheck}
-use Rattle.answer.specs.declared.Answer.{Answer}
-use Rattle.answer.specs.declared.Answer.TheVariants.{Accepted, Refused}
+use Rattle.answer.specs.declared.Refusal.{Refusal}
+use Rattle.answer.specs.declared.Reason.TheVariants.{WrongBoxCheck}
+use Rattle.answer.specs.Answers.{Answer, Accepted}
 use Rattle.answer.specs.Orders.{◌then◌, first_refusal, moved_by, Each}
 use Rattle.answer.proofs.Orders.{require_accepts, then_accepts, then_groups, moved_then}
-use Rattle.answer.proofs.Steps.{passed}
 use Rattle.decimal.specs.Places.{Stretch, put_at}
 use Rattle.decimal.proofs.Places.{put_next}
 use Rattle.modulus.specs.declared.Modulus.{Modulus}
 use Rattle.modulus.specs.Checks.{check_of}
 use Rattle.barcode.specs.declared.Fields.{Fields}
-use Rattle.barcode.specs.declared.Decoded.TheVariants as decoding
 use Rattle.barcode.specs.Codes.{digit_at, modulus_of, prefix_answer, full_length_answer, barcode_answer}
 use Rattle.barcode.specs.Agreed.{due_answer, barcode_under}
 use Rattle.barcode.specs.Shown.{decoded}
 use Rattle.line.specs.Lines.{boxes, code_of, in_line, box_right, box_answer, boxes_then, checked_box, line_body, line_answer, line_under}
-
--- a box under the modulus in hand, which is the one that the line names
-module _ (line : List ℕ) (box : Stretch) {m : Modulus} {r : Bool} (em : m ≡ modulus_of (digit_at 3 line)) (er : r ≡ box_right m line box) where
-  pub box_wrong : r ≡ false → box_right (modulus_of (digit_at 3 line)) line box ≡ false
-  box_wrong h = rw (← em) (sym er ∙ h)
-
-  pub box_holds : r ≡ true → box_right (modulus_of (digit_at 3 line)) line box ≡ true
-  box_holds h = rw (← em) (sym er ∙ h)
 
 -- a box that starts at an index
 pub box_from : (m : Modulus) (line : List ℕ) (from : ℕ) {c : ℕ} → c ≡ 48 + check_of m (take (from + 11 - from) (drop from line))
@@ -108,15 +98,6 @@ code_body line n = rw (eq-eqb _ _ (code_length_holds line n))
 pub line_body_holds : (line : List ℕ) → length line ≡ 48 → line_answer line ≡ line_body line
 line_body_holds line n = rw (eq-eqb _ _ n)
 
-pub line_short : (agreed line : List ℕ) → (length line ≡ 48 → ⊥) → line_under agreed line ≡ Refused WrongLength 0
-line_short agreed line h = rw (ne_eqb _ _ h)
-
-pub line_length_holds : (line : List ℕ) → line_answer line ≡ Accepted → length line ≡ 48
-line_length_holds line e = eqb-true (length line) 48 (passed (eqb (length line) 48) WrongLength 0 e).0
-
-pub line_under_length : (agreed line : List ℕ) → line_under agreed line ≡ Accepted → length line ≡ 48
-line_under_length agreed line e = line_length_holds line ((then_accepts (line_answer line) (moved_by in_line (due_answer agreed (code_of line)))).0 e).0
-
 -- behind the boxes comes the answer of the code under the same list
 pub line_under_holds : (agreed line : List ℕ) → length line ≡ 48
     → line_under agreed line ≡ prefix_answer line then boxes_then line (barcode_under agreed (code_of line))
@@ -130,5 +111,5 @@ line_under_holds agreed line n =
     rw (line_body_holds line n, code_body line n) (checks code due)
 
 -- what a decoder shows
-pub shown_refused : {a b : Answer} {why : Reason} {p : ℕ} (f : Fields) → a ≡ b → a ≡ Refused why p → decoding.Refused why p ≡ decoded b f
-shown_refused {a} {b} {why} {p} f e g = let h : b ≡ Refused why p = cc in rw h
+pub shown_refused : {a b : Answer} {refusal : Refusal} (f : Fields) → a ≡ b → a ≡ Err refusal → Err refusal ≡ decoded b f
+shown_refused {a} {b} {refusal} f e g = let h : b ≡ Err refusal = cc in rw h

@@ -7,8 +7,7 @@ use native.Mathlib.Omega.{arith}
 use borrow.Author.Tests.{eq-eqb}
 use lib.ListN.{length, get_or, take, drop, length-append}
 use lib.Seq.{get_or-drop}
-use Rattle.answer.specs.declared.Answer.{Answer}
-use Rattle.answer.specs.declared.Answer.TheVariants.{Accepted}
+use Rattle.answer.specs.Answers.{Answer, Accepted}
 use Rattle.answer.proofs.Orders.{refusal_keeps}
 use Rattle.decimal.specs.Numbers.{value_of}
 use Rattle.decimal.proofs.Places.{joins}

@@ -1,4 +1,5 @@
 -- A line under a list of agreed issuers. Assumes nothing.
+use Rattle.std.specs.Prelude.{Err}
 use Prim.Native.Nat.{ℕ, ◌+◌, ◌≤◌}
 use mathlib.Core.List.{List, [], ◌∷◌}
 use mathlib.Core.Logic.{inl, inr, ⊎_elim}
@@ -7,15 +8,14 @@ use native.Mathlib.Omega.{arith}
 use lib.Dec.{eqb}
 use lib.ListN.{length}
 use Rattle.answer.specs.declared.Reason.TheVariants.{WrongLength, WrongBoxCheck}
-use Rattle.answer.specs.declared.Answer.{Answer}
-use Rattle.answer.specs.declared.Answer.TheVariants.{Accepted, Refused}
+use Rattle.answer.specs.Answers.{Answer, Accepted}
 use Rattle.answer.specs.Orders.{require, first_refusal, moved_by}
 use Rattle.answer.specs.Refusals.{answer_number}
 use Rattle.answer.proofs.Orders.{then_accepts, then_accepted, moved_number, moved_accepts, require_number, then_number}
 use Rattle.decimal.specs.Places.{Stretch}
 use Rattle.barcode.specs.Codes.{digit_at, modulus_of, issuer_of, free_of, prefix_answer, full_length_answer}
 use Rattle.barcode.specs.Agreed.{list_answer, due_answer, barcode_check}
-use Rattle.barcode.specs.Shown.{fields_of, decoded, decoded_under}
+use Rattle.barcode.specs.Shown.{fields_of, decoded}
 use Rattle.barcode.proofs.Lists.{empty_is_right, free_accepts, free_answers, shows_due, due_of_none, behind_checks}
 use Rattle.barcode.proofs.RoundTrips.{check_tells}
 use Rattle.barcode.proofs.Codes.{prefix_number, full_length_number}
@@ -90,17 +90,9 @@ no_due_date_passes_checks agreed line e =
 pub empty_list_asks_nothing : EmptyListAsksNothing
 empty_list_asks_nothing line = rw (empty_is_right, due_of_none (code_of line)) (then_accepted (line_answer line))
 
--- what a line with right check digits decodes to
-pub decodes_as_code : (agreed line : List ℕ) → line_under agreed line ≡ Accepted
-    → decoded_under agreed (code_of line) ≡ decoded (line_under agreed line) (fields_of agreed (code_of line))
-decodes_as_code agreed line e =
-    let due = due_answer agreed (code_of line) in
-    let told = (then_accepts (line_answer line) (moved_by in_line due)).0 e in
-    rw (e, ((line_is_boxes_and_code line).0 told.0).code, (moved_accepts in_line due).0 told.1)
-
 pub decoded_line_answers : DecodedLineAnswers
 decoded_line_answers agreed line = answers (line_check agreed line)
   where
     answers : (a : Answer) → answer_of_barcode (decoded a (fields_of agreed (code_of line))) ≡ a
     answers Accepted = refl
-    answers (Refused why place) = refl
+    answers (Err refusal) = refl

@@ -1,15 +1,14 @@
 -- The typed line of 48 digits (SPEC.md, "Typed line"). Assumes nothing.
 use Rattle.std.specs.Prelude.{ℕ, ◌+◌, ◌-◌, ◌/◌, Bool, List, [], ◌∷◌, ◌++◌, eqb, length, get_or}
 use Rattle.answer.specs.declared.Reason.TheVariants.{WrongLength, WrongBoxCheck}
-use Rattle.answer.specs.declared.Answer.{Answer}
+use Rattle.answer.specs.Answers.{Answer}
 use Rattle.answer.specs.Orders.{require, ◌then◌, first_refusal, moved_by}
 use Rattle.decimal.specs.Places.{Stretch, part_at, gather}
 use Rattle.modulus.specs.declared.Modulus.{Modulus}
 use Rattle.modulus.specs.Checks.{check_of}
-use Rattle.barcode.specs.declared.Decoded.{Decoded}
+use Rattle.barcode.specs.Shown.{Decoded, fields_of, decoded}
 use Rattle.barcode.specs.Codes.{code_length, digit_at, modulus_of, prefix_answer, full_length_answer}
 use Rattle.barcode.specs.Agreed.{list_answer, due_answer, barcode_under}
-use Rattle.barcode.specs.Shown.{fields_of, decoded}
 
 abbrev pub line_length : ℕ
 line_length = 48

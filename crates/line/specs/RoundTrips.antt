@@ -1,19 +1,16 @@
 -- What is promised of typed lines and their barcodes. Assumes nothing.
-use Rattle.std.specs.Prelude.{ℕ, true, false, List, [], ◌↔◌, ◌⊎◌, ◌≡◌, length}
+use Rattle.std.specs.Prelude.{Ok, ℕ, true, false, List, [], ◌↔◌, ◌⊎◌, ◌≡◌, length}
 use Rattle.answer.specs.declared.Reason.TheVariants.{NoDate, WrongGeneralCheck}
-use Rattle.answer.specs.declared.Answer.{Answer}
-use Rattle.answer.specs.declared.Answer.TheVariants.{Accepted, Refused}
+use Rattle.answer.specs.Answers.{Answer, Accepted, Refused}
 use Rattle.answer.specs.Refusals.{answer_number}
 use Rattle.answer.specs.Orders.{require, if_accepted, Each}
 use Rattle.barcode.specs.declared.Issuer.{Issuer}
-use Rattle.barcode.specs.declared.Decoded.TheVariants.{Read}
 use Rattle.barcode.specs.Codes.{digit_at, modulus_of, free, issuer_of, free_of, prefix_answer, general_right, barcode_answer}
 use Rattle.barcode.specs.Agreed.{is_agreed, due_of, barcode_check, RightList, DueIsRight, ShowsDue}
 use Rattle.barcode.specs.Shown.{fields_of}
 use Rattle.barcode.specs.Building.{built_of}
 use Rattle.barcode.specs.RoundTrips.{answer_of_barcode, shown_fields, built_from, from_answer, WithinRanges}
-use Rattle.line.specs.Lines.{line_length, boxes, code_of, in_line, box_right, line_answer, line_check, decoded_line}
-use Rattle.line.specs.Lines.{line_of, to_line_check, to_code_check}
+use Rattle.line.specs.Lines.{line_length, boxes, code_of, in_line, box_right, line_answer, line_check, decoded_line, line_of, to_line_check, to_code_check}
 
 -- a line passes its checks exactly when its four box checks hold and its barcode passes its own
 pub record SoundLine (line : List ℕ) : Type 0 where
@@ -105,7 +102,7 @@ FieldsGiveALine =
     (agreed : List ℕ) (i : Issuer) (kind amount : ℕ) (rest : List ℕ) → RightList agreed
     → WithinRanges i kind amount rest → DueIsRight agreed i rest
     → decoded_line agreed (line_of (built_of i kind amount rest))
-    ≡ Read (record { kind = kind; value = amount; issuer = i; due = due_of agreed i rest })
+    ≡ Ok (record { kind = kind; value = amount; issuer = i; due = due_of agreed i rest })
 
 -- a refused conversion leaves every byte of the caller's buffer as it was
 abbrev pub RefusedConversionsKeep : Type 0

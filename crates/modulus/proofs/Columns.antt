@@ -1,24 +1,25 @@
 -- Laws of three rows of sixteen digits, which tie `sums_of_forty` to the sums of specs/Checks.antt. Assumes nothing.
+use Rattle.std.specs.Prelude.{Some, None}
+use Rattle.modulus.specs.declared.BothSums.{BothSums}
 use Prim.Native.Nat.{ℕ, suc, ◌+◌, ◌-◌, ◌*◌, ◌%◌, ◌≤◌, ◌<◌}
-use mathlib.Core.Bool.{Bool, true, false, cond, ◌&&◌, and-true, and-eq-true_iff}
-use mathlib.Core.List.{List, []}
+use mathlib.Core.Bool.{Bool, true, false, cond, ◌&&◌, and-eq-true_iff}
+use mathlib.Core.List.{List}
 use mathlib.Core.Path.{◌≡◌, refl, sym, ap, ◌∙◌}
-use native.Mathlib.Nat.{mul-zero, mul-add, mul-le-mul}
+use native.Mathlib.Nat.{mul-zero, mul-add}
 use native.Mathlib.Numerals.{add-one}
 use native.Mathlib.Omega.{arith}
 use borrow.Author.Tests.{leb-true, leb-false, ltb-true, ltb-false, eq-eqb, ne_eqb}
 use lib.Bits.{bit_or}
 use lib.Dec.{eqb, leb, ltb}
-use lib.ListN.{length, get_or, take, drop, length-drop, drop_of_length-le, take-append-drop}
+use lib.ListN.{length, get_or, take, drop, length-drop, take-append-drop}
 use lib.Seq.{drop-cons, drop-drop, take_all}
 use Rattle.decimal.specs.declared.Class.TheVariants.{Digit}
 use Rattle.decimal.specs.Bytes.{is_of, all}
 use Rattle.decimal.specs.Numbers.{value_of}
-use Rattle.decimal.proofs.Bytes.{flag_on, all_at, row_fails, row_passes, last_row, two_flags}
+use Rattle.decimal.proofs.Bytes.{flag_on, all_at, row_fails, row_passes, last_row}
 use Rattle.decimal.proofs.Numbers.{low_value, value_small}
 use Rattle.modulus.specs.declared.Modulus.{Modulus}
 use Rattle.modulus.specs.declared.Modulus.TheVariants.{Ten, Eleven}
-use Rattle.modulus.specs.declared.MaybeSums.TheVariants.{Both, NoSum}
 use Rattle.modulus.specs.Checks.{added_by, weight_of, product_part, term_of, weighted_sum, both_sums}
 use Rattle.modulus.specs.Columns.{are_digits, counted, column_adds}
 use Rattle.modulus.proofs.Sums.{parts_compose, sum_period}
@@ -37,13 +38,6 @@ twice k d e h = rw e (go (leb 5 d) refl)
     go true f = omega (arith, leb-true 5 d f)
     go false f = omega (arith, leb-false 5 d f)
 
-carried : (d : ℕ) → 9 * cond (leb 5 d) 1 0 ≤ 2 * d
-carried d = go (leb 5 d) refl
-  where
-    go : (t : Bool) → leb 5 d ≡ t → 9 * cond t 1 0 ≤ 2 * d
-    go true e = omega (arith, leb-true 5 d e)
-    go false e = omega arith
-
 -- Column i with the values a, b and c.
 module _ (i a b c : ℕ) (h : i < 16) where
   pub column_once : i % 2 ≡ 0 → a ≤ 9 → b ≤ 9 → c ≤ 9
@@ -53,9 +47,6 @@ module _ (i a b c : ℕ) (h : i < 16) where
       omega (arith, once (15 - i) a k p, once (15 - i) b k q, once (15 - i) c k r)
 
   module _ {x y z : ℕ} (ex : x ≡ cond (leb 5 a) 1 0) (ey : y ≡ cond (leb 5 b) 1 0) (ez : z ≡ cond (leb 5 c) 1 0) where
-    pub carries_fit : 9 * (x + (y + z)) ≤ 2 * (a + (b + c))
-    carries_fit = omega (arith, carried a, carried b, carried c, ex, ey, ez)
-
     pub column_twice : (i % 2 ≡ 0 → ⊥) → a ≤ 9 → b ≤ 9 → c ≤ 9
         → 2 * (a + (b + c)) - 9 * (x + (y + z)) ≡ column_adds Ten i a b c
     column_twice e p q r =
@@ -65,14 +56,6 @@ module _ (i a b c : ℕ) (h : i < 16) where
   pub column_weighed : (2 + (15 - i) % 8) * (a + (b + c)) ≡ column_adds Eleven i a b c
   unfolding added_by
   column_weighed = rw (mul-add (2 + (15 - i) % 8) a (b + c), mul-add (2 + (15 - i) % 8) b c)
-
-  pub column_small : a ≤ 15 → b ≤ 15 → c ≤ 15 → (2 + (15 - i) % 8) * (a + (b + c)) ≤ 405
-  column_small p q r = let fits : (2 + (15 - i) % 8) * (a + (b + c)) ≤ 9 * 45 = mul-le-mul {n₂ = 9} {m₂ = 45} (omega arith) (omega arith) in fits
-
--- the error bits of three bytes make one
-pub three_flags : (t u v : Bool) {f g h : ℕ} → f ≡ cond t 0 1 → g ≡ cond u 0 1 → h ≡ cond v 0 1
-    → bit_or f (bit_or g h) ≡ cond (t && (u && v)) 0 1
-three_flags t u v ef eg eh = rw (ef, eg, eh, two_flags u v, two_flags t (u && v))
 
 nothing : (m : Modulus) (k : ℕ) → added_by m k 0 ≡ 0
 unfolding added_by
@@ -163,19 +146,6 @@ module _ (x y z : List ℕ) (lx : length x ≡ 16) (ly : length y ≡ 16) (lz : 
       = rw (fa, fb, fc) at (et (rw fa (value_small (get_or x i 0))) (rw fb (value_small (get_or y i 0))) (rw fc small)) in
       omega (arith, sum_step m)
 
--- After the last column nothing is left.
-module _ (x y z : List ℕ) (lx : length x ≡ 16) (ly : length y ≡ 16) (lz : length z ≡ 16) (i : ℕ) (h : 16 ≤ i) where
-  none : (l : List ℕ) → length l ≡ 16 → drop i l ≡ []
-  none l e = let past : length l ≤ i = omega arith in drop_of_length-le l past
-
-  pub digits_end : (n : ℕ) {r : Bool} → (eqb n 0 && left_digits x y z i) ≡ r → eqb n 0 ≡ r
-  digits_end n q = rw (none x lx, none y ly, none z lz, and-true) at q
-
-  pub sum_ends : (m : Modulus) (s : ℕ) {r : ℕ} → s + left_sum m x y z i ≡ r → s ≡ r
-  sum_ends m s q =
-      let k : 8 - i ≡ 0 = omega arith in
-      omega (arith, rw (k, none x lx, none y ly, none z lz) at q)
-
 -- Forty bytes as such rows.
 abbrev rows_are_digits : List ℕ → Bool
 rows_are_digits bs = are_digits (take 16 bs) (take 16 (drop 16 bs)) (take 16 (drop 24 bs))
@@ -210,28 +180,31 @@ module _ (bs : List ℕ) (n : length bs ≡ 40) where
 
   -- from what the rows gave
   module _ (flag : ℕ) (e : eqb flag 0 ≡ rows_are_digits bs) where
-    pub no_sum : (flag ≡ 0 → ⊥) → NoSum ≡ both_sums bs
+    pub no_sum : (flag ≡ 0 → ⊥) → None ≡ both_sums bs
     no_sum h = let t : all (is_of Digit) bs ≡ false = sym forty_digits ∙ sym e ∙ ne_eqb flag 0 h in rw (eq-eqb (length bs) 40 n, t)
 
     pub both_sums_holds : {a b : ℕ} → flag ≡ 0
         → (rows_are_digits bs ≡ true → a ≡ rows_counted Ten bs)
         → (rows_are_digits bs ≡ true → b ≡ rows_counted Eleven bs)
-        → Both a b ≡ both_sums bs
+        → Some (record { ten = a; eleven = b }) ≡ both_sums bs
     both_sums_holds h ea eb =
         let d = sym e ∙ eq-eqb flag 0 h in
         let t : all (is_of Digit) bs ≡ true = sym forty_digits ∙ d in
         rw (eq-eqb (length bs) 40 n, t, ea d, eb d, forty_sum Ten, forty_sum Eleven)
 
 -- what a sum, or none, tells of the bytes
-pub sums_tell : (bs : List ℕ) {a b : ℕ} → Both a b ≡ both_sums bs
-    → (all (is_of Digit) bs ≡ true) × (a ≡ weighted_sum Ten 0 bs) × (b ≡ weighted_sum Eleven 0 bs)
-sums_tell bs {a} {b} e = go (eqb (length bs) 40) (all (is_of Digit) bs) e
+pub sums_tell : (bs : List ℕ) {s : BothSums} → Some s ≡ both_sums bs
+    → (all (is_of Digit) bs ≡ true) × (s.ten ≡ weighted_sum Ten 0 bs) × (s.eleven ≡ weighted_sum Eleven 0 bs)
+sums_tell bs {s} e = go (eqb (length bs) 40) (all (is_of Digit) bs) e
   where
-    go : (t u : Bool) → Both a b ≡ cond (t && u) (Both (weighted_sum Ten 0 bs) (weighted_sum Eleven 0 bs)) NoSum
-        → (u ≡ true) × (a ≡ weighted_sum Ten 0 bs) × (b ≡ weighted_sum Eleven 0 bs)
-    go true true f = (refl, cc, cc)
+    sums : BothSums
+    sums = record { ten = weighted_sum Ten 0 bs; eleven = weighted_sum Eleven 0 bs }
+
+    go : (t u : Bool) → Some s ≡ cond (t && u) (Some sums) None
+        → (u ≡ true) × (s.ten ≡ weighted_sum Ten 0 bs) × (s.eleven ≡ weighted_sum Eleven 0 bs)
+    go true true f = let g : s ≡ sums = cc in (refl, ap (λ (x : BothSums). x.ten) g, ap (λ (x : BothSums). x.eleven) g)
     go true false f = let z : ◌≡◌ {A = ℕ} 0 1 = cc in absurd (omega arith)
     go false u f = let z : ◌≡◌ {A = ℕ} 0 1 = cc in absurd (omega arith)
 
-pub no_sum_tells : (bs : List ℕ) → length bs ≡ 40 → all (is_of Digit) bs ≡ true → NoSum ≡ both_sums bs → ⊥
+pub no_sum_tells : (bs : List ℕ) → length bs ≡ 40 → all (is_of Digit) bs ≡ true → None ≡ both_sums bs → ⊥
 no_sum_tells bs n t e = let f = rw (eq-eqb (length bs) 40 n, t) at e in let z : ◌≡◌ {A = ℕ} 0 1 = cc in omega arith

@@ -1,14 +1,14 @@
 -- Laws of the sums, over the modulus and over any list. Assumes nothing.
-use Prim.Native.Nat.{ℕ, suc, ◌+◌, ◌-◌, ◌*◌, ◌%◌, ◌≤◌, ◌<◌}
-use mathlib.Core.List.{List, [], ◌∷◌, ◌++◌}
-use mathlib.Core.Path.{◌≡◌, refl, ap, ◌∙◌}
-use native.Mathlib.Nat.{zero-mod, mod-add-mod, mul-le-mul, le_trans, add-zero}
+use Prim.Native.Nat.{ℕ, suc, ◌+◌, ◌-◌, ◌*◌, ◌%◌, ◌≤◌, ◌<◌, min}
+use mathlib.Core.List.{List, [], ◌∷◌, ◌++◌, append_assoc}
+use mathlib.Core.Path.{◌≡◌, refl, sym, ap, ◌∙◌}
+use native.Mathlib.Nat.{mod-add-mod, mul-le-mul, le_trans}
 use native.Mathlib.Numerals.{add-one}
 use native.Mathlib.Omega.{arith}
 use borrow.Author.Tests.{leb-false, eqb-false}
 use lib.Dec.{leb, eqb}
-use lib.ListN.{length, get_or, take, drop, length-drop, length-append, drop_of_length-le, take-append-drop}
-use lib.Seq.{drop-cons, drop-length, drop-drop}
+use lib.ListN.{length, get_or, drop, length-drop, length-append}
+use lib.Seq.{drop-cons}
 use Rattle.decimal.specs.Numbers.{value_of}
 use Rattle.decimal.proofs.Finite.{split}
 use Rattle.decimal.proofs.Numbers.{value_small, digit_back}
@@ -59,19 +59,16 @@ pub sum_small : (m : Modulus) (k : ℕ) (bs : List ℕ) → weighted_sum m k bs 
 sum_small m k [] = omega arith
 sum_small m k (b ∷ bs) = omega (arith, term_small m (k + length bs) b, sum_small m k bs)
 
--- A loop from the left at byte i: what it has, and the sum from i on, is the whole sum.
-module _ (m : Modulus) (k : ℕ) (bs : List ℕ) (i sum : ℕ) where
-  pub sum_step : {t : ℕ} → i < length bs → t ≡ term_of m (k + (length bs - 1 - i)) (get_or bs i 0)
-      → (sum ≤ 81 * i) × (sum + weighted_sum m k (drop i bs) ≡ weighted_sum m k bs)
-      → (sum + t ≤ 81 * (i + 1)) × (sum + t + weighted_sum m k (drop (i + 1) bs) ≡ weighted_sum m k bs)
-  sum_step h e inv =
-      let l : length (drop (suc i) bs) ≡ length bs - 1 - i = omega (arith, length-drop (suc i) bs) in
-      let step : weighted_sum m k (drop i bs) ≡ term_of m (k + (length bs - 1 - i)) (get_or bs i 0) + weighted_sum m k (drop (i + 1) bs) = rw (add-one, drop-cons bs i 0, l) in
-      let small = term_small m (k + (length bs - 1 - i)) (get_or bs i 0) in
-      (omega arith, omega arith)
-
-  pub sum_end : length bs ≤ i → sum + weighted_sum m k (drop i bs) ≡ weighted_sum m k bs → sum ≡ weighted_sum m k bs
-  sum_end h inv = rw (drop_of_length-le bs h, add-zero) at inv
+-- A turn of a loop from the left, at byte i: what it has, and the sum from i on, is the whole sum.
+pub sum_step : (m : Modulus) (k : ℕ) (bs : List ℕ) (i sum : ℕ) {t : ℕ} → i < length bs
+    → t ≡ term_of m (k + (length bs - 1 - i)) (get_or bs i 0)
+    → (sum ≤ 81 * i) × (sum + weighted_sum m k (drop i bs) ≡ weighted_sum m k bs)
+    → (sum + t ≤ 81 * (i + 1)) × (sum + t + weighted_sum m k (drop (i + 1) bs) ≡ weighted_sum m k bs)
+sum_step m k bs i sum h e inv =
+    let l : length (drop (suc i) bs) ≡ length bs - 1 - i = omega (arith, length-drop (suc i) bs) in
+    let step : weighted_sum m k (drop i bs) ≡ term_of m (k + (length bs - 1 - i)) (get_or bs i 0) + weighted_sum m k (drop (i + 1) bs) = rw (add-one, drop-cons bs i 0, l) in
+    let small = term_small m (k + (length bs - 1 - i)) (get_or bs i 0) in
+    (omega arith, omega arith)
 
 -- the weights come again after eight digits
 pub sum_period : (m : Modulus) (k j : ℕ) (bs : List ℕ) → k % 8 ≡ j % 8 → weighted_sum m k bs ≡ weighted_sum m j bs
@@ -81,19 +78,28 @@ sum_period m k j (b ∷ bs) e =
     let t : term_of m (k + length bs) b ≡ term_of m (j + length bs) b = cc (period m (k + length bs) b, period m (j + length bs) b) in
     rw (t, sum_period m k j bs e)
 
--- A loop over blocks from the right: a turn takes the bytes from index a up to index e.
-module _ (m : Modulus) (k : ℕ) (bs : List ℕ) where
-  pub blocks_start : 0 ≡ weighted_sum m k (drop (length bs) bs) % size_of m
-  blocks_start = rw (drop-length, zero-mod)
+-- Blocks taken off the end of a list: what is behind the rest is summed. Only the first block of the list, the last that
+-- comes off, has another length than 512.
+pub record BlocksSummed (m : Modulus) (k : ℕ) (bs rest : List ℕ) (sum : ℕ) : Type 0 where
+  pub behind : List ℕ
+  pub whole : rest ++ behind ≡ bs
+  pub eights : 0 < length rest → length behind % 8 ≡ 0
+  pub remainder : sum ≡ weighted_sum m k behind % size_of m
 
-  pub blocks_step : (a e j sum : ℕ) {t : ℕ} → a ≤ e → e ≤ length bs → j % 8 ≡ (k + (length bs - e)) % 8
-      → t ≡ weighted_sum m j (take (e - a) (drop a bs)) → sum ≡ weighted_sum m k (drop e bs) % size_of m
-      → (sum + t) % size_of m ≡ weighted_sum m k (drop a bs) % size_of m
-  blocks_step a e j sum {t} h l p q inv =
-      let n : a + (e - a) ≡ e = omega arith in
-      let d : take (e - a) (drop a bs) ++ drop e bs ≡ drop a bs = cc (take-append-drop (e - a) (drop a bs), drop-drop (e - a) a bs) in
-      let whole : weighted_sum m k (drop a bs) ≡ weighted_sum m (k + (length bs - e)) (take (e - a) (drop a bs)) + weighted_sum m k (drop e bs)
-      = rw (length-drop e bs, d) at (parts_compose m k (take (e - a) (drop a bs)) (drop e bs)) in
-      let same : t ≡ weighted_sum m (k + (length bs - e)) (take (e - a) (drop a bs)) = q ∙ sum_period m j (k + (length bs - e)) (take (e - a) (drop a bs)) p in
-      let f : weighted_sum m k (drop e bs) + t ≡ weighted_sum m k (drop a bs) = omega arith in
-      rw inv (mod-add-mod (weighted_sum m k (drop e bs)) (size_of m) t ∙ ap (λ (x : ℕ). x % size_of m) f)
+module _ {m : Modulus} {k sum : ℕ} {bs rest : List ℕ} (h : BlocksSummed m k bs rest sum) where
+  pub one_more_summed : (block next : List ℕ) {t : ℕ} → rest ≡ next ++ block → length block ≡ min 512 (length rest)
+      → 0 < length rest → t ≡ weighted_sum m (k % 8) block → BlocksSummed m k bs next ((sum + t) % size_of m)
+  one_more_summed block next {t} e l some q =
+      let eight : length h.behind % 8 ≡ 0 = h.eights some in
+      let same = sum_period m (k % 8) (k + length h.behind) block (omega arith) in
+      let parts = parts_compose m k block h.behind in
+      let f : weighted_sum m k h.behind + t ≡ weighted_sum m k (block ++ h.behind) = omega arith in
+      record {
+        behind = block ++ h.behind;
+        whole = sym (append_assoc next block h.behind) ∙ (rw e at h.whole);
+        eights = λ p. omega (arith, ap length e ∙ length-append next block, length-append block h.behind);
+        remainder = rw h.remainder (mod-add-mod (weighted_sum m k h.behind) (size_of m) t ∙ ap (λ (x : ℕ). x % size_of m) f);
+      }
+
+  pub summed_small : sum ≤ 10
+  summed_small = rw h.remainder (remainder_small m (weighted_sum m k h.behind))

@@ -1,12 +1,11 @@
 -- The two check digits of SPEC.md, "Check digits", over any list of bytes. Assumes nothing.
-use Rattle.std.specs.Prelude.{ℕ, ◌+◌, ◌-◌, ◌*◌, ◌/◌, ◌%◌, ◌≤◌, ◌<◌, true, cond, ◌&&◌, List, [], ◌∷◌, ◌++◌, ◌↔◌, ◌⊎◌, ◌≡◌, leb, eqb, length, get_or, set}
+use Rattle.std.specs.Prelude.{Option, Some, None, ℕ, ◌+◌, ◌-◌, ◌*◌, ◌/◌, ◌%◌, ◌≤◌, ◌<◌, true, cond, ◌&&◌, List, [], ◌∷◌, ◌++◌, ◌↔◌, ◌⊎◌, ◌≡◌, leb, eqb, length, get_or, set}
 use Rattle.decimal.specs.declared.Class.TheVariants.{Digit}
 use Rattle.decimal.specs.Bytes.{is_of, all}
 use Rattle.decimal.specs.Numbers.{value_of}
 use Rattle.modulus.specs.declared.Modulus.{Modulus}
 use Rattle.modulus.specs.declared.Modulus.TheVariants.{Ten, Eleven}
-use Rattle.modulus.specs.declared.MaybeSums.{MaybeSums}
-use Rattle.modulus.specs.declared.MaybeSums.TheVariants.{Both, NoSum}
+use Rattle.modulus.specs.declared.BothSums.{BothSums}
 
 abbrev pub size_of : Modulus → ℕ
 size_of Ten = 10
@@ -47,9 +46,10 @@ abbrev pub check_of : Modulus → List ℕ → ℕ
 check_of m bs = digit_of_remainder m (remainder_of m bs)
 
 -- both sums of forty digits at once; of other bytes none
-abbrev pub both_sums : List ℕ → MaybeSums
+abbrev pub both_sums : List ℕ → Option BothSums
 both_sums bs =
-    cond (eqb (length bs) 40 && all (is_of Digit) bs) (Both (weighted_sum Ten 0 bs) (weighted_sum Eleven 0 bs)) NoSum
+    cond (eqb (length bs) 40 && all (is_of Digit) bs)
+    (Some (record { ten = weighted_sum Ten 0 bs; eleven = weighted_sum Eleven 0 bs })) None
 
 -- Promises, over the modulus and over any list.
 

@@ -10,10 +10,11 @@ ghost use Rattle.decimal.specs.Bytes.{is_of};
 ghost use Rattle.modulus.specs.Checks.{both_sums};
 ghost use Rattle.modulus.specs.Columns.{column_adds, ColumnsAdded};
 
-use crate::{MaybeSums, Modulus};
+use crate::{BothSums, Modulus};
 use decimal::Class;
 
-// The sums over sixteen columns; `error` is 0 where all bytes are digits, else the sums mean nothing.
+// The sums over sixteen columns; `error` is 0 where all bytes are digits, else the sums mean nothing. No Option: the
+// loop that makes the three has no branch.
 #[derive(Clone, Copy)]
 struct ColumnSums {
     error: u8,
@@ -42,7 +43,7 @@ fn carry(d: u8) -> u8
     ensures value { result ≡ cond (leb 5 d) 1 0 }
     ensures small { result ≤ 1 }
 {
-    if 5 <= d { 1 } else { 0 }
+    u8::from(5 <= d)
 }
 
 // What the three values of column i add under modulo 10: every second column is doubled.
@@ -68,7 +69,8 @@ fn column_eleven(i: usize, a: u8, b: u8, c: u8) -> u16
     (2 + (15 - i) % 8) as u16 * sum as u16
 }
 
-// Digits and both sums in one pass with no early exit, so the loop vectorizes.
+// Digits and both sums in one pass with no early exit, so the loop vectorizes. Slices and no arrays: the parts are cut
+// by their ends, and a conversion would bring a case that nothing can reach.
 fn add_columns(x: &[u8], y: &[u8], z: &[u8]) -> ColumnSums
     requires { (length x.now ≡ 16) × (length y.now ≡ 16) × (length z.now ≡ 16) }
     ensures { ColumnsAdded x.now y.now z.now result.error result.ten result.eleven }
@@ -76,15 +78,13 @@ fn add_columns(x: &[u8], y: &[u8], z: &[u8]) -> ColumnSums
     let mut error: u8 = 0;
     let mut tens: u16 = 0;
     let mut elevens: u16 = 0;
-    let mut i = 0;
-    while i < 16 {
+    for i in 0..16 {
         let a = decimal::low_half(x[i]);
         let b = decimal::low_half(y[i]);
         let c = last_row_value(i, z[i]);
-        error = error | column_error_bit(x[i], y[i], z[i]);
+        error |= column_error_bit(x[i], y[i], z[i]);
         tens += column_ten(i, a, b, c);
         elevens += column_eleven(i, a, b, c);
-        i += 1;
     }
     ColumnSums {
         error,
@@ -95,15 +95,18 @@ fn add_columns(x: &[u8], y: &[u8], z: &[u8]) -> ColumnSums
 
 // The weighted sums over forty digits under both moduli; none where there are not forty bytes, or one of them is no
 // digit.
-pub fn sums_of_forty(digits: &[u8]) -> MaybeSums
+pub fn sums_of_forty(digits: &[u8]) -> Option<BothSums>
     ensures { result ≡ both_sums digits.now }
 {
     if digits.len() != 40 {
-        return MaybeSums::NoSum;
+        return None;
     }
     let sums = add_columns(&digits[0..16], &digits[16..32], &digits[24..40]);
     if sums.error != 0 {
-        return MaybeSums::NoSum;
+        return None;
     }
-    MaybeSums::Both(sums.ten as u64, sums.eleven as u64)
+    Some(BothSums {
+        ten: sums.ten as u64,
+        eleven: sums.eleven as u64,
+    })
 }

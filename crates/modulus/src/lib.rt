@@ -9,17 +9,17 @@ mod forty;
 
 pub use forty::sums_of_forty;
 
-#[derive(Clone, Copy)]
+#[derive(Clone, Copy, Debug, PartialEq, Eq)]
 pub enum Modulus {
     Ten,
     Eleven,
 }
 
-// The weighted sum of some digits under modulo 10, then under modulo 11.
-#[derive(Clone, Copy)]
-pub enum MaybeSums {
-    Both(u64, u64),
-    NoSum,
+// The weighted sums of some digits under modulo 10 and under modulo 11.
+#[derive(Clone, Copy, Debug, PartialEq, Eq)]
+pub struct BothSums {
+    pub ten: u64,
+    pub eleven: u64,
 }
 
 // The remainder of a sum by 10 or 11. Where a sum has parts, they are added first.
@@ -34,6 +34,7 @@ pub fn remainder(m: Modulus, sum: u64) -> u64
 
 // The check digit that a remainder gives: the modulus less the remainder, and 0 for remainder 0, under modulo 11 also
 // for 1. 0 for a number that is no remainder.
+#[tactic(auto, unfolding(crate::specs::Checks::digit_of_remainder))]
 pub fn digit_of_remainder(m: Modulus, rest: u64) -> u64
     ensures { result ≡ digit_of_remainder m rest }
 {
@@ -82,33 +83,21 @@ fn short_sum(m: Modulus, digits: &[u8], right: usize) -> u64
     ensures { result ≡ weighted_sum m right digits.now }
 {
     let mut sum: u16 = 0;
-    let mut i = 0;
-    while i < digits.len() {
-        sum += term(m, right + (digits.len() - 1 - i), digits[i]);
-        i += 1;
+    for (i, &b) in digits.iter().enumerate() {
+        sum += term(m, right + (digits.len() - 1 - i), b);
     }
     sum as u64
 }
 
-// Where the block of at most 512 bytes before `end` starts.
-fn block_start(end: usize) -> usize
-    ensures { result ≡ end - 512 }
-{
-    if 512 < end { end - 512 } else { 0 }
-}
-
 // The remainder of the weighted sum over a part that has `right` more digits to its right; a byte that is no digit adds
-// 0. The sum is made in blocks, so that no length wraps it.
+// 0. The sum is made in blocks from the right, so that no length wraps it. The weights come again after eight digits,
+// so blocks of 512 to the right of a block change none of its weights.
 pub fn weighted_remainder(m: Modulus, digits: &[u8], right: usize) -> u64
     ensures { result ≡ weighted_sum m right digits.now % size_of m }
 {
     let mut sum: u64 = 0;
-    let mut end = digits.len();
-    while 0 < end {
-        let start = block_start(end);
-        let behind = (right % 8 + (digits.len() - end)) % 8;
-        sum = remainder(m, sum + short_sum(m, &digits[start..end], behind));
-        end = start;
+    for block in digits.rchunks(512) {
+        sum = remainder(m, sum + short_sum(m, block, right % 8));
     }
     sum
 }

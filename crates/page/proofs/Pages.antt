@@ -6,30 +6,40 @@ use native.Mathlib.Omega.{arith}
 use native.Mathlib.Numerals.{add-one}
 use borrow.Author.Tests.{eq-eqb, ne_eqb}
 use lib.ListN.{length, get_or, take, drop, length-take, take-append-drop}
-use lib.Seq.{get_or-take, take_all, take-append_seam, drop-append_seam}
-use Rattle.answer.specs.declared.Answer.TheVariants.{Accepted}
+use lib.Seq.{take-append_seam, drop-append_seam}
+use Rattle.std.specs.Prelude.{Ok}
+use Rattle.std.proofs.lemmas.List.{take_min}
+use Rattle.answer.specs.Answers.{◌gives◌}
 use Rattle.decimal.proofs.Places.{put_fits}
 use Rattle.board.specs.declared.Lane.{Lane}
 use Rattle.board.specs.declared.Board.{Board}
 use Rattle.board.specs.Lanes.{most_lanes}
 use Rattle.board.specs.Boards.{blank, lanes_of}
-use Rattle.page.specs.Pages.{lane_lines, lanes_lines, most_lane, page_length, print_result_of, bytes_with}
-use Rattle.page.specs.Pages.{WrongBufferKeeps, PrintedHolds}
-use Rattle.page.specs.Pieces.{Wrote}
-use Rattle.page.proofs.Steps.{wrote_then}
+use Rattle.page.specs.Pages.{lane_lines, lanes_lines, most_lane, page_length, buffer_answer, bytes_with, WrongBufferKeeps, PrintedHolds}
+use Rattle.page.specs.declared.Cursor.{Cursor}
+use Rattle.page.specs.Pieces.{HasRoom, Wrote, Printed}
+use Rattle.page.proofs.Steps.{printed_then}
 
 -- how many lanes are in use of a board that has all its lanes
 pub lanes_used : (b : Board) → length b.lanes ≡ most_lanes → length (lanes_of b) ≡ min b.used most_lanes
 lanes_used b e = length-take b.used b.lanes ∙ ap (min b.used) e
 
+-- the slice of them that the code takes is that of the lanes in use
+pub lanes_shown :
+    (b : Board) {k : ℕ} → length b.lanes ≡ most_lanes → k ≡ min b.used most_lanes → take k b.lanes ≡ lanes_of b
+lanes_shown b e h = rw (h, ← e) (take_min b.used b.lanes)
+
 -- the same bytes under another name, and with a wider bound
-wrote_as : {k m at next : ℕ} {xs ys l q : List ℕ} → k ≤ m → xs ≡ ys → Wrote k at xs l next q → Wrote m at ys l next q
-wrote_as {xs = xs} h e w =
+printed_as : {k m : ℕ} {xs ys : List ℕ} {p q : Cursor} → k ≤ m → xs ≡ ys → Printed k xs p q → Printed m ys p q
+printed_as {xs = xs} h e w =
     record {
-      bounded = rw (← e) (omega (arith, w.bounded));
-      ends = rw (← e) w.ends;
-      bytes = rw (← e) w.bytes;
-      same = w.same;
+      same_buffer = w.same_buffer;
+      wrote = record {
+        bounded = rw (← e) (omega (arith, w.wrote.bounded));
+        ends = rw (← e) w.wrote.ends;
+        bytes = rw (← e) w.wrote.bytes;
+        same = w.wrote.same;
+      };
     }
 
 -- one lane more
@@ -44,37 +54,32 @@ lanes_more k (suc i) (l ∷ ls) h =
     rw (z, lanes_more (suc k) i ls (omega arith))
     (sym (append_assoc (lane_lines k l) (lanes_lines (suc k) (take i ls)) last))
 
--- The loop over the lanes: its start, a turn, its end.
-module _ (b : Board) (at : ℕ) (l : List ℕ) (fits : at + most_lanes * most_lane ≤ length l) where
-  pub lanes_start : Wrote 0 at (lanes_lines 1 (take 0 (lanes_of b))) l at l
+-- The loop over the lanes: its start, a turn.
+module _ (ls : List Lane) (p : Cursor) (fits : HasRoom (most_lanes * most_lane) p) where
+  pub lanes_start : Printed 0 (lanes_lines 1 (take 0 ls)) p p
   lanes_start =
-      let z : at + 0 ≡ at = omega arith in
+      let z : p.at + 0 ≡ p.at = omega arith in
       record {
-        bounded = omega arith;
-        ends = omega arith;
-        bytes = sym (put_fits at [] l (omega arith) ∙ rw z (take-append-drop at l));
-        same = refl;
+        same_buffer = refl;
+        wrote = record {
+          bounded = omega arith;
+          ends = omega arith;
+          bytes = sym (put_fits p.at [] p.out.now (omega arith) ∙ rw z (take-append-drop p.at p.out.now));
+          same = refl;
+        };
       }
 
   pub lanes_turn :
-      {i next last : ℕ} {q r : List ℕ} → i < length (lanes_of b) → length (lanes_of b) ≤ most_lanes
-      → Wrote (i * most_lane) at (lanes_lines 1 (take i (lanes_of b))) l next q
-      → Wrote most_lane next (lane_lines (i + 1) (get_or b.lanes i blank)) q last r
-      → Wrote ((i + 1) * most_lane) at (lanes_lines 1 (take (i + 1) (lanes_of b))) l last r
+      {i : ℕ} {q r : Cursor} → i < length ls → length ls ≤ most_lanes
+      → Printed (i * most_lane) (lanes_lines 1 (take i ls)) p q
+      → Printed most_lane (lane_lines (i + 1) (get_or ls i blank)) q r
+      → Printed ((i + 1) * most_lane) (lanes_lines 1 (take (i + 1) ls)) p r
   lanes_turn {i} h few before w =
-      let u : i < b.used = omega (arith, length-take b.used b.lanes) in
       let one : 1 + i ≡ i + 1 = omega arith in
-      let next = lane_lines (i + 1) (get_or b.lanes i blank) in
-      let more : lanes_lines 1 (take (i + 1) (lanes_of b)) ≡ lanes_lines 1 (take i (lanes_of b)) ++ next
-      = ap (λ (k : ℕ). lanes_lines 1 (take k (lanes_of b))) (add-one i) ∙ lanes_more 1 i (lanes_of b) h
-      ∙ rw (one, get_or-take b.used b.lanes i blank u) in
-      wrote_as (omega arith) (sym more) (wrote_then (omega arith) before w)
-
-  pub lanes_end :
-      {i next : ℕ} {q : List ℕ} → length (lanes_of b) ≤ i → i ≤ most_lanes
-      → Wrote (i * most_lane) at (lanes_lines 1 (take i (lanes_of b))) l next q
-      → Wrote (most_lanes * most_lane) at (lanes_lines 1 (lanes_of b)) l next q
-  lanes_end {i} h few w = wrote_as (omega arith) (ap (lanes_lines 1) (take_all i (lanes_of b) h)) w
+      let next = lane_lines (i + 1) (get_or ls i blank) in
+      let more : lanes_lines 1 (take (i + 1) ls) ≡ lanes_lines 1 (take i ls) ++ next
+      = ap (λ (k : ℕ). lanes_lines 1 (take k ls)) (add-one i) ∙ lanes_more 1 i ls h ∙ rw one refl in
+      printed_as (omega arith) (sym more) (printed_then (omega arith) before w)
 
 -- The buffer after printing.
 
@@ -88,7 +93,7 @@ printed_holds page old h =
 
 pub printed :
     (page l : List ℕ) {next : ℕ} {q : List ℕ} → length l ≡ page_length → Wrote page_length 0 page l next q
-    → (record { answer = Accepted; length = next } ≡ print_result_of page l)
+    → (Ok next ≡ (buffer_answer l gives length page))
     × ((q ≡ bytes_with page l) × (next ≤ page_length))
 printed page l h w =
     let z : 0 + length page ≡ length page = omega arith in

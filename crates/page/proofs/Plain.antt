@@ -1,5 +1,5 @@
 -- Laws of the numbers that a page shows. Assumes nothing.
-use Prim.Native.Nat.{ℕ, zero, suc, ◌+◌, ◌/◌, ◌%◌, ◌^◌, ◌≤◌, ◌<◌, max}
+use Prim.Native.Nat.{ℕ, zero, suc, ◌+◌, ◌*◌, ◌/◌, ◌%◌, ◌^◌, ◌≤◌, ◌<◌, max}
 use mathlib.Core.List.{[], ◌∷◌}
 use mathlib.Core.Path.{◌≡◌, refl, ap, sym, ◌∙◌}
 use native.Mathlib.Omega.{arith}
@@ -52,6 +52,14 @@ in_few (suc turns) (suc n) (suc k) h =
 pub shown_holds : (w n : ℕ) → n < 10 ^ max w (needed n)
 shown_holds w n =
     lt_of_lt_of_le (in_holds n n (omega arith)) (pow-le-pow_right (lit< tt) (le-max_right w (needed n)))
+
+-- a number between two powers of 10 has one digit more than the lower one says
+pub needed_log : (n log : ℕ) → 10 ^ log ≤ n → n < 10 * 10 ^ log → log + 1 ≡ needed n
+needed_log n log low high =
+    let few : needed n ≤ suc log = in_few n n (suc log) (rw pow-suc (omega arith)) in
+    let holds = in_holds n n (omega arith) in
+    let less : needed n ≤ log → 10 ^ needed n ≤ 10 ^ log = λ h. pow-le-pow_right (lit< tt) h in
+    grind arith
 
 pub needed_few : (n : ℕ) → n ≤ largest_number → needed n ≤ most_digits
 needed_few n h = in_few n n most_digits (omega arith)

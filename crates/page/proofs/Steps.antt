@@ -5,14 +5,15 @@ use mathlib.Core.Path.{◌≡◌, ap, sym, ◌∙◌}
 use native.Mathlib.Omega.{arith}
 use lib.ListN.{length, take, drop, length-append}
 use lib.Seq.{length-take-le}
-use Rattle.answer.specs.declared.Answer.{Answer}
+use Rattle.answer.specs.Answers.{Answer}
 use Rattle.answer.specs.Orders.{if_accepted}
 use Rattle.decimal.specs.Numbers.{largest_number, digits_of, put_number_answer}
 use Rattle.decimal.specs.Places.{put_at}
 use Rattle.decimal.proofs.Numbers.{number_put}
 use Rattle.decimal.proofs.Places.{put_fits, length_put, put_next}
 use Rattle.page.specs.Plain.{needed, shown}
-use Rattle.page.specs.Pieces.{most_digits, Wrote}
+use Rattle.page.specs.declared.Cursor.{Cursor}
+use Rattle.page.specs.Pieces.{most_digits, HasRoom, Wrote, Printed}
 use Rattle.page.proofs.Plain.{shown_holds, shown_fits, length_shown}
 
 put_then :
@@ -36,8 +37,7 @@ put_then at xs ys l h =
 pub joins_few : (xs ys : List ℕ) {k j : ℕ} → length xs ≤ k → length ys ≤ j → length (xs ++ ys) ≤ k + j
 joins_few xs ys h k = omega (arith, length-append xs ys)
 
--- a piece, and a piece behind it
-pub wrote_then :
+wrote_then :
     {k j at next last : ℕ} {xs ys l q r : List ℕ} → at + (k + j) ≤ length l
     → Wrote k at xs l next q → Wrote j next ys q last r → Wrote (k + j) at (xs ++ ys) l last r
 wrote_then {k} {j} {at} {next} {last} {xs} {ys} {l} {q} {r} fits a b =
@@ -49,6 +49,13 @@ wrote_then {k} {j} {at} {next} {last} {xs} {ys} {l} {q} {r} fits a b =
       bytes = b.bytes ∙ rw (a.ends, a.bytes) both;
       same = b.same ∙ a.same;
     }
+
+-- a piece, and a piece behind it
+pub printed_then :
+    {k j : ℕ} {xs ys : List ℕ} {p q r : Cursor} → HasRoom (k + j) p
+    → Printed k xs p q → Printed j ys q r → Printed (k + j) (xs ++ ys) p r
+printed_then fits a b =
+    record { same_buffer = b.same_buffer ∙ a.same_buffer; wrote = wrote_then fits a.wrote b.wrote }
 
 -- a number, whose digits were written in a width that is enough for them
 pub wrote_shown :

@@ -1,8 +1,7 @@
 -- The page (SPEC.md, "Page"): an answer, two counts and the board shown, as lines `key=value`. Assumes nothing.
 use Rattle.std.specs.Prelude.{ℕ, suc, ◌+◌, ◌*◌, List, [], ◌∷◌, ◌++◌, ◌≡◌, eqb, length, take, drop}
 use Rattle.answer.specs.declared.Reason.TheVariants.{WrongLength}
-use Rattle.answer.specs.declared.Answer.{Answer}
-use Rattle.answer.specs.declared.Answer.TheVariants.{Accepted, Refused}
+use Rattle.answer.specs.Answers.{Answer, Accepted, Refused}
 use Rattle.answer.specs.Orders.{require, if_accepted}
 use Rattle.decimal.specs.Places.{width_of}
 use Rattle.barcode.specs.declared.Issuer.{Issuer}
@@ -12,7 +11,6 @@ use Rattle.board.specs.declared.Lane.{Lane}
 use Rattle.board.specs.declared.Board.{Board}
 use Rattle.board.specs.Lanes.{most_lanes}
 use Rattle.board.specs.Boards.{lanes_of}
-use Rattle.page.specs.declared.PrintResult.{PrintResult}
 use Rattle.page.specs.Plain.{shown, plain}
 
 -- The words.
@@ -121,6 +119,11 @@ page_length = most_head + most_lanes * most_lane
 
 abbrev pub buffer_answer : List ℕ → Answer
 buffer_answer old = require (eqb (length old) page_length) WrongLength 0
+
+-- the answer to a printing and the length of the page; 0 where it is refused
+pub record PrintResult : Type 0 where
+  pub answer : Answer
+  pub length : ℕ
 
 abbrev pub print_result_of : List ℕ → List ℕ → PrintResult
 print_result_of page old =

@@ -2,6 +2,7 @@
 use Rattle.std.specs.Prelude.{ℕ, ◌+◌, ◌≤◌, List, ◌≡◌, length}
 use Rattle.decimal.specs.Numbers.{largest_number}
 use Rattle.decimal.specs.Places.{put_at}
+use Rattle.page.specs.declared.Cursor.{Cursor}
 use Rattle.page.specs.Plain.{shown}
 
 -- The most bytes of a piece.
@@ -32,3 +33,12 @@ pub record Wrote (bound at : ℕ) (piece before : List ℕ) (next : ℕ) (after 
   pub ends : next ≡ at + length piece
   pub bytes : after ≡ put_at at piece before
   pub same : length after ≡ length before
+
+-- from a cursor's index on, its buffer has this many bytes
+abbrev pub HasRoom : ℕ → Cursor → Type 0
+HasRoom bound c = c.at + bound ≤ length c.out.now
+
+-- `piece`, of at most `bound` bytes, was put at a cursor's index; the cursor then stands behind it, in the same buffer
+pub record Printed (bound : ℕ) (piece : List ℕ) (before after : Cursor) : Type 0 where
+  pub same_buffer : after.out.ghost_name ≡ before.out.ghost_name
+  pub wrote : Wrote bound before.at piece before.out.now after.at after.out.now

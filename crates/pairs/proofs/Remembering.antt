@@ -1,18 +1,18 @@
 -- Laws of what is remembered, by the index where it is found and by the pair. Assumes nothing.
-use Prim.Native.Nat.{ℕ, suc, ◌+◌, ◌-◌, ◌≤◌, ◌<◌, min}
+use Prim.Native.Nat.{ℕ, suc, ◌+◌, ◌≤◌, ◌<◌, min}
 use mathlib.Core.Bool.{Bool, true, false, cond, ◌&&◌, and-eq-true_iff}
 use mathlib.Core.List.{List, [], ◌∷◌, ◌++◌}
 use mathlib.Core.Option.{none, some}
 use mathlib.Core.Path.{◌≡◌, refl, sym, ap, ap₂, ◌∙◌}
 use native.Mathlib.Numerals.{add-one}
 use native.Mathlib.Omega.{arith}
-use borrow.Author.Tests.{lt-ltb, ltb-true, ltb-false, eq-eqb, ne_eqb, eqb-true, eqb-false}
+use borrow.Author.Tests.{lt-ltb, ltb-true, ltb-false, eq-eqb}
 use lib.Dec.{eqb, ltb}
 use lib.ListN.{length, get_or, set, take}
 use lib.Seq.{take-set-lt, take-suc-set, get_or-take}
 use Rattle.answer.specs.Refusals.{sequence_place, agreement_place}
 use Rattle.answer.specs.declared.Reason.TheVariants.{NotFollowing, PairsFull}
-use Rattle.answer.specs.declared.Answer.TheVariants.{Accepted}
+use Rattle.answer.specs.Answers.{Accepted}
 use Rattle.answer.specs.Orders.{require, ◌then◌}
 use Rattle.answer.proofs.Orders.{then_accepted}
 use Rattle.answer.proofs.Tests.{eqb_sym}
@@ -99,14 +99,6 @@ module _ (p : Pair) where
           → q ∷ (qs ++ (p ∷ [])) ≡ cond t (p ∷ qs) (q ∷ remembering p qs)
       go true k later = absurd (omega arith)
       go false k later = ap (λ (rs : List Pair). q ∷ rs) (later (omega arith))
-
--- a number that is not 0 is one more than another exactly when the other is one less
-pub one_before : (n last : ℕ) → 0 < n → eqb (n - 1) last ≡ eqb n (last + 1)
-one_before n last positive = go (eqb (n - 1) last) refl
-  where
-    go : (t : Bool) → eqb (n - 1) last ≡ t → eqb (n - 1) last ≡ eqb n (last + 1)
-    go true e = e ∙ sym (eq-eqb n (last + 1) (omega (arith, eqb-true (n - 1) last e)))
-    go false e = e ∙ sym (ne_eqb n (last + 1) (λ q. eqb-false (n - 1) last e (omega (arith, q))))
 
 -- The memory at the index that a search found.
 

@@ -4,8 +4,7 @@ use Rattle.std.specs.Prelude.{ℕ, suc, ◌+◌, ◌≤◌, Bool, true, false, c
 use Rattle.std.proofs.Math.Option.{Option, none, some}
 use Rattle.answer.specs.Refusals.{sequence_place, agreement_place}
 use Rattle.answer.specs.declared.Reason.TheVariants.{NotFollowing, PairsFull}
-use Rattle.answer.specs.declared.Answer.{Answer}
-use Rattle.answer.specs.declared.Answer.TheVariants.{Accepted}
+use Rattle.answer.specs.Answers.{Answer, Accepted}
 use Rattle.answer.specs.Orders.{require, ◌then◌}
 use Rattle.kinds.specs.Kinds.{same}
 use Rattle.pairs.specs.declared.Pair.{Pair}

@@ -6,11 +6,11 @@ ghost use Rattle.std.specs.Prelude.{◌≡◌, min, eqb};
 ghost use Rattle.pairs.specs.Pairs.{most_pairs, next_number, is_same_pair, no_pair, fresh_memory, pairs_of};
 ghost use Rattle.pairs.specs.Pairs.{index_of, memory_answer, memory_with};
 
-use answer::{Answer, Reason};
+use answer::{Answer, Reason, require};
 
 // The bytes of a header's bank and agreement, and its sequence number.
 #[repr(C)]
-#[derive(Clone, Copy)]
+#[derive(Clone, Copy, Debug, PartialEq, Eq)]
 pub struct Pair {
     pub bank: [u8; 3],
     pub agreement: [u8; 20],
@@ -18,9 +18,9 @@ pub struct Pair {
 }
 
 // The pairs in use are the first `used`, in the order in which they first were accepted; all of them if a memory in an
-// arbitrary state says more. Each has the number of its last accepted file.
+// arbitrary state says more. Each has the number of its last accepted file. No Vec, as in `Board`.
 #[repr(C)]
-#[derive(Clone, Copy)]
+#[derive(Clone, Copy, Debug, PartialEq, Eq)]
 pub struct Memory {
     pub pairs: [Pair; Memory::PAIRS],
     pub used: usize,
@@ -29,17 +29,15 @@ pub struct Memory {
 // The last of the numbers that six digits can show.
 const LAST_NUMBER: u64 = 999_999;
 
-// Whether a number follows the last one: 1 behind 999,999, else one more. Nothing is added, so nothing wraps.
+// Whether a number follows the last one: 1 behind 999,999, else one more. None follows the last number of 64 bits.
+#[tactic(auto, unfolding(crate::specs::Pairs::next_number))]
 fn follows(last: u64, number: u64) -> bool
     ensures { result ≡ eqb number (next_number last) }
 {
     if last == LAST_NUMBER {
         return number == 1;
     }
-    if number == 0 {
-        return false;
-    }
-    number - 1 == last
+    last.checked_add(1) == Some(number)
 }
 
 impl Pair {
@@ -55,13 +53,11 @@ impl Pair {
     }
 
     // Whether two pairs have the same bytes. Their numbers do not count.
+    #[tactic(auto, unfolding(crate::specs::Pairs::is_same_pair))]
     fn is_same(self, other: Pair) -> bool
         ensures { result ≡ is_same_pair self other }
     {
-        if kinds::same_bytes(&self.bank, &other.bank) {
-            return kinds::same_bytes(&self.agreement, &other.agreement);
-        }
-        false
+        self.bank == other.bank && self.agreement == other.agreement
     }
 }
 
@@ -83,26 +79,21 @@ impl Memory {
     fn pairs_in_use(used: usize) -> usize
         ensures { result ≡ min used most_pairs }
     {
-        if Self::PAIRS < used {
-            return Self::PAIRS;
-        }
-        used
+        used.min(Self::PAIRS)
     }
 
-    // The index of the pair, counted from 0; how many pairs are in use if it is not there.
+    // The index of the pair, counted from 0; how many pairs are in use if it is not there. A `for`, as in
+    // `Board::lane_index`: one search for both would take a closure, and be as long as the two.
     fn pair_index(self, pair: Pair) -> usize
         ensures { result ≡ index_of pair (pairs_of self) }
     {
         let end = Self::pairs_in_use(self.used);
-        let mut i: usize = 0;
-        while i < end {
-            let known = self.pairs[i];
-            if known.is_same(pair) {
+        for i in 0..end {
+            if self.pairs[i].is_same(pair) {
                 return i;
             }
-            i += 1;
         }
-        i
+        end
     }
 
     // 26 if the pair is in use and its number is not the next one; 27 if it is not and all are.
@@ -112,15 +103,13 @@ impl Memory {
         let at = self.pair_index(pair);
         if at < Self::pairs_in_use(self.used) {
             let known = self.pairs[at];
-            if follows(known.sequence, pair.sequence) {
-                return Answer::Accepted;
-            }
-            return Answer::Refused(Reason::NotFollowing, answer::SEQUENCE_PLACE);
+            return require(
+                follows(known.sequence, pair.sequence),
+                Reason::NotFollowing,
+                answer::SEQUENCE_PLACE,
+            );
         }
-        if Self::PAIRS <= at {
-            return Answer::Refused(Reason::PairsFull, answer::AGREEMENT_PLACE);
-        }
-        Answer::Accepted
+        require(at < Self::PAIRS, Reason::PairsFull, answer::AGREEMENT_PLACE)
     }
 
     // The memory with this pair's number; as it was if the pair is new and there is no room.

@@ -1,4 +1,5 @@
 -- A closed writer has written one file, whatever was called. Assumes nothing.
+use Rattle.std.specs.Prelude.{Err}
 use Prim.Native.Nat.{ℕ}
 use mathlib.Core.Bool.{Bool, true, false, ◌&&◌}
 use mathlib.Core.List.{List, [], ◌∷◌, ◌++◌, map, append_assoc, append-nil, map-append}
@@ -7,8 +8,7 @@ use native.Mathlib.Omega.{arith}
 use lib.Dec.{eqb}
 use lib.ListN.{length, length-append}
 use Rattle.answer.specs.declared.Reason.TheVariants.{WrongLength, NotExpected}
-use Rattle.answer.specs.declared.Answer.{Answer}
-use Rattle.answer.specs.declared.Answer.TheVariants.{Accepted, Refused}
+use Rattle.answer.specs.Answers.{Answer, Accepted}
 use Rattle.answer.specs.Orders.{require, ◌then◌, if_accepted, Each}
 use Rattle.answer.proofs.Tests.{never}
 use Rattle.answer.proofs.Orders.{require_accepts, then_accepts, accepted_takes}
@@ -31,8 +31,7 @@ use Rattle.session.specs.Sessions.{fresh_session}
 use Rattle.writer.specs.declared.Stage.{Stage}
 use Rattle.writer.specs.declared.Stage.TheVariants as stage
 use Rattle.writer.specs.declared.Writer.{Writer}
-use Rattle.writer.specs.Writers.{fresh_writer, fits_buffer, is_lined_buffer, writer_terms, writer_expects, call_answer, header_answer, header_bytes, payment_answer, payment_check}
-use Rattle.writer.specs.Writers.{payment_written, count_bytes, trailer_answer, trailer_bytes}
+use Rattle.writer.specs.Writers.{fresh_writer, fits_buffer, is_lined_buffer, writer_terms, writer_expects, call_answer, header_answer, header_bytes, payment_answer, payment_check, payment_written, count_bytes, trailer_answer, trailer_bytes}
 use Rattle.writer.proofs.Buffers.{form_of_length}
 use Rattle.writer.proofs.Calls.{call_size, open_call_size}
 use Rattle.writer.proofs.Written.{first_byte, written_alone}
@@ -44,8 +43,7 @@ use Rattle.ledger.specs.WrittenFiles as files
 use Rattle.ledger.specs.WrittenFiles.{GivenPayment, record_of, written_records, PaymentsWritten, opened_by, Closed, trailer_after}
 use Rattle.ledger.proofs.WholeFiles.{as_many}
 use Rattle.ledger.proofs.WrittenFiles.{in_its_form, closed_file_is_whole, closed_file_is_accepted}
-use Rattle.promises.specs.Calls.{WriterCall, header, payment, trailer, answer_to, next_writer, writes, writer_after_calls, LentOnly}
-use Rattle.promises.specs.Calls.{records_written, OneFile, CallsMakeOneFile, OpenWritersHaveAVersion, header_alone, HeaderAloneIsNoFile}
+use Rattle.promises.specs.Calls.{WriterCall, header, payment, trailer, answer_to, next_writer, writes, writer_after_calls, LentOnly, records_written, OneFile, CallsMakeOneFile, OpenWritersHaveAVersion, header_alone, HeaderAloneIsNoFile}
 
 -- An accepted call was expected, and its lengths are right.
 
@@ -200,7 +198,7 @@ answered :
     (agreed : List ℕ) (w : Writer) (recs : List (List ℕ)) (call : WriterCall) (a : Answer) → LentOnly agreed call → answer_to w call ≡ a → State agreed w recs
     → State agreed (if_accepted a (next w call) w) (recs ++ if_accepted a (writes w call ∷ []) [])
 answered agreed w recs call Accepted lent e s = moves agreed w recs call lent s e
-answered agreed w recs call (Refused why place) lent e s = subst (State agreed w) (sym (append-nil recs)) s
+answered agreed w recs call (Err refusal) lent e s = subst (State agreed w) (sym (append-nil recs)) s
 
 reached :
     (agreed : List ℕ) (w : Writer) (recs : List (List ℕ)) (calls : List WriterCall) → Each (LentOnly agreed) calls → State agreed w recs
@@ -260,7 +258,7 @@ versioned_next w (trailer size) h e o = never (ap (λ (s : Stage). writer_expect
 
 versioned_left : (w : Writer) (call : WriterCall) (a : Answer) → Versioned w → answer_to w call ≡ a → Versioned (if_accepted a (next w call) w)
 versioned_left w call Accepted h e = versioned_next w call h e
-versioned_left w call (Refused why place) h e = h
+versioned_left w call (Err refusal) h e = h
 
 versioned : (calls : List WriterCall) (w : Writer) → Versioned w → Versioned (writer_after_calls w calls)
 versioned [] w h = h

@@ -7,9 +7,11 @@ use Prim.Native.Nat.{ℕ, zero, suc}
 use mathlib.Core.List.{List}
 use mathlib.Core.Path.{◌≡◌, refl, sym, ◌∙◌, ap}
 use borrow.Fn.World.{World}
-use Rattle.answer.specs.declared.Answer.{Answer}
+use Rattle.std.specs.Prelude.{Result}
+use Rattle.answer.specs.declared.Refusal.{Refusal}
+use Rattle.answer.specs.Answers.{Answer, answer_of}
 use Rattle.answer.specs.Orders.{if_accepted}
-use Rattle.writer.specs.declared.WriteResult.{WriteResult}
+use Rattle.writer.specs.declared.Writer.{Writer}
 use Rattle.promises.specs.OneOutcome as outcomes
 use Rattle.promises.specs.OneOutcome.{OneOutcome}
 use Rattle.promises.proofs.Clauses.{says, both, Gives, clauses, bounded_clauses, one, two, bounded}
@@ -80,10 +82,10 @@ module _ (before behind : ℕ) (w : World) where
         two w _ _ _ _ _ (λ p p'. let e = same p.0 p'.0 in (e, ap (around before behind) (cc (p.1, p'.1, e))))
 
     written :
-        (x r r' : WriteResult)
+        (x r r' : Result Writer Refusal)
         → Gives w
-        (both w (clauses w (r ≡ x) (b ≡ if_accepted r.answer new old))
-        (clauses w (r' ≡ x) (b' ≡ if_accepted r'.answer new old)))
+        (both w (clauses w (r ≡ x) (b ≡ if_accepted (answer_of r) new old))
+        (clauses w (r' ≡ x) (b' ≡ if_accepted (answer_of r') new old)))
         (Equal r r' b b')
     written x r r' =
         two w _ _ _ _ _ (λ p p'. let e = same p.0 p'.0 in (e, ap (around before behind) (cc (p.1, p'.1, e))))

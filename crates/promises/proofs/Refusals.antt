@@ -3,32 +3,34 @@ use Prim.Native.Nat.{ℕ}
 use mathlib.Core.List.{List}
 use mathlib.Core.Path.{◌≡◌, refl, ◌∙◌, ap}
 use borrow.Fn.World.{World}
-use Rattle.answer.specs.declared.Answer.{Answer}
-use Rattle.answer.specs.declared.Answer.TheVariants.{Accepted}
+use Rattle.answer.specs.Answers.{Answer, Accepted, ◌gives◌, answer_of, state_behind}
+use Rattle.std.specs.Prelude.{Result, Ok, Err}
+use Rattle.answer.specs.declared.Refusal.{Refusal}
 use Rattle.answer.specs.Orders.{if_accepted}
 use Rattle.answer.proofs.Refusals.{zero_is_accepted}
 use Rattle.answer.proofs.Orders.{refusal_keeps}
 use Rattle.session.specs.Sessions.{take_of}
 use Rattle.writer.specs.declared.Writer.{Writer}
-use Rattle.writer.specs.declared.WriteResult.{WriteResult}
 use Rattle.page.specs.Pages.{buffer_answer}
 use Rattle.hollytrot.specs.declared.CAnswer.{CAnswer}
 use Rattle.hollytrot.specs.declared.CWriter.{CWriter}
 use Rattle.hollytrot.specs.declared.CWriteResult.{CWriteResult}
 use Rattle.hollytrot.specs.Forms.{c_answer_of}
-use Rattle.promises.specs.Refusals.{RefusalsChangeNothing, first, second, third, fifth}
+use Rattle.promises.specs.Refusals.{RefusalsChangeNothing, first, second, third, fifth, sixth}
 use Rattle.promises.proofs.Clauses.{Gives, clauses, by_one, by_two, by_bounded}
 
 -- a refusal keeps the old
 stays : {S : Type 0} (a : Answer) (new old x : S) → x ≡ if_accepted a new old → (a ≡ Accepted → ⊥) → x ≡ old
 stays a new old x p not = p ∙ refusal_keeps a new old not
 
--- the state of a result that is given by an equation
-given_by_holds :
-    {R S : Type 0} (answer : R → Answer) (state : R → S) (x r : R) (new old : S)
-    → state x ≡ if_accepted (answer x) new old → r ≡ x → (answer r ≡ Accepted → ⊥) → state r ≡ old
-given_by_holds answer state x r new old is p not =
-    stays (answer x) new old (state r) (ap state p ∙ is) (λ a. not (ap answer p ∙ a))
+-- the state behind a refused call
+stays_behind : {S : Type 0} (old : S) (r : Result S Refusal) → (answer_of r ≡ Accepted → ⊥) → state_behind old r ≡ old
+stays_behind old (Ok new) not = absurd (not refl)
+stays_behind old (Err refusal) not = refl
+
+-- a value is given where the answer accepts
+gives_accepts : {A : Type 0} (a : Answer) (x : A) → a ≡ Accepted → answer_of (a gives x) ≡ Accepted
+gives_accepts a x e = rw e
 
 paired : {A B : Type 0} {a a' : A} {b b' : B} → a ≡ a' → b ≡ b' → ◌≡◌ {A = A × B} (a, b) (a', b')
 paired p q i = (p i, q i)
@@ -41,14 +43,12 @@ buffer w x r new old bytes = by_two w _ _ _ (λ p. stays r new old bytes)
 
 -- the writer and its buffer
 writer :
-    (w : World) (a : Answer) (new old : Writer) (r : WriteResult) (made held bytes : List ℕ)
+    (w : World) (x r : Result Writer Refusal) (old : Writer) (made held bytes : List ℕ)
     → Gives w
-    (clauses w (r ≡ record { answer = a; writer = if_accepted a new old }) (bytes ≡ if_accepted r.answer made held))
-    ((r.answer ≡ Accepted → ⊥) → ◌≡◌ {A = Writer × List ℕ} (r.writer, bytes) (old, held))
-writer w a new old r made held bytes =
-    by_two w _ _ _ (λ p b not.
-    let state = given_by_holds (λ t. t.answer) (λ t. t.writer) _ r new old refl p not in
-    paired state (stays r.answer made held bytes b not))
+    (clauses w (r ≡ x) (bytes ≡ if_accepted (answer_of r) made held))
+    ((answer_of r ≡ Accepted → ⊥) → ◌≡◌ {A = Writer × List ℕ} (state_behind old r, bytes) (old, held))
+writer w x r old made held bytes =
+    by_two w _ _ _ (λ p b not. paired (stays_behind old r not) (stays (answer_of r) made held bytes b not))
 
 -- The exported operations: a number that is not 0 is that of a refusal.
 
@@ -80,17 +80,17 @@ refusals_change_nothing =
       fields·join = search buffer;
       fields·make = search buffer;
       fields·judged·make = search buffer;
-      file·File·take = λ w κs given g r left. by_one w _ _ (given_by_holds (λ t. t.answer) (λ t. t.file) _ r _ _ refl);
-      board·Slot·post = λ w κs given g r left. by_one w _ _ (given_by_holds (λ t. t.answer) (λ t. t.slot) _ r _ _ refl);
-      board·Board·post = λ w κs given g r left. by_one w _ _ (given_by_holds (λ t. t.answer) (λ t. t.board) _ r _ _ refl);
-      session·Session·take = λ w κs given g r left.
-          by_one w _ _ (given_by_holds (λ t. t.answer) (λ t. t.session) _ r _ _ refl);
-      session·Session·finish = λ w κs given g r left. by_one w _ _ (λ p not. ap (λ t. t.session) p);
+      file·File·take = λ w κs given g r left. by_one w _ _ (λ p. stays_behind (first given) r);
+      board·Slot·post = λ w κs given g r left. by_one w _ _ (λ p. stays_behind (first given) r);
+      board·Board·post = λ w κs given g r left. by_one w _ _ (λ p. stays_behind (first given) r);
+      session·Session·take = λ w κs given g r left. by_one w _ _ (λ p. stays_behind (first given) r);
+      session·Session·finish = λ w κs given g r left. by_one w _ _ (λ p. stays_behind (first given) r);
       writer·Writer·header = search writer;
       writer·Writer·payment = search writer;
       writer·Writer·trailer = search writer;
       page·print = λ w κs given g r left.
-          by_bounded w _ _ _ _ (λ p b not. stays _ _ _ _ b (λ a. not (ap (λ t. t.answer) p ∙ a)));
+          let a = buffer_answer (sixth given).now in
+          by_bounded w _ _ _ _ (λ p b not. stays a _ _ _ b (λ e. not (ap answer_of p ∙ gives_accepts a _ e)));
       hollytrot·hollytrot_barcode_build = search exported_buffer;
       hollytrot·hollytrot_line_to_barcode = search exported_buffer;
       hollytrot·hollytrot_line_from_barcode = search exported_buffer;

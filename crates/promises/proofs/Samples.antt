@@ -5,7 +5,7 @@ use mathlib.Core.Path.{◌≡◌, refl, sym, ap, subst}
 use native.Mathlib.Omega.{arith}
 use lib.ListN.{get_or, set}
 use Rattle.answer.specs.declared.Reason.TheVariants.{WrongGeneralCheck}
-use Rattle.answer.specs.declared.Answer.TheVariants.{Refused}
+use Rattle.answer.specs.Answers.{Refused}
 use Rattle.answer.specs.Orders.{Each}
 use Rattle.decimal.specs.Bytes.{is_of}
 use Rattle.decimal.specs.Numbers.{value_of, digits_of}
@@ -27,9 +27,7 @@ use Rattle.typos.specs.Typos.{Passes, InOneBox, box_remainder, code_remainder, B
 use Rattle.typos.proofs.OneTen.{one_changed_digit_is_refused}
 use Rattle.typos.proofs.Exchange.{exchange_of_neighbours}
 use Rattle.typos.proofs.OneEleven.{one_changed_digit_under_eleven}
-use Rattle.promises.specs.Samples.{Row, outcome_of, samples, Hold, P4IsPaid, p4, p5, p6, p8, p9}
-use Rattle.promises.specs.Samples.{ChangeUnderTen, ExchangeUnderTen, ChangeUnderEleven}
-use Rattle.promises.specs.Samples.{P5IsAnExchange, P6IsAChange, P9IsAChange, BoxAloneIsRefused, P8HasTwoFreeParts}
+use Rattle.promises.specs.Samples.{Row, outcome_of, samples, Hold, P4IsPaid, p4, p5, p6, p8, p9, ChangeUnderTen, ExchangeUnderTen, ChangeUnderEleven, P5IsAnExchange, P6IsAChange, P9IsAChange, BoxAloneIsRefused, P8HasTwoFreeParts}
 
 -- one equation between two tables gives each row's
 each_row : {A B : Type 0} (f g : A → B) (xs : List A) → map f xs ≡ map g xs → Each (λ x. f x ≡ g x) xs

@@ -1,7 +1,7 @@
 -- A file that the writer closed (SPEC.md, "Writer"): over every list of calls to a new writer, refused ones in between.
 -- Assumes nothing.
 use Rattle.std.specs.Prelude.{ℕ, ◌≤◌, Bool, true, List, [], ◌∷◌, ◌++◌, map, ◌≡◌, length}
-use Rattle.answer.specs.declared.Answer.{Answer}
+use Rattle.answer.specs.Answers.{Answer}
 use Rattle.answer.specs.Orders.{if_accepted, Each}
 use Rattle.barcode.specs.Agreed.{RightList}
 use Rattle.layout.specs.declared.Record.TheVariants.{Header}
@@ -12,8 +12,7 @@ use Rattle.board.specs.Lanes.{most_lanes, lanes_from}
 use Rattle.session.specs.Sessions.{fresh_session}
 use Rattle.writer.specs.declared.Stage.TheVariants as stage
 use Rattle.writer.specs.declared.Writer.{Writer}
-use Rattle.writer.specs.Writers.{fresh_writer, header_answer, header_written, header_bytes, payment_check, payment_written}
-use Rattle.writer.specs.Writers.{is_lined_buffer, trailer_answer, trailer_written, trailer_bytes}
+use Rattle.writer.specs.Writers.{fresh_writer, header_answer, header_written, header_bytes, payment_check, payment_written, is_lined_buffer, trailer_answer, trailer_written, trailer_bytes}
 use Rattle.ledger.specs.Ledgers.{taking, lanes_of_records}
 use Rattle.ledger.specs.Promises.{answers_of}
 use Rattle.ledger.specs.Samples as ledger

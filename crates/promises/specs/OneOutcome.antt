@@ -43,9 +43,11 @@ module _ (T : Ended) (contract : Contract T) where
 
 pub record AnswerOutcomes : Type 2 where
   pub answer·Reason·number : One answer.Reason.number.ended (λ M 𝓤. answer.Reason.number.clauses)
-  pub answer·Answer·number : One answer.Answer.number.ended (λ M 𝓤. answer.Answer.number.clauses)
-  pub answer·Answer·place : One answer.Answer.place.ended (λ M 𝓤. answer.Answer.place.clauses)
-  pub answer·Answer·behind : One answer.Answer.behind.ended (λ M 𝓤. answer.Answer.behind.clauses)
+  pub answer·Refusal·behind : One answer.Refusal.behind.ended (λ M 𝓤. answer.Refusal.behind.clauses)
+  pub answer·require : One answer.require.ended (λ M 𝓤. answer.require.clauses)
+  pub answer·number : One answer.number.ended (λ M 𝓤. answer.number.clauses)
+  pub answer·place : One answer.place.ended (λ M 𝓤. answer.place.clauses)
+  pub answer·behind : One answer.behind.ended (λ M 𝓤. answer.behind.clauses)
   pub answer·first_refusal : One answer.first_refusal.ended (λ M 𝓤. answer.first_refusal.clauses)
 
 pub record DecimalOutcomes : Type 2 where

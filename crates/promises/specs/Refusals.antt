@@ -6,7 +6,7 @@ use contract.Monad.{fact}
 use Rattle.std.specs.Borrow.{MutBor}
 use denote.Triple.Clauses.{Ended, Lasts}
 use borrow.Fn.World.{World}
-use Rattle.answer.specs.declared.Answer.TheVariants.{Accepted}
+use Rattle.answer.specs.Answers.{Accepted, answer_of, state_behind}
 use Rattle.decimal.specs.contracts as decimal
 use Rattle.barcode.specs.contracts as barcode
 use Rattle.line.specs.contracts as line
@@ -67,17 +67,17 @@ module _ (T : Ended) (contract : Contract T) where
   -- a state that is given and returned
   abbrev pub KeepsState :
       {S : Type 0} → Acceptance → ((κs : Lent T) → Given T κs → S)
-      → ((κs : Lent T) → Result T κs → S) → Type 2
-  KeepsState accepted state returned = Keeps accepted state (λ κs given r ws. returned κs r)
+      → ((κs : Lent T) → Given T κs → Result T κs → S) → Type 2
+  KeepsState accepted state returned = Keeps accepted state (λ κs given r ws. returned κs given r)
 
   -- both
   abbrev pub KeepsBoth :
       {S : Type 0} → Acceptance → ((κs : Lent T) → Given T κs → S)
-      → ((κs : Lent T) → Result T κs → S) → ((κs : Lent T) → Given T κs → MutBor (List ℕ))
+      → ((κs : Lent T) → Given T κs → Result T κs → S) → ((κs : Lent T) → Given T κs → MutBor (List ℕ))
       → ((κs : Lent T) (given : Given T κs) → Lasts T κs given → List ℕ) → Type 2
   KeepsBoth {S} accepted state returned buffer left =
       Keeps {S = S × List ℕ} accepted (λ κs given. (state κs given, (buffer κs given).now))
-      (λ κs given r ws. (returned κs r, left κs given ws))
+      (λ κs given r ws. (returned κs given r, left κs given ws))
 
 -- Promise: of each public operation that has an answer and something to change. The exported ones, hollytrot's, return
 -- the answer's number, which is 0 for acceptance alone (`ZeroIsAccepted`). A run of many records has no line: the
@@ -105,31 +105,31 @@ pub record RefusalsChangeNothing : Type 2 where
       KeepsBuffer fields.judged.make.ended (λ M 𝓤. fields.judged.make.clauses) (λ κs r. r ≡ Accepted)
       (λ κs. seventh) (λ κs given. seventh)
   pub file·File·take :
-      KeepsState file.File.take.ended (λ M 𝓤. file.File.take.clauses) (λ κs r. r.answer ≡ Accepted)
-      (λ κs. first) (λ κs r. r.file)
+      KeepsState file.File.take.ended (λ M 𝓤. file.File.take.clauses) (λ κs r. answer_of r ≡ Accepted)
+      (λ κs. first) (λ κs given. state_behind (first given))
   pub board·Slot·post :
-      KeepsState board.Slot.post.ended (λ M 𝓤. board.Slot.post.clauses) (λ κs r. r.answer ≡ Accepted)
-      (λ κs. first) (λ κs r. r.slot)
+      KeepsState board.Slot.post.ended (λ M 𝓤. board.Slot.post.clauses) (λ κs r. answer_of r ≡ Accepted)
+      (λ κs. first) (λ κs given. state_behind (first given))
   pub board·Board·post :
-      KeepsState board.Board.post.ended (λ M 𝓤. board.Board.post.clauses) (λ κs r. r.answer ≡ Accepted)
-      (λ κs. first) (λ κs r. r.board)
+      KeepsState board.Board.post.ended (λ M 𝓤. board.Board.post.clauses) (λ κs r. answer_of r ≡ Accepted)
+      (λ κs. first) (λ κs given. state_behind (first given))
   pub session·Session·take :
-      KeepsState session.Session.take.ended (λ M 𝓤. session.Session.take.clauses) (λ κs r. r.answer ≡ Accepted)
-      (λ κs. first) (λ κs r. r.session)
+      KeepsState session.Session.take.ended (λ M 𝓤. session.Session.take.clauses) (λ κs r. answer_of r ≡ Accepted)
+      (λ κs. first) (λ κs given. state_behind (first given))
   pub session·Session·finish :
-      KeepsState session.Session.finish.ended (λ M 𝓤. session.Session.finish.clauses) (λ κs r. r.answer ≡ Accepted)
-      (λ κs. first) (λ κs r. r.session)
+      KeepsState session.Session.finish.ended (λ M 𝓤. session.Session.finish.clauses) (λ κs r. answer_of r ≡ Accepted)
+      (λ κs. first) (λ κs given. state_behind (first given))
   pub writer·Writer·header :
-      KeepsBoth writer.Writer.header.ended (λ M 𝓤. writer.Writer.header.clauses) (λ κs r. r.answer ≡ Accepted)
-      (λ κs. first) (λ κs r. r.writer) (λ κs. third) (λ κs given. third)
+      KeepsBoth writer.Writer.header.ended (λ M 𝓤. writer.Writer.header.clauses) (λ κs r. answer_of r ≡ Accepted)
+      (λ κs. first) (λ κs given. state_behind (first given)) (λ κs. third) (λ κs given. third)
   pub writer·Writer·payment :
-      KeepsBoth writer.Writer.payment.ended (λ M 𝓤. writer.Writer.payment.clauses) (λ κs r. r.answer ≡ Accepted)
-      (λ κs. first) (λ κs r. r.writer) (λ κs. sixth) (λ κs given. sixth)
+      KeepsBoth writer.Writer.payment.ended (λ M 𝓤. writer.Writer.payment.clauses) (λ κs r. answer_of r ≡ Accepted)
+      (λ κs. first) (λ κs given. state_behind (first given)) (λ κs. sixth) (λ κs given. sixth)
   pub writer·Writer·trailer :
-      KeepsBoth writer.Writer.trailer.ended (λ M 𝓤. writer.Writer.trailer.clauses) (λ κs r. r.answer ≡ Accepted)
-      (λ κs. first) (λ κs r. r.writer) (λ κs. second) (λ κs given. second)
+      KeepsBoth writer.Writer.trailer.ended (λ M 𝓤. writer.Writer.trailer.clauses) (λ κs r. answer_of r ≡ Accepted)
+      (λ κs. first) (λ κs given. state_behind (first given)) (λ κs. second) (λ κs given. second)
   pub page·print :
-      KeepsBuffer page.print.ended (λ M 𝓤. page.print.clauses) (λ κs r. r.answer ≡ Accepted)
+      KeepsBuffer page.print.ended (λ M 𝓤. page.print.clauses) (λ κs r. answer_of r ≡ Accepted)
       (λ κs. sixth) (λ κs given. sixth)
   pub hollytrot·hollytrot_barcode_build :
       KeepsBuffer hollytrot.hollytrot_barcode_build.ended (λ M 𝓤. hollytrot.hollytrot_barcode_build.clauses)
@@ -145,19 +145,19 @@ pub record RefusalsChangeNothing : Type 2 where
       (λ κs r. r.number ≡ 0) (λ κs. fourth) (λ κs given. fourth)
   pub hollytrot·hollytrot_session_take :
       KeepsState hollytrot.hollytrot_session_take.ended (λ M 𝓤. hollytrot.hollytrot_session_take.clauses)
-      (λ κs r. r.answer.number ≡ 0) (λ κs. first) (λ κs r. r.session)
+      (λ κs r. r.answer.number ≡ 0) (λ κs. first) (λ κs given r. r.session)
   pub hollytrot·hollytrot_session_finish :
       KeepsState hollytrot.hollytrot_session_finish.ended (λ M 𝓤. hollytrot.hollytrot_session_finish.clauses)
-      (λ κs r. r.answer.number ≡ 0) (λ κs. first) (λ κs r. r.session)
+      (λ κs r. r.answer.number ≡ 0) (λ κs. first) (λ κs given r. r.session)
   pub hollytrot·hollytrot_writer_header :
       KeepsBoth hollytrot.hollytrot_writer_header.ended (λ M 𝓤. hollytrot.hollytrot_writer_header.clauses)
-      (λ κs r. r.answer.number ≡ 0) (λ κs. first) (λ κs r. r.writer) (λ κs. third) (λ κs given. third)
+      (λ κs r. r.answer.number ≡ 0) (λ κs. first) (λ κs given r. r.writer) (λ κs. third) (λ κs given. third)
   pub hollytrot·hollytrot_writer_payment :
       KeepsBoth hollytrot.hollytrot_writer_payment.ended (λ M 𝓤. hollytrot.hollytrot_writer_payment.clauses)
-      (λ κs r. r.answer.number ≡ 0) (λ κs. first) (λ κs r. r.writer) (λ κs. sixth) (λ κs given. sixth)
+      (λ κs r. r.answer.number ≡ 0) (λ κs. first) (λ κs given r. r.writer) (λ κs. sixth) (λ κs given. sixth)
   pub hollytrot·hollytrot_writer_trailer :
       KeepsBoth hollytrot.hollytrot_writer_trailer.ended (λ M 𝓤. hollytrot.hollytrot_writer_trailer.clauses)
-      (λ κs r. r.answer.number ≡ 0) (λ κs. first) (λ κs r. r.writer) (λ κs. second) (λ κs given. second)
+      (λ κs r. r.answer.number ≡ 0) (λ κs. first) (λ κs given r. r.writer) (λ κs. second) (λ κs given. second)
   pub hollytrot·hollytrot_page :
       KeepsBuffer hollytrot.hollytrot_page.ended (λ M 𝓤. hollytrot.hollytrot_page.clauses)
       (λ κs r. r.answer.number ≡ 0) (λ κs. fifth) (λ κs given. fifth)

@@ -1,24 +1,22 @@
 -- P1 to P12 (SPEC.md, "Samples"), under the empty list of agreed issuers: each row has an input, what is computed of
 -- it, and the outcome. Assumes nothing.
-use Rattle.std.specs.Prelude.{ℕ, ◌+◌, ◌<◌, Bool, true, false, List, [], ◌∷◌, ◌++◌, ◌≢◌, ◌≡◌, get_or, set}
+use Rattle.std.specs.Prelude.{None, Option, Some, ℕ, ◌+◌, ◌<◌, Bool, true, false, List, [], ◌∷◌, ◌++◌, ◌≢◌, ◌≡◌, get_or, set}
+use Rattle.calendar.specs.declared.Date.{Date}
 use Rattle.answer.specs.declared.Reason.TheVariants.{WrongGeneralCheck}
-use Rattle.answer.specs.declared.Answer.TheVariants.{Refused}
+use Rattle.answer.specs.Answers.{Refused}
 use Rattle.answer.specs.Refusals.{answer_number, answer_place}
 use Rattle.answer.specs.Orders.{Each}
 use Rattle.decimal.specs.declared.Class.TheVariants.{Digit}
 use Rattle.decimal.specs.Bytes.{is_of}
 use Rattle.decimal.specs.Numbers.{digits_of}
 use Rattle.decimal.specs.Places.{gather, places}
-use Rattle.calendar.specs.declared.MaybeDate.{MaybeDate}
-use Rattle.calendar.specs.declared.MaybeDate.TheVariants.{On, NoDate}
 use Rattle.calendar.specs.Dates.{date_of}
 use Rattle.modulus.specs.declared.Modulus.{Modulus}
 use Rattle.modulus.specs.declared.Modulus.TheVariants.{Ten, Eleven}
 use Rattle.modulus.specs.Checks.{check_of, exchanged, ZeroAndNine}
-use Rattle.barcode.specs.declared.Decoded.{Decoded}
+use Rattle.barcode.specs.Shown.{Decoded, no_fields, decoded_barcode, shown_free}
 use Rattle.barcode.specs.declared.Fields.{Fields}
 use Rattle.barcode.specs.Codes.{checked, digit_at, product, is_segment}
-use Rattle.barcode.specs.Shown.{no_fields, decoded_barcode, shown_free}
 use Rattle.barcode.specs.RoundTrips.{answer_of_barcode, shown_fields}
 use Rattle.line.specs.Lines as lines
 use Rattle.board.specs.declared.Lane.{Lane}
@@ -64,9 +62,9 @@ refused number place = decodes number place no_fields
 abbrev pub decoded_to : Decoded → Outcome
 decoded_to d = decodes (answer_number (answer_of_barcode d)) (answer_place (answer_of_barcode d)) (shown_fields d)
 
-abbrev pub dated : MaybeDate → Outcome
-dated (On d) = is_date true
-dated NoDate = is_date false
+abbrev pub dated : Option Date → Outcome
+dated (Some d) = is_date true
+dated None = is_date false
 
 abbrev pub ran_to : RunResult → Outcome
 ran_to r =
@@ -123,7 +121,7 @@ p12 total = ledger.header ++ (ledger.payment 2147483648 ++ (ledger.payment 21474
 -- the fields of a line whose issuer did not agree on due dates
 abbrev pub fields : ℕ → ℕ → ℕ → ℕ → Fields
 fields segment kind value number =
-    record { kind = kind; value = value; issuer = record { segment = segment; number = number }; due = NoDate }
+    record { kind = kind; value = value; issuer = record { segment = segment; number = number }; due = None }
 
 -- the one lane of the payments of P12, whose issuer is that of P4
 abbrev pub lane : ℕ → ℕ → List Lane

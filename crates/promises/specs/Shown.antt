@@ -1,7 +1,7 @@
 -- What a decoded record shows, by its places (SPEC.md, "Records") and not by rows of the table. Assumes nothing.
 use Rattle.std.specs.Prelude.{ℕ, ◌+◌, ◌-◌, false, List, [], ◌≡◌}
 use Rattle.answer.specs.declared.Reason.TheVariants.{FixedDiffers}
-use Rattle.answer.specs.declared.Answer.TheVariants.{Refused}
+use Rattle.answer.specs.Answers.{Refused}
 use Rattle.answer.specs.Refusals.{received_place, tariff_place, issuer_place, sequence_place, agreement_place}
 use Rattle.decimal.specs.Numbers.{number_of}
 use Rattle.decimal.specs.Places.{places}
@@ -13,8 +13,7 @@ use Rattle.line.specs.Lines.{in_line}
 use Rattle.file.specs.Files.{count_place, total_place}
 use Rattle.file.specs.Forms.{end_place}
 use Rattle.layout.specs.declared.Record.TheVariants.{Payment}
-use Rattle.layout.specs.Layouts.{row_at, agreement_row, sequence_row, received_row, tariff_row, barcode_row, count_row}
-use Rattle.layout.specs.Layouts.{total_row}
+use Rattle.layout.specs.Layouts.{row_at, agreement_row, sequence_row, received_row, tariff_row, barcode_row, count_row, total_row}
 use Rattle.kinds.specs.Terms.{is_version, version_answer}
 use Rattle.record.specs.Values.{day_of, header_shown, payment_shown, trailer_shown}
 use Rattle.session.specs.Sessions.{pair_in}

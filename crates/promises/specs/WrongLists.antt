@@ -1,8 +1,7 @@
 -- 25 before everything (SPEC.md, "Agreed issuers"): what each call answers that is lent a wrong list. Assumes nothing.
 use Rattle.std.specs.Prelude.{ℕ, Bool, List, ◌≡◌}
 use Rattle.answer.specs.declared.Reason.TheVariants.{WrongList}
-use Rattle.answer.specs.declared.Answer.{Answer}
-use Rattle.answer.specs.declared.Answer.TheVariants.{Refused}
+use Rattle.answer.specs.Answers.{Answer, Refused}
 use Rattle.barcode.specs.declared.Issuer.{Issuer}
 use Rattle.barcode.specs.Agreed.{RightList, barcode_check}
 use Rattle.barcode.specs.Building.{build_check}

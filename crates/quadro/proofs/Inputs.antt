@@ -1,4 +1,5 @@
--- The turns run one input, and its page is printed. Assumes nothing.
+-- The turns run one input. Assumes nothing.
+use Rattle.std.specs.Prelude.{Err}
 use Prim.Native.Nat.{ℕ, ◌+◌, ◌-◌, ◌*◌, ◌≤◌}
 use mathlib.Core.Bool.{Bool, true, false}
 use mathlib.Core.List.{List, [], ◌++◌, append-nil}
@@ -8,28 +9,21 @@ use native.Mathlib.Nat.{add-zero}
 use native.Mathlib.Omega.{arith}
 use lib.ListN.{length, take, drop, length-append, length-take, length-drop, take-append-drop}
 use lib.Seq.{take_all, take-add}
-use Rattle.answer.specs.declared.Answer.{Answer}
-use Rattle.answer.specs.declared.Answer.TheVariants.{Accepted, Refused}
-use Rattle.answer.specs.Refusals.{answer_number, answer_place}
+use Rattle.answer.specs.Answers.{Answer, Accepted}
 use Rattle.answer.proofs.Orders.{not_both}
 use Rattle.barcode.specs.Agreed.{list_answer}
 use Rattle.session.specs.declared.RunResult.{RunResult}
 use Rattle.session.specs.Runs.{run_of}
 use Rattle.session.proofs.Feeding.{run_leaves_few}
-use Rattle.page.specs.declared.PrintResult.{PrintResult}
-use Rattle.page.specs.Pages.{page_of, page_length, print_result_of, bytes_with}
-use Rattle.page.proofs.Pages.{printed_holds}
 use Rattle.day.specs.Days.{fresh_day, run_buffer_of, left_of, ended_of}
-use Rattle.day.specs.Inputs.{page_of_day}
 use Rattle.day.proofs.Inputs.{left_then, accepted_then, refused_then}
-use Rattle.quadro.specs.declared.BufferRead.{BufferRead}
-use Rattle.quadro.specs.declared.BufferRead.TheVariants as buffer
 use Rattle.quadro.specs.declared.TurnEnd.{TurnEnd}
 use Rattle.quadro.specs.declared.TurnEnd.TheVariants as turn
 use Rattle.quadro.specs.declared.TurnResult.{TurnResult}
-use Rattle.quadro.specs.Buffers.{buffer_length, most_kept, input_limit, EndsBelow}
+use Rattle.quadro.specs.Buffers as buffer
+use Rattle.quadro.specs.Buffers.{buffer_length, most_kept, input_limit, BufferRead, EndsBelow}
 use Rattle.quadro.specs.Turns.{has_more, turn_with, more_unless_refused, turn_of, TurnOf, TurnRun}
-use Rattle.quadro.specs.Inputs.{Fed, InputRun, DayOfInput, OverIsTheInputs}
+use Rattle.quadro.specs.Inputs.{Fed, DayOfInput, OverIsTheInputs}
 use Rattle.quadro.proofs.Buffers.{ended_refused}
 use Rattle.quadro.proofs.Turns.{more_ran}
 
@@ -67,21 +61,20 @@ module _ {start day : RunResult} {input left : List ℕ} (fed : Fed start input 
             ∙ left_then start.session input new before_accepted;
       }
 
--- The loop: the input so far was run and accepted, what it left is at the buffer's front, and with the turns that may
--- still follow, each of which reads what a full buffer has besides the bytes kept, 2^60 bytes are read.
+-- The loop after so many turns: the input so far was run and accepted, what it left is at the buffer's front, and each
+-- turn read at least what a full buffer has besides the most bytes kept.
 pub record Reached (start : RunResult) (turns : ℕ) (t : TurnResult) (buf : List ℕ) : Type 0 where
   pub input : List ℕ
   pub fed : Fed start input t.day (take t.kept buf)
   pub more : t.end ≡ turn.More
   pub size : length (take t.kept buf) ≡ t.kept
   pub few : t.kept ≤ most_kept
-  pub long : input_limit ≤ length input + turns * (buffer_length - most_kept)
+  pub long : turns * (buffer_length - most_kept) ≤ length input
 
 pub reached_none :
-    (start : RunResult) (turns : ℕ) (buf : List ℕ) → start.answer ≡ Accepted
-    → input_limit ≤ turns * (buffer_length - most_kept) → Reached start turns (turn_with turn.More start 0) buf
+    (start : RunResult) (buf : List ℕ) → start.answer ≡ Accepted → Reached start 0 (turn_with turn.More start 0) buf
 unfolding list_answer
-reached_none start turns buf a l =
+reached_none start buf a =
     record {
       input = [];
       fed =
@@ -93,7 +86,7 @@ reached_none start turns buf a l =
       more = refl;
       size = refl;
       few = omega arith;
-      long = omega (arith, l);
+      long = omega arith;
     }
 
 module _ {start : RunResult} {turns : ℕ} {last next : TurnResult} {buf after : List ℕ} (r : Reached start turns last buf)
@@ -107,8 +100,8 @@ module _ {start : RunResult} {turns : ℕ} {last next : TurnResult} {buf after :
   left_first : ran.bytes ≡ left ++ new
   left_first = sym (take-append-drop (length left) ran.bytes) ∙ ap (λ (l : List ℕ). l ++ new) ran.first
 
-  pub reached_more : {rest : ℕ} → rest + 1 ≡ turns → has_more next.end ≡ true → Reached start rest next after
-  reached_more {rest} n h =
+  pub reached_more : has_more next.end ≡ true → Reached start (turns + 1) next after
+  reached_more h =
       let turned = ran.turned in
       let s = last.day.session in
       let m = more_ran last.day (length left) ran.bytes next turned h in
@@ -124,33 +117,8 @@ module _ {start : RunResult} {turns : ℕ} {last next : TurnResult} {buf after :
         few = omega (arith, few, count, length-drop (run_of [] s true ran.bytes).bytes ran.bytes);
         long =
             omega
-            (arith, n, r.long, r.few, r.size, turned.whole, length-append r.input new, length-drop (length left) ran.bytes);
+            (arith, r.long, r.few, r.size, turned.whole, length-append r.input new, length-drop (length left) ran.bytes);
       }
-
-  pub reached_last : has_more next.end ≡ false → InputRun start after next
-  reached_last h =
-      let same : ran.bytes ≡ after = sym (ran.moved.1 h) in
-      record {
-        before = r.input;
-        day = last.day;
-        left = left;
-        fed = r.fed;
-        last =
-            inr
-            (h, subst (λ (l : List ℕ). take (length left) l ≡ left) same ran.first, subst (λ (l : List ℕ). TurnOf last.day (length left) l next) same ran.turned);
-      }
-
-pub reached_all :
-    {start : RunResult} {turns : ℕ} {t : TurnResult} {buf : List ℕ} → turns ≡ 0 → Reached start turns t buf
-    → InputRun start buf t
-reached_all {start} {turns} {t} {buf} z r =
-    record {
-      before = r.input;
-      day = t.day;
-      left = take t.kept buf;
-      fed = r.fed;
-      last = inl (omega (arith, r.long, z), ap₂ (λ (e : TurnEnd) (k : ℕ). turn_with e t.day k) r.more (sym r.size));
-    }
 
 -- A day that is over.
 
@@ -158,11 +126,11 @@ over_refused :
     (a : Answer) (day : RunResult) (kept : ℕ) → (more_unless_refused a day kept).end ≡ turn.Over
     → ((more_unless_refused a day kept).day ≡ day) × (a ≡ Accepted → ⊥)
 over_refused Accepted day kept o = let z : ◌≡◌ {A = ℕ} 0 1 = cc in absurd (omega arith)
-over_refused (Refused why place) day kept o = (refl, not_both (Refused why place) refl)
+over_refused (Err refusal) day kept o = (refl, not_both (Err refusal) refl)
 
 ended_over : (a : Answer) (day : RunResult) → day.answer ≡ a → (a ≡ Accepted → ⊥) → day ≡ ended_of day
 ended_over Accepted day e n = absurd (n refl)
-ended_over (Refused why place) day e n = ended_refused day e
+ended_over (Err refusal) day e n = ended_refused day e
 
 -- a refused buffer is the same whether or not more may follow it
 refused_last :
@@ -225,16 +193,3 @@ over_last bytes t fed o (inr m) =
 
 pub over_is_the_inputs : OverIsTheInputs
 over_is_the_inputs bytes t run o = over_last bytes t run.fed o run.last
-
--- The page of a day, as it is put into a buffer.
-pub page_put :
-    (day : RunResult) (old new : List ℕ) {number place : ℕ} {r : PrintResult}
-    → number ≡ answer_number day.answer → place ≡ answer_place day.answer → length old ≡ page_length
-    → r ≡ print_result_of (page_of number place day.records day.files day.session.shown) old
-    → new ≡ bytes_with (page_of number place day.records day.files day.session.shown) old
-    → take r.length new ≡ page_of_day day
-page_put day old new {number} {place} {r} n p l is bytes =
-    let page = page_of number place day.records day.files day.session.shown in
-    let same : page ≡ page_of_day day = rw (n, p) in
-    let starts : take r.length new ≡ page = rw (is, bytes) (printed_holds page old l).1 in
-    starts ∙ same

@@ -1,25 +1,23 @@
 -- One turn: what a full buffer gives, and which turns have more. Assumes nothing.
+use Rattle.std.specs.Prelude.{Err}
 use Prim.Native.Nat.{ℕ, ◌-◌, ◌≤◌}
 use mathlib.Core.Bool.{true, false}
 use mathlib.Core.List.{List, []}
-use mathlib.Core.Path.{◌≡◌, refl, sym, ap, ap₂, subst, ◌∙◌}
+use mathlib.Core.Path.{◌≡◌, refl, sym, ap, subst, ◌∙◌}
 use native.Mathlib.Omega.{arith}
-use lib.ListN.{length, take, drop, length-drop}
+use lib.ListN.{length, take}
 use lib.Seq.{length-take-le, take-length}
-use Rattle.answer.specs.declared.Reason.{Reason}
-use Rattle.answer.specs.declared.Answer.{Answer}
-use Rattle.answer.specs.declared.Answer.TheVariants.{Accepted, Refused}
+use Rattle.answer.specs.Answers.{Answer, Accepted}
 use Rattle.answer.proofs.Tests.{never, unequal}
 use Rattle.session.specs.declared.RunResult.{RunResult}
 use Rattle.session.specs.Runs.{run_of}
 use Rattle.day.specs.Days.{run_buffer_of, left_of}
 use Rattle.day.proofs.Inputs.{taken_within}
-use Rattle.quadro.specs.declared.BufferRead.{BufferRead}
-use Rattle.quadro.specs.declared.BufferRead.TheVariants as buffer
 use Rattle.quadro.specs.declared.TurnEnd.TheVariants as turn
 use Rattle.quadro.specs.declared.TurnResult.{TurnResult}
-use Rattle.quadro.specs.Buffers.{buffer_length, EndsBelow}
-use Rattle.quadro.specs.Turns.{has_more, turn_with, more_unless_refused, full_turn_of, turn_of, TurnOf, BufferAfter, TurnRun}
+use Rattle.quadro.specs.Buffers as buffer
+use Rattle.quadro.specs.Buffers.{buffer_length, BufferRead, EndsBelow}
+use Rattle.quadro.specs.Turns.{has_more, turn_with, more_unless_refused, turn_of, TurnOf, BufferAfter, TurnRun}
 
 -- a turn that has no more moves nothing
 none_moved : (day : RunResult) (bytes : List ℕ) (t : TurnResult) → has_more t.end ≡ false → BufferAfter day bytes t bytes
@@ -44,24 +42,6 @@ module _ (day : RunResult) (bytes : List ℕ) {next : RunResult}
   pub taken_here : (day.bytes ≤ next.bytes) × (from ≤ length bytes)
   taken_here =
       (omega (arith, ap (λ (d : RunResult). d.bytes) ran_whole), omega (arith, size, taken_within day.session true bytes))
-
-  turned : {a : Answer} → next.answer ≡ a → more_unless_refused a next (length (left_of day.session bytes)) ≡ full_turn_of day bytes
-  turned e =
-      ap₂ (λ (a : Answer) (d : RunResult). more_unless_refused a d (length (left_of day.session bytes)))
-      (sym e ∙ ap (λ (d : RunResult). d.answer) ran_whole) ran_whole
-
-  pub full_accepted :
-      {k : ℕ} {after : List ℕ} → next.answer ≡ Accepted → k ≡ length bytes - from → take k after ≡ drop from bytes
-      → (turn_with turn.More next k ≡ full_turn_of day bytes) × BufferAfter day bytes (turn_with turn.More next k) after
-  full_accepted {k} {after} e f moved =
-      let left : drop from bytes ≡ left_of day.session bytes = ap (λ (n : ℕ). drop n bytes) size in
-      let kept : k ≡ length (left_of day.session bytes) = f ∙ sym (length-drop from bytes) ∙ ap length left in
-      (ap (turn_with turn.More next) kept ∙ turned e, (λ h. moved ∙ left, λ h. never (sym h)))
-
-  pub full_refused :
-      {why : Reason} {place : ℕ} → next.answer ≡ Refused why place
-      → (turn_with turn.Over next 0 ≡ full_turn_of day bytes) × BufferAfter day bytes (turn_with turn.Over next 0) bytes
-  full_refused e = (turned e, none_moved day bytes (turn_with turn.Over next 0) refl)
 
 -- a turn with so many bytes at the front of the buffer before it
 pub turn_run :
@@ -101,7 +81,7 @@ module _ (day : RunResult) (kept : ℕ) (bytes : List ℕ) (t : TurnResult) wher
       (a : Answer) → t ≡ more_unless_refused a after (length (left_of day.session bytes)) → has_more t.end ≡ true
       → (t ≡ going_on) × (a ≡ Accepted)
   more_accepted Accepted e h = (e, refl)
-  more_accepted (Refused why place) e h = let m : false ≡ true = rw e at h in never m
+  more_accepted (Err refusal) e h = let m : false ≡ true = rw e at h in never m
 
   more_read :
       (read : BufferRead) → t ≡ turn_of day kept bytes read → has_more t.end ≡ true

@@ -1,7 +1,7 @@
 -- The turns over a whole input (SPEC.md, "The program quadro"): what was read into the buffer, one turn after the
 -- other. Assumes nothing.
 use Rattle.std.specs.Prelude.{ℕ, ◌+◌, ◌≤◌, true, false, List, ◌++◌, ◌⊎◌, ◌≡◌, length, take, drop}
-use Rattle.answer.specs.declared.Answer.TheVariants.{Accepted}
+use Rattle.answer.specs.Answers.{Accepted}
 use Rattle.session.specs.declared.RunResult.{RunResult}
 use Rattle.day.specs.Days.{fresh_day, run_buffer_of, left_of}
 use Rattle.day.specs.Inputs.{day_of_input}

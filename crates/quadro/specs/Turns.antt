@@ -1,16 +1,15 @@
 -- One turn of the reading loop: the buffer is filled behind the bytes that the turn before left, its bytes are run, and
 -- the loop goes on or ends. Assumes nothing.
-use Rattle.std.specs.Prelude.{ℕ, ◌+◌, ◌-◌, Bool, true, false, List, ◌≡◌, length, take}
-use Rattle.answer.specs.declared.Answer.{Answer}
-use Rattle.answer.specs.declared.Answer.TheVariants as answer
+use Rattle.std.specs.Prelude.{ℕ, ◌+◌, ◌-◌, Bool, true, false, List, ◌≡◌, length, take, Err}
+use Rattle.answer.specs.Answers.{Answer}
+use Rattle.answer.specs.Answers as answer
 use Rattle.session.specs.declared.RunResult.{RunResult}
 use Rattle.day.specs.Days.{run_buffer_of, left_of, ended_of}
-use Rattle.quadro.specs.declared.BufferRead.{BufferRead}
-use Rattle.quadro.specs.declared.BufferRead.TheVariants as buffer
 use Rattle.quadro.specs.declared.TurnEnd.{TurnEnd}
 use Rattle.quadro.specs.declared.TurnEnd.TheVariants as turn
 use Rattle.quadro.specs.declared.TurnResult.{TurnResult}
-use Rattle.quadro.specs.Buffers.{buffer_length, EndsBelow}
+use Rattle.quadro.specs.Buffers as buffer
+use Rattle.quadro.specs.Buffers.{buffer_length, BufferRead, EndsBelow}
 
 abbrev pub has_more : TurnEnd → Bool
 has_more turn.More = true
@@ -23,7 +22,7 @@ turn_with end day kept = record { end = end; day = day; kept = kept }
 -- the day goes on with so many bytes kept, unless it is refused
 abbrev pub more_unless_refused : Answer → RunResult → ℕ → TurnResult
 more_unless_refused answer.Accepted day kept = turn_with turn.More day kept
-more_unless_refused (answer.Refused why place) day kept = turn_with turn.Over day 0
+more_unless_refused (Err refusal) day kept = turn_with turn.Over day 0
 
 -- the turn over a full buffer: more may follow, and what the run leaves of its bytes is kept
 abbrev pub full_turn_of : RunResult → List ℕ → TurnResult

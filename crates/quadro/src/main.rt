@@ -3,16 +3,15 @@
 #![tactic(auto)]
 
 ghost use Rattle.std.specs.Prelude.{◌≡◌, ◌-◌, ◌≤◌, length, take, drop};
-ghost use Rattle.answer.specs.declared.Answer.TheVariants.{Accepted};
+ghost use Rattle.answer.specs.Answers.{Accepted};
 ghost use Rattle.day.specs.Days.{fresh_day, run_buffer_of, ended_of};
 ghost use Rattle.day.specs.Inputs.{page_of_day};
-ghost use Rattle.quadro.specs.Buffers.{buffer_length, most_kept, EndsBelow};
+ghost use Rattle.quadro.specs.Buffers.{buffer_length, most_kept, buffer_read, EndsBelow};
 ghost use Rattle.quadro.specs.Buffers.{most_before, most_counted, Counted, Grown};
 ghost use Rattle.quadro.specs.Turns.{has_more, full_turn_of, BufferAfter, TurnRun};
 ghost use Rattle.quadro.specs.Inputs.{InputRun, OverIsTheInputs};
 ghost use Rattle.page.specs.Pages.{page_length};
 
-use answer::Answer;
 use session::{RunResult, Session};
 use std::io::{Cursor, Read, Stdin, Write};
 use std::{io, str};
@@ -26,33 +25,29 @@ const TURNS: u64 = 17632813406850;
 // No error's text is longer.
 const TEXT: usize = 320;
 
-// How reading a buffer ended: it is full, the input ended behind so many bytes, or a read failed, and why.
-#[derive(Clone, Copy)]
-pub enum BufferRead {
-    Full,
-    Ended(usize),
-    Failed(io::Error),
-}
-
-// Reads until the buffer is full, the input ends or a read fails.
-fn read_buffer(input: &mut Stdin, buf: &mut [u8]) -> BufferRead
-    ensures { EndsBelow (length buf.old) result }
+// Reads until the buffer is full, the input ends or a read fails, and returns how many bytes were read: fewer than the
+// buffer has if the input ended.
+#[tactic(auto, using(crate::proofs::Buffers::read_within))]
+fn read_buffer(input: &mut Stdin, buf: &mut [u8]) -> io::Result<usize>
+    ensures { EndsBelow (length buf.old) (buffer_read (length buf.old) result) }
 {
+    // No `for`: how far a read comes is known only behind it. No `read_exact`: it does not say how many bytes an input
+    // has.
     let mut n: usize = 0;
     while n < buf.len() {
-        match input.read(&mut buf[n..]) {
-            Ok(0) => return BufferRead::Ended(n),
-            Ok(more) => n += more,
-            Err(error) => return BufferRead::Failed(error),
+        match input.read(&mut buf[n..])? {
+            0 => break,
+            more => n += more,
         }
     }
-    BufferRead::Full
+    Ok(n)
 }
 
 // The same behind the first `kept` bytes of the buffer, which stay.
-fn read_behind(input: &mut Stdin, buf: &mut [u8], kept: usize) -> BufferRead
+#[tactic(auto, using(crate::proofs::Buffers::ends_behind))]
+fn read_behind(input: &mut Stdin, buf: &mut [u8], kept: usize) -> io::Result<usize>
     requires { kept ≤ length buf.old }
-    ensures ends_below { EndsBelow (length buf.old - kept) result }
+    ensures ends_below { EndsBelow (length buf.old - kept) (buffer_read (length buf.old - kept) result) }
     ensures left { take kept buf.new ≡ take kept buf.old }
 {
     read_buffer(input, &mut buf[kept..])
@@ -63,7 +58,7 @@ fn fresh_day() -> RunResult
     ensures { result ≡ fresh_day }
 {
     RunResult {
-        answer: Answer::Accepted,
+        answer: Ok(()),
         session: Session::new(),
         records: 0,
         files: 0,
@@ -73,22 +68,18 @@ fn fresh_day() -> RunResult
 
 // The day after the first n bytes of a buffer, with no agreed issuers; more bytes may follow them, or they are the
 // last.
+#[tactic(auto, using(crate::proofs::Buffers::few_run))]
 fn run_buffer(day: RunResult, buf: &[u8], n: usize, more: bool) -> RunResult
     requires { Counted most_counted day × (n ≤ buffer_length) × (n ≤ length buf.now) }
     ensures value { result ≡ run_buffer_of day more (take n buf.now) }
     ensures bounded { Grown day result }
 {
-    let before = day.session;
-    let none = [0u64; 0];
-    let ran = before.run(&buf[..n], more, &none);
-    let answer = ran.answer;
-    let session = ran.session;
+    let ran = day.session.run(&buf[..n], more, &[]);
     RunResult {
-        answer,
-        session,
         records: day.records + ran.records,
         files: day.files + ran.files,
         bytes: day.bytes + ran.bytes,
+        ..ran
     }
 }
 
@@ -96,25 +87,14 @@ fn run_buffer(day: RunResult, buf: &[u8], n: usize, more: bool) -> RunResult
 fn finish_day(day: RunResult) -> RunResult
     ensures { result ≡ ended_of day }
 {
-    let answer = day.answer;
-    match answer {
-        Answer::Refused(_, _) => day,
-        Answer::Accepted => {
-            let session = day.session;
-            let took = session.finish();
-            let answer = took.answer;
-            RunResult {
-                answer,
-                session,
-                records: day.records,
-                files: day.files,
-                bytes: day.bytes,
-            }
-        }
+    RunResult {
+        answer: day.answer.and(day.session.finish().and(Ok(()))),
+        ..day
     }
 }
 
-// How a turn ended: more input may follow, the day is over, or a read failed, and why.
+// How a turn ended: more input may follow, the day is over, or a read failed, and why. It is no `io::Result`: of a turn
+// that failed too the contracts name the day so far.
 #[derive(Clone, Copy)]
 pub enum TurnEnd {
     More,
@@ -137,15 +117,12 @@ fn move_to_front(buf: &mut [u8], from: usize) -> usize
     ensures value { result ≡ length buf.old - from }
     ensures moved { take result buf.new ≡ drop from buf.old }
 {
-    let mut n: usize = 0;
-    while n < buf.len() - from {
-        buf[n] = buf[from + n];
-        n += 1;
-    }
-    n
+    buf.copy_within(from.., 0);
+    buf.len() - from
 }
 
 // Runs a full buffer, and moves what the run leaves to its front, unless it is refused.
+#[tactic(auto, using(crate::proofs::Turns::taken_here))]
 fn run_full_buffer(day: RunResult, buf: &mut [u8]) -> TurnResult
     requires { Counted most_counted day × (length buf.old ≤ buffer_length) }
     ensures value { result ≡ full_turn_of day buf.old }
@@ -153,14 +130,13 @@ fn run_full_buffer(day: RunResult, buf: &mut [u8]) -> TurnResult
     ensures bounded { Grown day result.day }
 {
     let next = run_buffer(day, buf, buf.len(), true);
-    let answer = next.answer;
-    match answer {
-        Answer::Accepted => TurnResult {
+    match next.answer {
+        Ok(()) => TurnResult {
             end: TurnEnd::More,
             day: next,
             kept: move_to_front(buf, next.bytes - day.bytes),
         },
-        Answer::Refused(_, _) => TurnResult {
+        Err(_) => TurnResult {
             end: TurnEnd::Over,
             day: next,
             kept: 0,
@@ -178,13 +154,13 @@ fn run_next_buffer(input: &mut Stdin, turn: TurnResult, buf: &mut [u8; SIZE]) ->
     let day = turn.day;
     let kept = turn.kept;
     match read_behind(input, buf, kept) {
-        BufferRead::Full => run_full_buffer(day, buf),
-        BufferRead::Ended(n) => TurnResult {
+        Ok(n) if kept + n < SIZE => TurnResult {
             end: TurnEnd::Over,
             day: finish_day(run_buffer(day, buf, kept + n, false)),
             kept: 0,
         },
-        BufferRead::Failed(error) => TurnResult {
+        Ok(_) => run_full_buffer(day, buf),
+        Err(error) => TurnResult {
             end: TurnEnd::Failed(error),
             day,
             kept: 0,
@@ -195,11 +171,7 @@ fn run_next_buffer(input: &mut Stdin, turn: TurnResult, buf: &mut [u8; SIZE]) ->
 fn has_more(end: TurnEnd) -> bool
     ensures { result ≡ has_more end }
 {
-    match end {
-        TurnEnd::More => true,
-        TurnEnd::Over => false,
-        TurnEnd::Failed(_) => false,
-    }
+    matches!(end, TurnEnd::More)
 }
 
 // The last turn over the input, which this day runs: at the input's end, at the first refusal or failed read, or after
@@ -213,12 +185,9 @@ fn run_turns(input: &mut Stdin, day: RunResult, buf: &mut [u8; SIZE]) -> TurnRes
         day,
         kept: 0,
     };
-    let mut turns: u64 = TURNS;
-    while 0 < turns {
-        turns -= 1;
+    for _ in 0..TURNS {
         turn = run_next_buffer(input, turn, buf);
-        let end = turn.end;
-        if !has_more(end) {
+        if !has_more(turn.end) {
             return turn;
         }
     }
@@ -238,12 +207,10 @@ fn put_page(day: RunResult, out: &mut [u8; page::PAGE]) -> usize
     ensures out_after { take result out.new ≡ page_of_day day }
     ensures bounded { (result ≤ page_length) × (length out.new ≡ page_length) }
 {
-    let answer = day.answer;
-    let session = day.session;
-    let board = session.shown;
-    let number = answer.number() as u64;
-    let printed = page::print(number, answer.place(), day.records, day.files, board, out);
-    printed.length
+    let number = u64::from(answer::number(day.answer));
+    let place = answer::place(day.answer);
+    let board = day.session.shown;
+    page::print(number, place, day.records, day.files, board, out).unwrap()
 }
 
 // A failure is one line on standard error, with the system's reason in its own words: std puts the error's number

@@ -1,7 +1,16 @@
 -- The fast path is exact: it recognizes an accepted G, and nothing else. Assumes nothing.
+use Rattle.std.specs.Result.{result_ok}
+use Rattle.std.specs.Prelude.{is_some, Err, None, Ok, Option, Result, Some}
+use borrow.Author.Tests.{eq-eqb}
+use lib.Dec.{eqb}
+use Rattle.answer.specs.declared.Reason.TheVariants.{WrongLength}
+use Rattle.answer.specs.declared.Refusal.{Refusal}
+use Rattle.answer.specs.Orders.{require, if_accepted}
+use Rattle.answer.proofs.Orders.{not_both}
+use Rattle.layout.specs.declared.Record.{Record}
 use Prim.Native.Nat.{ℕ, ◌+◌, ◌≤◌}
 use mathlib.Core.Bool.{true, false, ◌&&◌, and-eq-true_iff}
-use mathlib.Core.List.{List}
+use mathlib.Core.List.{List, []}
 use mathlib.Core.Logic.{◌↔◌}
 use mathlib.Core.Path.{◌≡◌, refl, ap, ◌∙◌}
 use native.Mathlib.Omega.{arith}
@@ -9,9 +18,7 @@ use lib.ListN.{length, get_or, take, drop, length-drop}
 use lib.Seq.{length-take-le}
 use Rattle.decimal.proofs.Places.{all_inner, all_side_by_side}
 use Rattle.answer.proofs.Tests.{unequal}
-use Rattle.answer.specs.declared.Reason.{Reason}
-use Rattle.answer.specs.declared.Answer.{Answer}
-use Rattle.answer.specs.declared.Answer.TheVariants.{Accepted, Refused}
+use Rattle.answer.specs.Answers.{Answer, Accepted, answer_of}
 use Rattle.decimal.specs.declared.Class.TheVariants.{Digit, Blank, Text}
 use Rattle.decimal.specs.Bytes.{is_of, all}
 use Rattle.decimal.specs.LowHalves.{low_number_of}
@@ -19,31 +26,23 @@ use Rattle.decimal.specs.Numbers.{number_of}
 use Rattle.decimal.proofs.Finite.{never}
 use Rattle.decimal.proofs.Numbers.{low_of_digits}
 use Rattle.calendar.specs.declared.Date.{Date}
-use Rattle.calendar.specs.declared.MaybeDate.TheVariants as days
 use Rattle.calendar.specs.Dates.{date_of, is_found}
 use Rattle.barcode.specs.declared.Fields.{Fields}
 use Rattle.barcode.specs.declared.Issuer.{Issuer}
-use Rattle.barcode.specs.declared.MaybeIssuer.TheVariants.{NoIssuer}
-use Rattle.barcode.specs.declared.Decoded.TheVariants as read
 use Rattle.barcode.specs.Codes.{issuer_of}
 use Rattle.barcode.specs.Agreed.{barcode_under}
 use Rattle.barcode.specs.Shown.{fields_of, decoded_under, accepted_issuer}
-use Rattle.layout.specs.declared.MaybeRecord.{MaybeRecord}
-use Rattle.layout.specs.declared.MaybeRecord.TheVariants.{Is, Other}
 use Rattle.layout.specs.declared.Record.TheVariants.{Header, Payment, Trailer}
 use Rattle.layout.specs.Layouts.{record_length, named_by, layout_of, row_at, table, account_row, barcode_row, received_row, number_row, branch_row, capture_row, authentication_row, form_row, payment_blank_row, paid_row, credited_row, tariff_row}
 use Rattle.kinds.specs.Terms.{Terms}
 use Rattle.kinds.specs.Kinds.{is_capture, is_form}
 use Rattle.kinds.proofs.VersionLaws.{capture_is_text}
-use Rattle.record.specs.declared.Decoded.{Decoded}
-use Rattle.record.specs.declared.Decoded.TheVariants as decoded
+use Rattle.record.specs.Values.{Decoded, field_in, shown_field, record_shown, shown_unless_refused, decoded_record_under, payment_due_of}
+use Rattle.record.specs.declared.Contents.TheVariants as contents
 use Rattle.record.specs.declared.Payment.{Payment as Shows}
-use Rattle.record.specs.declared.fast.FastDecoded.TheVariants.{Paid, Other as Unpaid}
-use Rattle.record.specs.declared.PaymentDue.TheVariants.{To, Nothing}
 use Rattle.record.specs.FastPath.{span_of, is_plain, is_coded, is_dated, looks_like_payment, fast_decoded_of}
-use Rattle.record.specs.Records.{field_bytes, record_answer, is_payment}
-use Rattle.record.specs.Values.{record_shown, shown_unless_refused, decoded_record_under, payment_due_of}
-use Rattle.record.proofs.Shown.{accepted_is, right_fields}
+use Rattle.record.specs.Records.{field_bytes, record_answer, record_check, is_payment}
+use Rattle.record.proofs.Shown.{accepted_is, check_passes, right_fields}
 use Rattle.record.proofs.FieldBytes.{places_length}
 use Rattle.record.proofs.KindRules.{text, money, digits, blank, capture, form, code, date, mark}
 use Rattle.record.proofs.FastPath.{named_payment, one_byte}
@@ -82,7 +81,7 @@ module _ (t : Terms) (rec : List ℕ) where
   Right = (is_plain rec ≡ true) × (is_coded t.version rec ≡ true) × (is_dated rec ≡ true) × (barcode_under t.agreed (field_bytes (row_at barcode_row) rec) ≡ Accepted)
 
   module _ (n : length rec ≡ record_length) where
-    holds : named_by (get_or rec 0 0) ≡ Is Payment → Right → record_answer t rec ≡ Accepted
+    holds : named_by (get_or rec 0 0) ≡ Some Payment → Right → record_answer t rec ≡ Accepted
     unfolding layout_of row_at table
     holds named right =
         let p = plain.0 right.0 in
@@ -104,7 +103,7 @@ module _ (t : Terms) (rec : List ℕ) where
         and (blank t _).1 p.3
         and tt)
 
-    seen : named_by (get_or rec 0 0) ≡ Is Payment → record_answer t rec ≡ Accepted → Right
+    seen : named_by (get_or rec 0 0) ≡ Some Payment → record_answer t rec ≡ Accepted → Right
     unfolding layout_of row_at table
     seen named e =
         let each = (right_fields t Payment rec n named).0 e in
@@ -127,28 +126,34 @@ module _ (t : Terms) (rec : List ℕ) where
 
 -- An accepted payment, or anything else.
 
-payment_named : (m : MaybeRecord) → is_payment m ≡ true → m ≡ Is Payment
-payment_named (Is Header) t = never t
-payment_named (Is Payment) t = refl
-payment_named (Is Trailer) t = never t
-payment_named Other t = never t
+payment_named : (m : Option Record) → is_payment m ≡ true → m ≡ Some Payment
+payment_named (Some Header) t = never t
+payment_named (Some Payment) t = refl
+payment_named (Some Trailer) t = never t
+payment_named None t = never t
 
 abbrev Unseen : Terms → List ℕ → Type 0
-Unseen t rec = (Nothing ≡ payment_due_of (decoded_record_under t rec)) × (Unpaid ≡ fast_decoded_of (decoded_record_under t rec))
+Unseen t rec = (None ≡ payment_due_of (decoded_record_under t rec)) × (None ≡ fast_decoded_of (decoded_record_under t rec))
 
 unseen : (t : Terms) (rec : List ℕ) → (record_answer t rec ≡ Accepted → is_payment (named_by (get_or rec 0 0)) ≡ true → ⊥) → Unseen t rec
 unseen t rec h = go (record_answer t rec) (named_by (get_or rec 0 0)) h
   where
-    go : (a : Answer) (m : MaybeRecord) → (a ≡ Accepted → is_payment m ≡ true → ⊥)
-        → (Nothing ≡ payment_due_of (shown_unless_refused a (record_shown t.agreed m rec))) × (Unpaid ≡ fast_decoded_of (shown_unless_refused a (record_shown t.agreed m rec)))
-    go (Refused why place) m h = (refl, refl)
-    go Accepted (Is Header) h = (refl, refl)
-    go Accepted (Is Payment) h = absurd (h refl refl)
-    go Accepted (Is Trailer) h = (refl, refl)
-    go Accepted Other h = (refl, refl)
+    go : (a : Answer) (m : Option Record) → (a ≡ Accepted → is_payment m ≡ true → ⊥)
+        → (None ≡ payment_due_of (shown_unless_refused a (record_shown t.agreed m rec))) × (None ≡ fast_decoded_of (shown_unless_refused a (record_shown t.agreed m rec)))
+    go (Err refusal) m h = (refl, refl)
+    go Accepted (Some Header) h = (refl, refl)
+    go Accepted (Some Payment) h = absurd (h refl refl)
+    go Accepted (Some Trailer) h = (refl, refl)
+    go Accepted None h = (refl, refl)
 
-pub not_sized : (t : Terms) (rec : List ℕ) → (length rec ≡ record_length → ⊥) → Unseen t rec
+not_sized : (t : Terms) (rec : List ℕ) → (length rec ≡ record_length → ⊥) → Unseen t rec
 not_sized t rec h = unseen t rec (λ a p. h (accepted_is t rec a).0)
+
+pub not_whole : {A : Type 0} (t : Terms) (rec : List ℕ) (r : Result A Refusal)
+    → answer_of r ≡ require (eqb (length rec) record_length) WrongLength 0
+    → None ≡ result_ok r → Unseen t rec
+not_whole t rec (Ok x) e f = let z : ◌≡◌ {A = ℕ} 0 1 = cc in absurd (omega arith)
+not_whole t rec (Err refusal) e f = not_sized t rec (λ n. not_both _ refl (e ∙ rw (eq-eqb (length rec) record_length n)))
 
 module _ (t : Terms) (rec : List ℕ) (n : length rec ≡ record_length) where
   right_when : record_answer t rec ≡ Accepted → is_payment (named_by (get_or rec 0 0)) ≡ true → Right t rec
@@ -161,23 +166,23 @@ module _ (t : Terms) (rec : List ℕ) (n : length rec ≡ record_length) where
   pub not_dated : is_dated rec ≡ false → Unseen t rec
   not_dated f = unseen t rec (λ a p. unequal (right_when a p).2 f)
 
-  pub no_payment_date : date_of (field_bytes (row_at paid_row) rec) ≡ days.NoDate → Unseen t rec
+  pub no_payment_date : date_of (field_bytes (row_at paid_row) rec) ≡ None → Unseen t rec
   no_payment_date e = unseen t rec (λ a p. unequal ((dated t rec).0 (right_when a p).2).0 (ap is_found e))
 
-  pub no_credit_date : date_of (field_bytes (row_at credited_row) rec) ≡ days.NoDate → Unseen t rec
+  pub no_credit_date : date_of (field_bytes (row_at credited_row) rec) ≡ None → Unseen t rec
   no_credit_date e = unseen t rec (λ a p. unequal ((dated t rec).0 (right_when a p).2).1 (ap is_found e))
 
-  pub both_dates : {p c : Date} → date_of (field_bytes (row_at paid_row) rec) ≡ days.On p → date_of (field_bytes (row_at credited_row) rec) ≡ days.On c → is_dated rec ≡ true
+  pub both_dates : {p c : Date} → date_of (field_bytes (row_at paid_row) rec) ≡ Some p → date_of (field_bytes (row_at credited_row) rec) ≡ Some c → is_dated rec ≡ true
   both_dates e f = (dated t rec).1 (ap is_found e, ap is_found f)
 
-  pub no_payee : NoIssuer ≡ accepted_issuer t.agreed (field_bytes (row_at barcode_row) rec) → Unseen t rec
+  pub no_payee : None ≡ accepted_issuer t.agreed (field_bytes (row_at barcode_row) rec) → Unseen t rec
   no_payee e = unseen t rec (λ a p. let k = rw (right_when a p).3 at e in let z : ◌≡◌ {A = ℕ} 0 1 = cc in omega arith)
 
-  pub no_code : {why : Reason} {place : ℕ} → read.Refused why place ≡ decoded_under t.agreed (field_bytes (row_at barcode_row) rec) → Unseen t rec
+  pub no_code : None ≡ result_ok (decoded_under t.agreed (field_bytes (row_at barcode_row) rec)) → Unseen t rec
   no_code e = unseen t rec (λ a p. let k = rw (right_when a p).3 at e in let z : ◌≡◌ {A = ℕ} 0 1 = cc in omega arith)
 
   module _ (looks : looks_like_payment t.version rec ≡ true) (dates : is_dated rec ≡ true) (right : barcode_under t.agreed (field_bytes (row_at barcode_row) rec) ≡ Accepted) where
-    looked : (named_by (get_or rec 0 0) ≡ Is Payment) × (is_plain rec ≡ true) × (is_coded t.version rec ≡ true)
+    looked : (named_by (get_or rec 0 0) ≡ Some Payment) × (is_plain rec ≡ true) × (is_coded t.version rec ≡ true)
     looked =
         let both = (and-eq-true_iff (is_payment (named_by (get_or rec 0 0))) (is_plain rec && is_coded t.version rec)).0 looks in
         let more = (and-eq-true_iff (is_plain rec) (is_coded t.version rec)).0 both.1 in
@@ -193,37 +198,49 @@ module _ (t : Terms) (rec : List ℕ) (n : length rec ≡ record_length) where
         e ∙ low_of_digits (take m (drop (81 + j) rec)) (all_inner (is_of Digit) rec 81 27 j m (omega arith) ((plain t rec).0 looked.1).2) (omega arith)
 
     pub pays_it : {i : Issuer} {c y : ℕ} → i ≡ issuer_of (field_bytes (row_at barcode_row) rec) → c ≡ low_number_of (field_bytes (row_at received_row) rec)
-        → y ≡ low_number_of (field_bytes (row_at tariff_row) rec) → To i c y ≡ payment_due_of (decoded_record_under t rec)
+        → y ≡ low_number_of (field_bytes (row_at tariff_row) rec) → Some (record { issuer = i; received = c; tariff = y }) ≡ payment_due_of (decoded_record_under t rec)
     unfolding row_at table layout_of
     pays_it ei ec ey = rw (accepted, looked.0, ei, low 0 12 (omega arith) (omega arith) ec, low 12 7 (omega arith) (omega arith) ey)
 
-    pub shows_it : {p c : Date} {f : Fields} {r y n : ℕ} → date_of (field_bytes (row_at paid_row) rec) ≡ days.On p → date_of (field_bytes (row_at credited_row) rec) ≡ days.On c
+    pub shows_it : {p c : Date} {f : Fields} {r y n : ℕ} → date_of (field_bytes (row_at paid_row) rec) ≡ Some p → date_of (field_bytes (row_at credited_row) rec) ≡ Some c
         → f ≡ fields_of t.agreed (field_bytes (row_at barcode_row) rec) → r ≡ low_number_of (field_bytes (row_at received_row) rec) → y ≡ low_number_of (field_bytes (row_at tariff_row) rec)
         → n ≡ low_number_of (field_bytes (row_at number_row) rec)
-        → Paid (record { paid = p; credited = c; barcode = f; received = r; tariff = y; number = n }) ≡ fast_decoded_of (decoded_record_under t rec)
+        → Some (record { paid = p; credited = c; barcode = f; received = r; tariff = y; number = n }) ≡ fast_decoded_of (decoded_record_under t rec)
     unfolding row_at table layout_of
     shows_it ep ec ef er et en = rw (accepted, looked.0, ep, ec, ef, low 0 12 (omega arith) (omega arith) er, low 12 7 (omega arith) (omega arith) et, low 19 8 (omega arith) (omega arith) en)
 
+-- What is not whole shows no field.
+pub not_whole_shown : {A : Type 0} (t : Terms) (row : ℕ) (rec : List ℕ) (r : Result A Refusal) {refusal : Refusal}
+    → answer_of r ≡ require (eqb (length rec) record_length) WrongLength 0
+    → r ≡ Err refusal → [] ≡ shown_field t row rec
+not_whole_shown t row rec r e f = go (record_check t rec) refl
+  where
+    go : (a : Answer) → record_check t rec ≡ a → [] ≡ if_accepted a (field_in (named_by (get_or rec 0 0)) row rec) []
+    go Accepted h =
+        let n = (accepted_is t rec (check_passes t rec h)).0 in
+        not_both _ refl (rw (f, eq-eqb (length rec) record_length n) at e)
+    go (Err refusal) h = refl
+
 -- What is seen was accepted.
 
-pub paid_accepted : (t : Terms) (rec : List ℕ) {i : Issuer} {c y : ℕ} → To i c y ≡ payment_due_of (decoded_record_under t rec) → Accepted ≡ record_answer t rec
-paid_accepted t rec {i} {c} {y} e = go (record_answer t rec) e
+pub paid_accepted : (t : Terms) (rec : List ℕ) → is_some (payment_due_of (decoded_record_under t rec)) ≡ true → Accepted ≡ record_answer t rec
+paid_accepted t rec e = go (record_answer t rec) e
   where
-    go : (a : Answer) → To i c y ≡ payment_due_of (shown_unless_refused a (record_shown t.agreed (named_by (get_or rec 0 0)) rec)) → Accepted ≡ a
+    go : (a : Answer) → is_some (payment_due_of (shown_unless_refused a (record_shown t.agreed (named_by (get_or rec 0 0)) rec))) ≡ true → Accepted ≡ a
     go Accepted e = refl
-    go (Refused why place) e = let z : ◌≡◌ {A = ℕ} 0 1 = cc in absurd (omega arith)
+    go (Err refusal) e = never e
 
-pub seen_shown : (d : Decoded) {p : Shows} → Paid p ≡ fast_decoded_of d → decoded.Payment p ≡ d
-seen_shown (decoded.Header h) e = let z : ◌≡◌ {A = ℕ} 0 1 = cc in absurd (omega arith)
-seen_shown (decoded.Payment q) e = cc
-seen_shown (decoded.Trailer t) e = let z : ◌≡◌ {A = ℕ} 0 1 = cc in absurd (omega arith)
-seen_shown (decoded.Refused why place) e = let z : ◌≡◌ {A = ℕ} 0 1 = cc in absurd (omega arith)
+pub seen_shown : (d : Decoded) {p : Shows} → Some p ≡ fast_decoded_of d → Ok (contents.Payment p) ≡ d
+seen_shown (Ok (contents.Header h)) e = let z : ◌≡◌ {A = ℕ} 0 1 = cc in absurd (omega arith)
+seen_shown (Ok (contents.Payment q)) e = cc
+seen_shown (Ok (contents.Trailer t)) e = let z : ◌≡◌ {A = ℕ} 0 1 = cc in absurd (omega arith)
+seen_shown (Err refusal) e = let z : ◌≡◌ {A = ℕ} 0 1 = cc in absurd (omega arith)
 
-pub other_shown : (t : Terms) (rec : List ℕ) → Unpaid ≡ fast_decoded_of (decoded_record_under t rec) → record_answer t rec ≡ Accepted → is_payment (named_by (get_or rec 0 0)) ≡ false
+pub other_shown : (t : Terms) (rec : List ℕ) → None ≡ fast_decoded_of (decoded_record_under t rec) → record_answer t rec ≡ Accepted → is_payment (named_by (get_or rec 0 0)) ≡ false
 other_shown t rec e a = go (named_by (get_or rec 0 0)) (rw a at e)
   where
-    go : (m : MaybeRecord) → Unpaid ≡ fast_decoded_of (record_shown t.agreed m rec) → is_payment m ≡ false
-    go (Is Header) e = refl
-    go (Is Payment) e = let z : ◌≡◌ {A = ℕ} 0 1 = cc in absurd (omega arith)
-    go (Is Trailer) e = refl
-    go Other e = refl
+    go : (m : Option Record) → None ≡ fast_decoded_of (record_shown t.agreed m rec) → is_payment m ≡ false
+    go (Some Header) e = refl
+    go (Some Payment) e = let z : ◌≡◌ {A = ℕ} 0 1 = cc in absurd (omega arith)
+    go (Some Trailer) e = refl
+    go None e = refl

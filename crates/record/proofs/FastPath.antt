@@ -1,6 +1,8 @@
 -- Laws of the fast path's checks, row by row and part by part. Assumes nothing.
+use Rattle.std.specs.Prelude.{None, Option, Some}
+use Rattle.layout.specs.declared.Record.{Record}
 use Prim.Native.Nat.{ℕ, ◌+◌, ◌-◌, ◌≤◌, ◌<◌}
-use mathlib.Core.Bool.{Bool, true, false, cond, ◌&&◌, and-true, and-eq-true_iff}
+use mathlib.Core.Bool.{Bool, true, false, cond, ◌&&◌, and-eq-true_iff}
 use mathlib.Core.List.{List, [], ◌∷◌}
 use mathlib.Core.Path.{◌≡◌, refl, sym, ap, ◌∙◌}
 use native.Mathlib.Numerals.{add-one}
@@ -8,14 +10,12 @@ use native.Mathlib.Omega.{arith}
 use borrow.Author.Tests.{eqb-true}
 use lib.Bits.{bit_or}
 use lib.Dec.{eqb}
-use lib.ListN.{length, get_or, take, drop, length-drop, drop_of_length-le}
+use lib.ListN.{length, get_or, take, drop, length-drop}
 use lib.Seq.{take_all, drop-cons}
 use Rattle.decimal.specs.declared.Class.TheVariants.{Digit, Blank, Text}
 use Rattle.decimal.specs.Bytes.{is_of, all}
 use Rattle.decimal.proofs.Bytes.{flag_on, row_fails, last_row, two_flags}
 use Rattle.layout.specs.Layouts.{row_at, account_row, received_row, number_row, branch_row, capture_row, authentication_row, form_row, payment_blank_row, named_by}
-use Rattle.layout.specs.declared.MaybeRecord.{MaybeRecord}
-use Rattle.layout.specs.declared.MaybeRecord.TheVariants.{Is, Other}
 use Rattle.layout.specs.declared.Record.TheVariants.{Header, Payment, Trailer}
 use Rattle.kinds.specs.Kinds.{is_capture, is_form}
 use Rattle.record.specs.FastPath.{column_holds, SixteenEach, rows_hold, parts_hold, span_of, is_plain, is_coded}
@@ -28,7 +28,7 @@ pub six_flags : (a b c d e f : Bool) {u v w x y z : ℕ} → u ≡ cond a 0 1 �
 six_flags a b c d e f eu ev ew ex ey ez =
     rw (eu, ev, ew, ex, ey, ez, two_flags a b, two_flags c d, two_flags e f, two_flags (c && d) (e && f), two_flags (a && b) ((c && d) && (e && f)))
 
--- Six rows at column i, and behind the last one.
+-- Six rows at column i.
 
 weave : (t r u s : Bool) → ((t && r) && (u && s)) ≡ ((t && u) && (r && s))
 weave false r u s = refl
@@ -63,12 +63,6 @@ module _ (a b c d e f : List ℕ) (six : SixteenEach a b c d e f) (i n : ℕ) wh
       rw (next (is_of Text) a six.0 h, next (is_of Text) b six.1 h, next (is_of Text) c six.2 h, next (is_of Text) d six.3 h, next (is_of Digit) e six.4 h, next (is_of Digit) f six.5 h, weave ta ra tb rb, weave tc rc td rd, weave te re tf rf, weave (tc && td) (rc && rd) (te && tf) (re && rf))
       (weave (ta && tb) (ra && rb) ((tc && td) && (te && tf)) ((rc && rd) && (re && rf))) in
       rw (g, flag_on ((ta && tb) && ((tc && td) && (te && tf))) n (from (i + 1) a b c d e f), ← front) q
-
-  none : (l : List ℕ) → length l ≡ 16 → 16 ≤ i → drop i l ≡ []
-  none l g h = let past : length l ≤ i = omega arith in drop_of_length-le l past
-
-  pub rows_end : {r : Bool} → 16 ≤ i → (eqb n 0 && from i a b c d e f) ≡ r → eqb n 0 ≡ r
-  rows_end h q = rw (none a six.0 h, none b six.1 h, none c six.2 h, none d six.3 h, none e six.4 h, none f six.5 h, and-true) at q
 
 -- a part of 16 to 32 bytes is its first sixteen and its last
 pub last_sixteen : (bs : List ℕ) → 16 ≤ length bs
@@ -106,11 +100,11 @@ module _ (rec : List ℕ) where
   unfolding is_coded
   form_is version e f g = rw (sym e ∙ f, g)
 
-pub named_payment : (b : ℕ) → named_by b ≡ Is Payment → b ≡ 71
+pub named_payment : (b : ℕ) → named_by b ≡ Some Payment → b ≡ 71
 unfolding named_by
 named_payment b e = go (eqb b 65) (eqb b 71) (eqb b 90) refl e
   where
-    go : (t u v : Bool) → eqb b 71 ≡ u → ◌≡◌ {A = MaybeRecord} (cond t (Is Header) (cond u (Is Payment) (cond v (Is Trailer) Other))) (Is Payment) → b ≡ 71
+    go : (t u v : Bool) → eqb b 71 ≡ u → ◌≡◌ {A = Option Record} (cond t (Some Header) (cond u (Some Payment) (cond v (Some Trailer) None))) (Some Payment) → b ≡ 71
     go true u v f q = let z : ◌≡◌ {A = ℕ} 0 1 = cc in absurd (omega arith)
     go false true v f q = eqb-true b 71 f
     go false false true f q = let z : ◌≡◌ {A = ℕ} 0 1 = cc in absurd (omega arith)

@@ -1,4 +1,6 @@
 -- The rule of each kind of a G's fields as one test of its bytes. Assumes nothing.
+use Rattle.std.specs.Prelude.{None, Option, Some}
+use Rattle.calendar.specs.declared.Date.{Date}
 use Prim.Native.Nat.{ℕ}
 use mathlib.Core.Bool.{true, ◌&&◌, and-eq-true_iff}
 use mathlib.Core.List.{List, [], ◌∷◌}
@@ -9,7 +11,7 @@ use borrow.Author.Tests.{eq-eqb}
 use lib.Dec.{eqb}
 use lib.ListN.{length, get_or, take, drop}
 use Rattle.answer.specs.declared.Reason.TheVariants.{NoDigit, NoText, FixedDiffers, NoDate, UnknownCode}
-use Rattle.answer.specs.declared.Answer.TheVariants.{Accepted}
+use Rattle.answer.specs.Answers.{Accepted}
 use Rattle.answer.specs.Orders.{require}
 use Rattle.answer.proofs.Orders.{require_accepts, then_accepts}
 use Rattle.decimal.specs.declared.Class.TheVariants.{Digit, Blank, Text}
@@ -17,8 +19,6 @@ use Rattle.decimal.specs.Bytes.{is_of, all, each_is}
 use Rattle.decimal.specs.Numbers.{number_of}
 use Rattle.decimal.proofs.Bytes.{each_accepts}
 use Rattle.decimal.proofs.Finite.{never}
-use Rattle.calendar.specs.declared.MaybeDate.{MaybeDate}
-use Rattle.calendar.specs.declared.MaybeDate.TheVariants as days
 use Rattle.calendar.specs.Dates.{date_of, is_found}
 use Rattle.barcode.specs.Agreed.{barcode_under}
 use Rattle.layout.specs.declared.Kind.TheVariants as kind
@@ -62,9 +62,9 @@ date t bs = (
   go (date_of bs) refl,
 )
   where
-    go : (d : MaybeDate) → date_of bs ≡ d → is_found (date_of bs) ≡ true → kind_answer t kind.Date bs ≡ Accepted
-    go (days.On d) f t = sym (date_accepted bs d f)
-    go days.NoDate f t = never (sym (ap is_found f) ∙ t)
+    go : (d : Option Date) → date_of bs ≡ d → is_found (date_of bs) ≡ true → kind_answer t kind.Date bs ≡ Accepted
+    go (Some d) f t = sym (date_accepted bs d f)
+    go None f t = never (sym (ap is_found f) ∙ t)
 
 -- the two bytes of a header's version are the number of one, and digits
 pub version : (t : Terms) (bs : List ℕ) → kind_answer t kind.Version bs ≡ Accepted

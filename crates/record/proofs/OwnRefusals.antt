@@ -1,4 +1,5 @@
 -- The numbers that a record's own refusals have, by what its fields are checked for. Assumes nothing.
+use Rattle.std.specs.Prelude.{Err, None, Option, Some}
 use Prim.Native.Nat.{ℕ, suc, ◌≤◌}
 use mathlib.Core.Bool.{Bool, true, false, not, ◌||◌}
 use mathlib.Core.List.{List, [], ◌∷◌}
@@ -8,8 +9,7 @@ use lib.ListN.{length, get_or}
 use Rattle.answer.specs.Refusals.{reason_number, answer_number}
 use Rattle.answer.specs.declared.Reason.{Reason}
 use Rattle.answer.specs.declared.Reason.TheVariants.{WrongLength, NoDigit, WrongProduct, UnknownSegment, UnknownKind, WrongGeneralCheck, NoText, FixedDiffers, NoDate, UnknownCode}
-use Rattle.answer.specs.declared.Answer.{Answer}
-use Rattle.answer.specs.declared.Answer.TheVariants.{Accepted, Refused}
+use Rattle.answer.specs.Answers.{Answer, Accepted}
 use Rattle.answer.specs.Orders.{require, ◌then◌, first_refusal, moved_by}
 use Rattle.decimal.specs.declared.Class.TheVariants as class
 use Rattle.decimal.specs.Bytes.{is_of, all, each_is}
@@ -19,8 +19,6 @@ use Rattle.barcode.specs.Agreed.{is_agreed, due_digits, free_answer, due_answer,
 use Rattle.layout.specs.declared.Field.{Field}
 use Rattle.layout.specs.declared.Kind.{Kind}
 use Rattle.layout.specs.declared.Kind.TheVariants.{Mark, Version, Service, Blank, Text, Digits, Money, Date, Barcode, Capture, Form}
-use Rattle.layout.specs.declared.MaybeRecord.{MaybeRecord}
-use Rattle.layout.specs.declared.MaybeRecord.TheVariants.{Is, Other}
 use Rattle.layout.specs.declared.Record.{Record}
 use Rattle.layout.specs.declared.Record.TheVariants.{Header, Payment, Trailer}
 use Rattle.layout.specs.Layouts.{record_length, named_by, layout_of, row_at, version_row}
@@ -39,7 +37,7 @@ one false why p h = record { number = h }
 
 two : (a b : Answer) → UpToTwelve a → UpToTwelve b → UpToTwelve (a then b)
 two Accepted b h k = k
-two (Refused why p) b h k = h
+two (Err refusal) b h k = h
 
 each : (ok : ℕ → Bool) (why : Reason) (p : ℕ) (bs : List ℕ) → reason_number why ≤ 12 → UpToTwelve (each_is ok why p bs)
 each ok why p [] h = record { number = omega arith }
@@ -51,7 +49,7 @@ first check h (f ∷ fs) = two (check f) (first_refusal check fs) (h f) (first c
 
 moved : (move : ℕ → ℕ) (a : Answer) → UpToTwelve a → UpToTwelve (moved_by move a)
 moved move Accepted h = h
-moved move (Refused why p) h = record { number = h.number }
+moved move (Err refusal) h = record { number = h.number }
 
 -- of a barcode: its first three digits, its due date, all of it
 three : (bs : List ℕ) → UpToTwelve (first_three_answer bs)
@@ -99,9 +97,9 @@ version v Header = record { number = omega arith }
 version v Payment = one (is_version v) FixedDiffers (row_at version_row).first (omega arith)
 version v Trailer = record { number = omega arith }
 
-named : (t : Terms) (m : MaybeRecord) (rec : List ℕ) → UpToTwelve (named_answer t m rec)
-named t (Is r) rec = two _ _ (version t.version r) (first (field_answer t rec) (field t rec) (layout_of r))
-named t Other rec = record { number = omega arith }
+named : (t : Terms) (m : Option Record) (rec : List ℕ) → UpToTwelve (named_answer t m rec)
+named t (Some r) rec = two _ _ (version t.version r) (first (field_answer t rec) (field t rec) (layout_of r))
+named t None rec = record { number = omega arith }
 
 pub own_refusals_up_to_twelve : OwnRefusalsUpToTwelve
 unfolding record_answer

@@ -1,4 +1,5 @@
 -- Laws of what an accepted record shows. Assumes nothing.
+use Rattle.std.specs.Prelude.{Err, None, Option, Some}
 use Prim.Native.Nat.{ℕ, ◌-◌}
 use mathlib.Core.Bool.{true, false}
 use mathlib.Core.List.{List, []}
@@ -8,8 +9,7 @@ use borrow.Author.Tests.{eq-eqb, eqb-true}
 use lib.Dec.{eqb, lit<, lit≤}
 use lib.ListN.{length, get_or}
 use Rattle.answer.specs.declared.Reason.TheVariants.{WrongLength, FixedDiffers}
-use Rattle.answer.specs.declared.Answer.{Answer}
-use Rattle.answer.specs.declared.Answer.TheVariants.{Accepted, Refused}
+use Rattle.answer.specs.Answers.{Answer, Accepted, Refused}
 use Rattle.answer.specs.Orders.{require, ◌then◌, Each, behind}
 use Rattle.answer.proofs.Orders.{not_both, require_accepts, then_accepts, first_accepts, moved_accepts, each_map, each_both}
 use Rattle.decimal.specs.LowHalves.{low_number_of}
@@ -19,8 +19,6 @@ use Rattle.barcode.specs.Codes.{issuer_of, free_of}
 use Rattle.barcode.specs.Agreed.{list_answer, due_answer}
 use Rattle.barcode.proofs.Lists.{empty_is_right, free_accepts, under_tells, shows_due}
 use Rattle.layout.specs.declared.Field.{Field}
-use Rattle.layout.specs.declared.MaybeRecord.{MaybeRecord}
-use Rattle.layout.specs.declared.MaybeRecord.TheVariants.{Is, Other}
 use Rattle.layout.specs.declared.Record.{Record}
 use Rattle.layout.specs.declared.Record.TheVariants.{Header, Payment, Trailer}
 use Rattle.layout.specs.Layouts.{record_length, named_by, layout_of, table, no_field, row_at, bank_row, file_date_row, sequence_row, version_row, barcode_row, count_row, total_row}
@@ -32,8 +30,7 @@ use Rattle.record.specs.Records.{field_bytes, field_answer, layout_answer, named
 use Rattle.record.proofs.KindRules.{digits, money, capture, code, version}
 use Rattle.record.proofs.FieldBytes.{number_read}
 use Rattle.record.specs.Values.{version_in, date_in, header_shown, trailer_shown, record_shown, answer_of_record, shown_unless_refused}
-use Rattle.record.specs.Promises.{DecodeAnswers, RightFieldsAreAccepted, FieldsAreTheirPlaces, DueOfRecordIsAsked, DueOfRecordIsShown}
-use Rattle.record.specs.Promises.{OtherRecordsIgnoreTerms, PaymentsNeedAVersion, HeadersNameAVersion, FourIsWithinSix}
+use Rattle.record.specs.Promises.{DecodeAnswers, RightFieldsAreAccepted, FieldsAreTheirPlaces, DueOfRecordIsAsked, DueOfRecordIsShown, OtherRecordsIgnoreTerms, PaymentsNeedAVersion, HeadersNameAVersion, FourIsWithinSix}
 
 -- an accepted record has 150 bytes, and its named layout accepts
 pub accepted_is : (t : Terms) (rec : List ℕ) → record_answer t rec ≡ Accepted
@@ -47,7 +44,7 @@ accepted_is t rec e =
 pub check_passes : (t : Terms) (rec : List ℕ) → record_check t rec ≡ Accepted → record_answer t rec ≡ Accepted
 check_passes t rec e = ((then_accepts (list_answer t.agreed) (record_answer t rec)).0 e).1
 
-pub accepted_named : (t : Terms) (r : Record) (rec : List ℕ) → record_answer t rec ≡ Accepted → named_by (get_or rec 0 0) ≡ Is r
+pub accepted_named : (t : Terms) (r : Record) (rec : List ℕ) → record_answer t rec ≡ Accepted → named_by (get_or rec 0 0) ≡ Some r
     → (length rec ≡ record_length) × (version_answer t.version r ≡ Accepted) × (layout_answer t r rec ≡ Accepted)
 accepted_named t r rec a e =
     let is = accepted_is t rec a in
@@ -55,20 +52,20 @@ accepted_named t r rec a e =
     (is.0, both.0, both.1)
 
 -- by its first byte: what is Z, and what of an accepted record is neither G nor Z
-pub trailer_named : (m : MaybeRecord) → is_trailer m ≡ true → m ≡ Is Trailer
-trailer_named (Is Header) t = never t
-trailer_named (Is Payment) t = never t
-trailer_named (Is Trailer) t = refl
-trailer_named Other t = never t
+pub trailer_named : (m : Option Record) → is_trailer m ≡ true → m ≡ Some Trailer
+trailer_named (Some Header) t = never t
+trailer_named (Some Payment) t = never t
+trailer_named (Some Trailer) t = refl
+trailer_named None t = never t
 
-pub header_named : (t : Terms) (m : MaybeRecord) (rec : List ℕ) → named_answer t m rec ≡ Accepted → is_payment m ≡ false → is_trailer m ≡ false → m ≡ Is Header
-header_named t (Is Header) rec a p z = refl
-header_named t (Is Payment) rec a p z = never (sym p)
-header_named t (Is Trailer) rec a p z = never (sym z)
-header_named t Other rec a p z = not_both _ refl a
+pub header_named : (t : Terms) (m : Option Record) (rec : List ℕ) → named_answer t m rec ≡ Accepted → is_payment m ≡ false → is_trailer m ≡ false → m ≡ Some Header
+header_named t (Some Header) rec a p z = refl
+header_named t (Some Payment) rec a p z = never (sym p)
+header_named t (Some Trailer) rec a p z = never (sym z)
+header_named t None rec a p z = not_both _ refl a
 
 -- of 150 bytes the answer is that of the layout that the first one names
-pub named_is : (t : Terms) (r : Record) (rec : List ℕ) → length rec ≡ record_length → named_by (get_or rec 0 0) ≡ Is r
+pub named_is : (t : Terms) (r : Record) (rec : List ℕ) → length rec ≡ record_length → named_by (get_or rec 0 0) ≡ Some r
     → record_answer t rec ≡ version_answer t.version r then layout_answer t r rec
 unfolding record_answer
 named_is t r rec n e = rw (eq-eqb (length rec) record_length n, e)
@@ -77,20 +74,20 @@ pub decode_answers : DecodeAnswers
 decode_answers t rec =
     go (record_check t rec) (named_by (get_or rec 0 0)) refl (λ e. accepted_is t rec (check_passes t rec e))
   where
-    go : (a : Answer) (n : MaybeRecord) → record_check t rec ≡ a → (record_check t rec ≡ Accepted → (length rec ≡ record_length) × (named_answer t n rec ≡ Accepted))
+    go : (a : Answer) (n : Option Record) → record_check t rec ≡ a → (record_check t rec ≡ Accepted → (length rec ≡ record_length) × (named_answer t n rec ≡ Accepted))
         → answer_of_record (shown_unless_refused a (record_shown t.agreed n rec)) ≡ a
-    go (Refused why p) n e h = refl
-    go Accepted (Is Header) e h = refl
-    go Accepted (Is Payment) e h = refl
-    go Accepted (Is Trailer) e h = refl
-    go Accepted Other e h = (h e).1
+    go (Err refusal) n e h = refl
+    go Accepted (Some Header) e h = refl
+    go Accepted (Some Payment) e h = refl
+    go Accepted (Some Trailer) e h = refl
+    go Accepted None e h = (h e).1
 
 -- what is no G shows the same under every list
-pub other_shows : (agreed other : List ℕ) (m : MaybeRecord) (rec : List ℕ) → is_payment m ≡ false → record_shown agreed m rec ≡ record_shown other m rec
-other_shows agreed other (Is Header) rec p = refl
-other_shows agreed other (Is Payment) rec p = never (sym p)
-other_shows agreed other (Is Trailer) rec p = refl
-other_shows agreed other Other rec p = refl
+pub other_shows : (agreed other : List ℕ) (m : Option Record) (rec : List ℕ) → is_payment m ≡ false → record_shown agreed m rec ≡ record_shown other m rec
+other_shows agreed other (Some Header) rec p = refl
+other_shows agreed other (Some Payment) rec p = never (sym p)
+other_shows agreed other (Some Trailer) rec p = refl
+other_shows agreed other None rec p = refl
 
 -- a field of a record is right where its bytes are right by its kind
 field_accepts : (t : Terms) (rec : List ℕ) (f : Field) → (field_answer t rec f ≡ Accepted) ↔ (kind_answer t f.kind (field_bytes f rec) ≡ Accepted)
@@ -116,7 +113,7 @@ layout_terms t Payment rec a =
     (require_accepts _ _ _).1 (capture_has_version t.version _ taken)
 layout_terms t Trailer rec a = refl
 
-pub right_fields : (t : Terms) (r : Record) (rec : List ℕ) → length rec ≡ record_length → named_by (get_or rec 0 0) ≡ Is r
+pub right_fields : (t : Terms) (r : Record) (rec : List ℕ) → length rec ≡ record_length → named_by (get_or rec 0 0) ≡ Some r
     → (record_answer t rec ≡ Accepted) ↔ Each (λ (f : Field). kind_answer t f.kind (field_bytes f rec) ≡ Accepted) (layout_of r)
 right_fields t r rec n e =
     let body = named_is t r rec n e in
@@ -131,12 +128,12 @@ right_fields_are_accepted t r rec right n e =
     let both = then_accepts (list_answer t.agreed) (record_answer t rec) in
     (λ a. fields.0 (both.0 a).1, λ fs. both.1 (right, fields.1 fs))
 
-named_ignores : (t u : Terms) (m : MaybeRecord) (rec : List ℕ) → is_payment m ≡ false → named_answer t m rec ≡ named_answer u m rec
+named_ignores : (t u : Terms) (m : Option Record) (rec : List ℕ) → is_payment m ≡ false → named_answer t m rec ≡ named_answer u m rec
 unfolding version_answer field_answer kind_answer layout_of
-named_ignores t u (Is Header) rec p = refl
-named_ignores t u (Is Payment) rec p = never (sym p)
-named_ignores t u (Is Trailer) rec p = refl
-named_ignores t u Other rec p = refl
+named_ignores t u (Some Header) rec p = refl
+named_ignores t u (Some Payment) rec p = never (sym p)
+named_ignores t u (Some Trailer) rec p = refl
+named_ignores t u None rec p = refl
 
 pub other_ignores : (t u : Terms) (rec : List ℕ) → is_payment (named_by (get_or rec 0 0)) ≡ false → record_answer t rec ≡ record_answer u rec
 unfolding record_answer
@@ -145,7 +142,7 @@ other_ignores t u rec p = rw (named_ignores t u (named_by (get_or rec 0 0)) rec 
 pub other_records_ignore_terms : OtherRecordsIgnoreTerms
 other_records_ignore_terms t u rec same p = rw (same, other_ignores t u rec p)
 
-pub needs_version : (t : Terms) (rec : List ℕ) → length rec ≡ record_length → named_by (get_or rec 0 0) ≡ Is Payment → is_version t.version ≡ false
+pub needs_version : (t : Terms) (rec : List ℕ) → length rec ≡ record_length → named_by (get_or rec 0 0) ≡ Some Payment → is_version t.version ≡ false
     → record_answer t rec ≡ Refused FixedDiffers (row_at version_row).first
 unfolding version_answer
 needs_version t rec n e f = rw (named_is t Payment rec n e, f)
@@ -153,7 +150,7 @@ needs_version t rec n e f = rw (named_is t Payment rec n e, f)
 pub payments_need_a_version : PaymentsNeedAVersion
 payments_need_a_version t rec right n e f = rw right (needs_version t rec n e f)
 
-pub header_version : (t : Terms) (rec : List ℕ) → record_answer t rec ≡ Accepted → named_by (get_or rec 0 0) ≡ Is Header → is_version (version_in rec) ≡ true
+pub header_version : (t : Terms) (rec : List ℕ) → record_answer t rec ≡ Accepted → named_by (get_or rec 0 0) ≡ Some Header → is_version (version_in rec) ≡ true
 unfolding layout_of row_at table
 header_version t rec a e =
     let each = (layout_accepts t Header rec).0 (accepted_named t Header rec a e).2 in
@@ -164,14 +161,14 @@ headers_name_a_version t rec a e = header_version t rec (check_passes t rec a) e
 
 -- an accepted record under other terms: accepted if each of its fields is
 under_others : (t u : Terms) (rec : List ℕ) → record_answer t rec ≡ Accepted
-    → ((r : Record) → named_by (get_or rec 0 0) ≡ Is r → Each (λ (f : Field). kind_answer t f.kind (field_bytes f rec) ≡ Accepted) (layout_of r)
+    → ((r : Record) → named_by (get_or rec 0 0) ≡ Some r → Each (λ (f : Field). kind_answer t f.kind (field_bytes f rec) ≡ Accepted) (layout_of r)
     → Each (λ (f : Field). kind_answer u f.kind (field_bytes f rec) ≡ Accepted) (layout_of r))
     → record_answer u rec ≡ Accepted
 under_others t u rec a each = go (named_by (get_or rec 0 0)) refl
   where
-    go : (m : MaybeRecord) → named_by (get_or rec 0 0) ≡ m → record_answer u rec ≡ Accepted
-    go (Is r) e = let n = (accepted_is t rec a).0 in (right_fields u r rec n e).1 (each r e ((right_fields t r rec n e).0 a))
-    go Other e = not_both _ refl (rw e at (accepted_is t rec a).1)
+    go : (m : Option Record) → named_by (get_or rec 0 0) ≡ m → record_answer u rec ≡ Accepted
+    go (Some r) e = let n = (accepted_is t rec a).0 in (right_fields u r rec n e).1 (each r e ((right_fields t r rec n e).0 a))
+    go None e = not_both _ refl (rw e at (accepted_is t rec a).1)
 
 pub four_is_within_six : FourIsWithinSix
 four_is_within_six agreed rec a =
@@ -189,7 +186,7 @@ without_list v agreed rec a =
     (λ r e right. each_map (λ f h. ((then_accepts (kind_answer (told v []) f.kind (field_bytes f rec)) (due_of_kind agreed f.kind (field_bytes f rec))).0
     (sym (kind_with_due v agreed f.kind (field_bytes f rec)) ∙ h)).0) (layout_of r) right)
 
-due_asked : (v : ℕ) (agreed rec : List ℕ) → record_answer (told v agreed) rec ≡ Accepted → named_by (get_or rec 0 0) ≡ Is Payment
+due_asked : (v : ℕ) (agreed rec : List ℕ) → record_answer (told v agreed) rec ≡ Accepted → named_by (get_or rec 0 0) ≡ Some Payment
     → due_answer agreed (field_bytes (row_at barcode_row) rec) ≡ Accepted
 unfolding layout_of row_at table
 due_asked v agreed rec a e =
@@ -205,11 +202,11 @@ all_due agreed rec Payment h = (refl, (refl, (refl, (refl, (h refl, (refl, (refl
 all_due agreed rec Trailer h = (refl, (refl, (refl, (refl, tt))))
 
 with_due : (v : ℕ) (agreed rec : List ℕ) → record_answer (told v []) rec ≡ Accepted
-    → (named_by (get_or rec 0 0) ≡ Is Payment → due_answer agreed (field_bytes (row_at barcode_row) rec) ≡ Accepted) → record_answer (told v agreed) rec ≡ Accepted
+    → (named_by (get_or rec 0 0) ≡ Some Payment → due_answer agreed (field_bytes (row_at barcode_row) rec) ≡ Accepted) → record_answer (told v agreed) rec ≡ Accepted
 with_due v agreed rec a due =
     under_others (told v []) (told v agreed) rec a
     (λ r e right. each_both (λ f h d. kind_with_due v agreed f.kind (field_bytes f rec) ∙ (then_accepts (kind_answer (told v []) f.kind (field_bytes f rec)) (due_of_kind agreed f.kind (field_bytes f rec))).1 (h, d))
-    (layout_of r) right (all_due agreed rec r (λ p. due (e ∙ ap Is p))))
+    (layout_of r) right (all_due agreed rec r (λ p. due (e ∙ ap Some p))))
 
 pub due_of_record_is_asked : DueOfRecordIsAsked
 due_of_record_is_asked v agreed rec right =

@@ -1,18 +1,16 @@
 -- Serves the fast path for G alone (src/fast.rt): what it checks, neighbouring fields of one class at once. What a
 -- record must be is defined in Records.antt and in the crate kinds, without any of this. Assumes nothing.
-use Rattle.std.specs.Prelude.{ℕ, ◌≤◌, Bool, ◌&&◌, List, ◌≡◌, length, get_or}
+use Rattle.std.specs.Prelude.{Err, None, Ok, Option, Some, ℕ, ◌≤◌, Bool, ◌&&◌, List, ◌≡◌, length, get_or}
+use Rattle.record.specs.declared.Payment.{Payment}
 use Rattle.decimal.specs.declared.Class.TheVariants.{Digit, Blank, Text}
 use Rattle.decimal.specs.Bytes.{is_of, all}
 use Rattle.decimal.specs.Places.{places}
 use Rattle.calendar.specs.Dates.{date_of, is_found}
 use Rattle.kinds.specs.Kinds.{is_capture, is_form}
 use Rattle.layout.specs.declared.Field.{Field}
-use Rattle.layout.specs.Layouts.{named_by, row_at, account_row, paid_row, credited_row, received_row, number_row}
-use Rattle.layout.specs.Layouts.{branch_row, capture_row, authentication_row, form_row, payment_blank_row}
-use Rattle.record.specs.declared.Decoded.{Decoded}
-use Rattle.record.specs.declared.Decoded.TheVariants as decoded
-use Rattle.record.specs.declared.fast.FastDecoded.{FastDecoded}
-use Rattle.record.specs.declared.fast.FastDecoded.TheVariants as seen
+use Rattle.layout.specs.Layouts.{named_by, row_at, account_row, paid_row, credited_row, received_row, number_row, branch_row, capture_row, authentication_row, form_row, payment_blank_row}
+use Rattle.record.specs.Values.{Decoded}
+use Rattle.record.specs.declared.Contents.TheVariants as contents
 use Rattle.record.specs.Records.{field_bytes, is_payment}
 
 -- one byte of each of six rows: four of text, two of digits
@@ -68,8 +66,8 @@ is_dated rec =
     is_found (date_of (field_bytes (row_at paid_row) rec)) && is_found (date_of (field_bytes (row_at credited_row) rec))
 
 -- of what a record shows: an accepted payment, and nothing else
-abbrev pub fast_decoded_of : Decoded → FastDecoded
-fast_decoded_of (decoded.Header h) = seen.Other
-fast_decoded_of (decoded.Payment p) = seen.Paid p
-fast_decoded_of (decoded.Trailer t) = seen.Other
-fast_decoded_of (decoded.Refused why place) = seen.Other
+abbrev pub fast_decoded_of : Decoded → Option Payment
+fast_decoded_of (Ok (contents.Header h)) = None
+fast_decoded_of (Ok (contents.Payment p)) = Some p
+fast_decoded_of (Ok (contents.Trailer t)) = None
+fast_decoded_of (Err refusal) = None

@@ -1,8 +1,8 @@
 -- Claims about a record read alone, beside the equations of its operations' contracts. Assumes nothing.
-use Rattle.std.specs.Prelude.{ℕ, ◌≤◌, true, false, List, [], ◌↔◌, ◌≡◌, length, get_or}
+use Rattle.std.specs.Prelude.{Ok, Some, ℕ, ◌≤◌, true, false, List, [], ◌↔◌, ◌≡◌, length, get_or}
 use Rattle.answer.specs.Refusals.{answer_number}
 use Rattle.answer.specs.declared.Reason.TheVariants.{FixedDiffers}
-use Rattle.answer.specs.declared.Answer.TheVariants.{Accepted, Refused}
+use Rattle.answer.specs.Answers.{Accepted, Refused}
 use Rattle.answer.specs.Orders.{Each}
 use Rattle.decimal.specs.Places.{places}
 use Rattle.barcode.specs.Codes.{issuer_of, free_of}
@@ -10,12 +10,11 @@ use Rattle.barcode.specs.Agreed.{list_answer, RightList, DueIsRight, ShowsDue}
 use Rattle.kinds.specs.Terms.{Terms, told, version04, version06, is_version}
 use Rattle.kinds.specs.Kinds.{kind_answer}
 use Rattle.layout.specs.declared.Field.{Field}
-use Rattle.layout.specs.declared.MaybeRecord.TheVariants.{Is}
 use Rattle.layout.specs.declared.Record.{Record}
 use Rattle.layout.specs.declared.Record.TheVariants.{Header, Payment}
 use Rattle.layout.specs.Layouts.{record_length, layout_of, row_at, named_by, version_row, barcode_row}
 use Rattle.record.specs.Records.{field_bytes, record_answer, record_check, is_payment}
-use Rattle.record.specs.declared.Decoded.TheVariants as decoded
+use Rattle.record.specs.declared.Contents.TheVariants as contents
 use Rattle.record.specs.Values.{version_in, payment_shown, answer_of_record, decoded_record, has_row, shown_field}
 
 -- under a right list, 150 bytes that their first one names are accepted exactly when each field of that layout is right
@@ -23,7 +22,7 @@ use Rattle.record.specs.Values.{version_in, payment_shown, answer_of_record, dec
 abbrev pub RightFieldsAreAccepted : Type 0
 RightFieldsAreAccepted =
     (t : Terms) (r : Record) (rec : List ℕ) → RightList t.agreed → length rec ≡ record_length
-    → named_by (get_or rec 0 0) ≡ Is r
+    → named_by (get_or rec 0 0) ≡ Some r
     → (record_check t rec ≡ Accepted)
     ↔ Each (λ (f : Field). kind_answer t f.kind (field_bytes f rec) ≡ Accepted) (layout_of r)
 
@@ -49,15 +48,15 @@ DueOfRecordIsAsked =
     → let code = field_bytes (row_at barcode_row) rec in
     (record_check (told version agreed) rec ≡ Accepted)
     ↔ ((record_check (told version []) rec ≡ Accepted)
-    × (named_by (get_or rec 0 0) ≡ Is Payment → DueIsRight agreed (issuer_of code) (free_of code)))
+    × (named_by (get_or rec 0 0) ≡ Some Payment → DueIsRight agreed (issuer_of code) (free_of code)))
 
 -- an accepted G decodes to its payment, which shows the due date of its barcode
 abbrev pub DueOfRecordIsShown : Type 0
 DueOfRecordIsShown =
     (version : ℕ) (agreed rec : List ℕ) → record_check (told version agreed) rec ≡ Accepted
-    → named_by (get_or rec 0 0) ≡ Is Payment
+    → named_by (get_or rec 0 0) ≡ Some Payment
     → let code = field_bytes (row_at barcode_row) rec in
-    (decoded_record (told version agreed) rec ≡ decoded.Payment (payment_shown agreed rec))
+    (decoded_record (told version agreed) rec ≡ Ok (contents.Payment (payment_shown agreed rec)))
     × ShowsDue agreed (issuer_of code) (free_of code) (payment_shown agreed rec).barcode.due
 
 -- only a G needs its terms: any other record ignores them, whatever they are, once the list is judged
@@ -70,13 +69,13 @@ OtherRecordsIgnoreTerms =
 abbrev pub PaymentsNeedAVersion : Type 0
 PaymentsNeedAVersion =
     (t : Terms) (rec : List ℕ) → RightList t.agreed → length rec ≡ record_length
-    → named_by (get_or rec 0 0) ≡ Is Payment → is_version t.version ≡ false
+    → named_by (get_or rec 0 0) ≡ Some Payment → is_version t.version ≡ false
     → record_check t rec ≡ Refused FixedDiffers (row_at version_row).first
 
 -- an accepted header names a version
 abbrev pub HeadersNameAVersion : Type 0
 HeadersNameAVersion =
-    (t : Terms) (rec : List ℕ) → record_check t rec ≡ Accepted → named_by (get_or rec 0 0) ≡ Is Header
+    (t : Terms) (rec : List ℕ) → record_check t rec ≡ Accepted → named_by (get_or rec 0 0) ≡ Some Header
     → is_version (version_in rec) ≡ true
 
 -- what is accepted under 04 is accepted under 06, and decodes to the same

@@ -1,13 +1,11 @@
 -- The answer to a record alone (SPEC.md, "Records" and "Refusals"). Assumes nothing.
-use Rattle.std.specs.Prelude.{ℕ, ◌-◌, Bool, true, false, List, eqb, length, get_or}
+use Rattle.std.specs.Prelude.{None, Option, Some, ℕ, ◌-◌, Bool, true, false, List, eqb, length, get_or}
 use Rattle.answer.specs.declared.Reason.TheVariants.{WrongLength, NotExpected}
-use Rattle.answer.specs.declared.Answer.{Answer}
-use Rattle.answer.specs.declared.Answer.TheVariants as answer
+use Rattle.answer.specs.Answers.{Answer}
+use Rattle.answer.specs.Answers as answer
 use Rattle.answer.specs.Orders.{require, ◌then◌, first_refusal, moved_by, behind}
 use Rattle.decimal.specs.Places.{part_at}
 use Rattle.layout.specs.declared.Field.{Field}
-use Rattle.layout.specs.declared.MaybeRecord.{MaybeRecord}
-use Rattle.layout.specs.declared.MaybeRecord.TheVariants.{Is, Other}
 use Rattle.layout.specs.declared.Record.{Record}
 use Rattle.layout.specs.declared.Record.TheVariants.{Header, Payment, Trailer}
 use Rattle.layout.specs.Layouts.{record_length, named_by, layout_of, stretch_of}
@@ -28,9 +26,9 @@ abbrev pub layout_answer : Terms → Record → List ℕ → Answer
 layout_answer t r rec = first_refusal (field_answer t rec) (layout_of r)
 
 -- the record that a first byte names: its version is checked, then its layout; 9 where the byte names no record
-abbrev pub named_answer : Terms → MaybeRecord → List ℕ → Answer
-named_answer t (Is r) rec = version_answer t.version r then layout_answer t r rec
-named_answer t Other rec = answer.Refused NotExpected 1
+abbrev pub named_answer : Terms → Option Record → List ℕ → Answer
+named_answer t (Some r) rec = version_answer t.version r then layout_answer t r rec
+named_answer t None rec = answer.Refused NotExpected 1
 
 -- record, under a list of agreed issuers that was judged: 1, 9, then 10 for a G that is told a number other than 4 and
 -- 6, then the fields
@@ -43,14 +41,14 @@ abbrev pub record_check : Terms → List ℕ → Answer
 record_check t rec = list_answer t.agreed then record_answer t rec
 
 -- whether a first byte names G, and whether it names Z
-abbrev pub is_payment : MaybeRecord → Bool
-is_payment (Is Header) = false
-is_payment (Is Payment) = true
-is_payment (Is Trailer) = false
-is_payment Other = false
+abbrev pub is_payment : Option Record → Bool
+is_payment (Some Header) = false
+is_payment (Some Payment) = true
+is_payment (Some Trailer) = false
+is_payment None = false
 
-abbrev pub is_trailer : MaybeRecord → Bool
-is_trailer (Is Header) = false
-is_trailer (Is Payment) = false
-is_trailer (Is Trailer) = true
-is_trailer Other = false
+abbrev pub is_trailer : Option Record → Bool
+is_trailer (Some Header) = false
+is_trailer (Some Payment) = false
+is_trailer (Some Trailer) = true
+is_trailer None = false

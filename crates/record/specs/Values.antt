@@ -1,28 +1,24 @@
 -- What an accepted record shows (SPEC.md, "Records"). Assumes nothing.
-use Rattle.std.specs.Prelude.{ℕ, Bool, false, cond, ◌&&◌, List, [], leb, ltb, get_or}
+use Rattle.answer.specs.declared.Refusal.{Refusal}
+use Rattle.record.specs.declared.Contents.{Contents}
+use Rattle.std.specs.Prelude.{Result, Err, None, Ok, Option, Some, ℕ, Bool, false, cond, ◌&&◌, List, [], leb, ltb, get_or}
+use Rattle.answer.specs.Answers.{Refused, Answer}
+use Rattle.layout.specs.declared.Record.{Record}
 use Rattle.answer.specs.declared.Reason.TheVariants.{NotExpected}
-use Rattle.answer.specs.declared.Answer.{Answer}
-use Rattle.answer.specs.declared.Answer.TheVariants as answer
+use Rattle.answer.specs.Answers as answer
 use Rattle.answer.specs.Orders.{if_accepted}
 use Rattle.decimal.specs.Numbers.{number_of}
 use Rattle.calendar.specs.declared.Date.{Date}
-use Rattle.calendar.specs.declared.MaybeDate.{MaybeDate}
-use Rattle.calendar.specs.declared.MaybeDate.TheVariants.{On, NoDate}
 use Rattle.calendar.specs.Dates.{date_of}
 use Rattle.barcode.specs.Shown.{fields_of}
-use Rattle.layout.specs.declared.MaybeRecord.{MaybeRecord}
-use Rattle.layout.specs.declared.MaybeRecord.TheVariants.{Is, Other}
 use Rattle.layout.specs.declared.Record.TheVariants as layout
-use Rattle.layout.specs.Layouts.{row_at, rows_of, named_by, bank_row, file_date_row, sequence_row, version_row, count_row}
-use Rattle.layout.specs.Layouts.{paid_row, credited_row, barcode_row, received_row, tariff_row, number_row, total_row}
+use Rattle.layout.specs.Layouts.{row_at, rows_of, named_by, bank_row, file_date_row, sequence_row, version_row, count_row, paid_row, credited_row, barcode_row, received_row, tariff_row, number_row, total_row}
 use Rattle.kinds.specs.Terms.{Terms}
 use Rattle.record.specs.declared.Header.{Header}
 use Rattle.record.specs.declared.Payment.{Payment}
 use Rattle.record.specs.declared.Trailer.{Trailer}
 use Rattle.record.specs.declared.PaymentDue.{PaymentDue}
-use Rattle.record.specs.declared.PaymentDue.TheVariants as due
-use Rattle.record.specs.declared.Decoded.{Decoded}
-use Rattle.record.specs.declared.Decoded.TheVariants as decoded
+use Rattle.record.specs.declared.Contents.TheVariants as contents
 use Rattle.record.specs.Records.{field_bytes, record_answer, record_check}
 
 -- the number, and the date, at a row
@@ -30,9 +26,9 @@ abbrev pub number_in : ℕ → List ℕ → ℕ
 number_in row rec = number_of (field_bytes (row_at row) rec)
 
 -- an accepted record's dates are dates, so 0/0/0 is never shown
-abbrev pub day_of : MaybeDate → Date
-day_of (On d) = d
-day_of NoDate = record { year = 0; month = 0; day = 0 }
+abbrev pub day_of : Option Date → Date
+day_of (Some d) = d
+day_of None = record { year = 0; month = 0; day = 0 }
 
 abbrev pub date_in : ℕ → List ℕ → Date
 date_in row rec = day_of (date_of (field_bytes (row_at row) rec))
@@ -66,16 +62,20 @@ abbrev pub trailer_shown : List ℕ → Trailer
 trailer_shown rec = record { count = number_in count_row rec; total = number_in total_row rec }
 
 -- what the record named by a first byte shows
-abbrev pub record_shown : List ℕ → MaybeRecord → List ℕ → Decoded
-record_shown agreed (Is layout.Header) rec = decoded.Header (header_shown rec)
-record_shown agreed (Is layout.Payment) rec = decoded.Payment (payment_shown agreed rec)
-record_shown agreed (Is layout.Trailer) rec = decoded.Trailer (trailer_shown rec)
-record_shown agreed Other rec = decoded.Refused NotExpected 1
+-- what an accepted record shows, or its refusal
+abbrev pub Decoded : Type 0
+Decoded = Result Contents Refusal
+
+abbrev pub record_shown : List ℕ → Option Record → List ℕ → Decoded
+record_shown agreed (Some layout.Header) rec = Ok (contents.Header (header_shown rec))
+record_shown agreed (Some layout.Payment) rec = Ok (contents.Payment (payment_shown agreed rec))
+record_shown agreed (Some layout.Trailer) rec = Ok (contents.Trailer (trailer_shown rec))
+record_shown agreed None rec = Refused NotExpected 1
 
 -- a refused record shows its refusal, and no field
 abbrev pub shown_unless_refused : Answer → Decoded → Decoded
 shown_unless_refused answer.Accepted shown = shown
-shown_unless_refused (answer.Refused why place) shown = decoded.Refused why place
+shown_unless_refused (Err refusal) shown = Err refusal
 
 -- under a list of agreed issuers that was judged, and as a caller asks it
 abbrev pub decoded_record_under : Terms → List ℕ → Decoded
@@ -87,26 +87,27 @@ decoded_record t rec = shown_unless_refused (record_check t rec) (record_shown t
 
 -- the answer of a decoded record, which gives it its refusal number and place (SPEC.md, "Refusals")
 abbrev pub answer_of_record : Decoded → Answer
-answer_of_record (decoded.Header h) = answer.Accepted
-answer_of_record (decoded.Payment p) = answer.Accepted
-answer_of_record (decoded.Trailer t) = answer.Accepted
-answer_of_record (decoded.Refused why place) = answer.Refused why place
+answer_of_record (Ok (contents.Header h)) = answer.Accepted
+answer_of_record (Ok (contents.Payment p)) = answer.Accepted
+answer_of_record (Ok (contents.Trailer t)) = answer.Accepted
+answer_of_record (Err refusal) = Err refusal
 
 -- what a record pays: an accepted G its received centavos to its issuer, with its tariff; every other record nothing
-abbrev pub payment_due_of : Decoded → PaymentDue
-payment_due_of (decoded.Header h) = due.Nothing
-payment_due_of (decoded.Payment p) = due.To p.barcode.issuer p.received p.tariff
-payment_due_of (decoded.Trailer t) = due.Nothing
-payment_due_of (decoded.Refused why place) = due.Nothing
+abbrev pub payment_due_of : Decoded → Option PaymentDue
+payment_due_of (Ok (contents.Header h)) = None
+payment_due_of (Ok (contents.Payment p)) =
+    Some (record { issuer = p.barcode.issuer; received = p.received; tariff = p.tariff })
+payment_due_of (Ok (contents.Trailer t)) = None
+payment_due_of (Err refusal) = None
 
 -- A field by its row: the empty part for a wrong list, for a refused record, for another record's row and for a row
 -- past the table.
 
-abbrev pub has_row : MaybeRecord → ℕ → Bool
-has_row (Is r) row = leb (rows_of r).from row && ltb row (rows_of r).to
-has_row Other row = false
+abbrev pub has_row : Option Record → ℕ → Bool
+has_row (Some r) row = leb (rows_of r).start row && ltb row (rows_of r).end
+has_row None row = false
 
-abbrev pub field_in : MaybeRecord → ℕ → List ℕ → List ℕ
+abbrev pub field_in : Option Record → ℕ → List ℕ → List ℕ
 field_in named row rec = cond (has_row named row) (field_bytes (row_at row) rec) []
 
 abbrev pub shown_field : Terms → ℕ → List ℕ → List ℕ

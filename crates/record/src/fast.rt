@@ -10,8 +10,8 @@
 //   capture is checked as text too, since it is inside the span from branch to authentication: each code must be text
 //   (`capture_is_text`). The version itself is not checked: a number that is no version has no captures
 //   (`capture_has_version`).
-// The proof that ties the two is proofs/Exact.antt: `accepted_payment` is `payment_due_of (decoded_record_under t rec)` and
-// `decode_payment` is `fast_decoded_of (decoded_record_under t rec)`. `decoded_record_under` is defined by the walk's answer.
+// The proof that ties the two is proofs/Exact.antt: `accepted_payment` is `payment_due_of` and `decode_payment` is
+// `fast_decoded_of`, both of `decoded_record_under t rec`, which is defined by the walk's answer.
 ghost use Rattle.std.specs.Prelude.{◌-◌, ◌≤◌, cond, ◌≡◌, length, take, drop};
 ghost use Rattle.layout.specs.Layouts.{record_length, named_by, InRecord};
 ghost use Rattle.kinds.specs.Terms.{told};
@@ -21,17 +21,8 @@ ghost use Rattle.record.specs.FastPath.{column_holds, SixteenEach, rows_hold, pa
 ghost use Rattle.record.specs.FastPath.{is_plain, is_coded, is_dated, looks_like_payment, fast_decoded_of};
 
 use crate::{Payment, PaymentDue, parts};
-use barcode::{Decoded as Barcoded, MaybeIssuer};
-use calendar::MaybeDate;
 use decimal::Class;
-use layout::{Field, MaybeRecord, Record, g};
-
-// An accepted G with all that it shows, or any other record.
-#[derive(Clone, Copy)]
-pub(crate) enum FastDecoded {
-    Paid(Payment),
-    Other,
-}
+use layout::{Field, Record, g};
 
 // 0 if the first four bytes are text and the last two are digits, else 1.
 fn column_error_bit(a: u8, b: u8, c: u8, d: u8, e: u8, f: u8) -> u8
@@ -43,17 +34,16 @@ fn column_error_bit(a: u8, b: u8, c: u8, d: u8, e: u8, f: u8) -> u8
                 | decimal::class_error_bit(Class::Digit, f)))
 }
 
-// Four rows of text and two of digits, sixteen bytes each, under one flag. No early exit, so the loop vectorizes.
+// Four rows of text and two of digits, sixteen bytes each, under one flag. No early exit, so the loop vectorizes. The
+// rows are cut by their ends, so they are slices and no arrays.
 fn rows_hold(a: &[u8], b: &[u8], c: &[u8], d: &[u8], e: &[u8], f: &[u8]) -> bool
     requires { SixteenEach a.now b.now c.now d.now e.now f.now }
     ensures { result ≡ rows_hold a.now b.now c.now
         d.now e.now f.now }
 {
     let mut flags: u8 = 0;
-    let mut i = 0;
-    while i < 16 {
-        flags = flags | column_error_bit(a[i], b[i], c[i], d[i], e[i], f[i]);
-        i += 1;
+    for i in 0..16 {
+        flags |= column_error_bit(a[i], b[i], c[i], d[i], e[i], f[i]);
     }
     flags == 0
 }
@@ -75,9 +65,9 @@ fn last_row(part: &[u8]) -> &[u8]
 
 // Two texts and one part of digits. Each has from 16 to 32 bytes, so its first sixteen and its last sixteen cover it.
 fn parts_hold(text: &[u8], other: &[u8], digits: &[u8]) -> bool
-    requires two_rows { TwoRows text.now }
-    requires two_rows_2 { TwoRows other.now }
-    requires two_rows_3 { TwoRows digits.now }
+    requires text_rows { TwoRows text.now }
+    requires other_rows { TwoRows other.now }
+    requires digit_rows { TwoRows digits.now }
     ensures { result ≡ parts_hold text.now other.now digits.now }
 {
     rows_hold(
@@ -90,24 +80,12 @@ fn parts_hold(text: &[u8], other: &[u8], digits: &[u8]) -> bool
     )
 }
 
-// The bytes from the first of one field to the last of another.
-fn span(rec: &[u8], from: Field, to: Field) -> &[u8]
-    requires rec_len { length rec.now ≡ record_length }
-    requires in_record { (InRecord from) × (InRecord to) × (from.first ≤ to.last) }
-    ensures { result.now ≡ span_of from to rec.now }
-{
-    let first = from.first;
-    let last = to.last;
-    &rec[first - 1..last]
-}
-
 // Texts, with the capture between them; digits; blanks.
-fn is_plain(rec: &[u8]) -> bool
-    requires { length rec.now ≡ record_length }
+fn is_plain(rec: &[u8; layout::LENGTH]) -> bool
     ensures { result ≡ is_plain rec.now }
 {
-    let behind = span(rec, g::BRANCH, g::AUTHENTICATION);
-    let numbers = span(rec, g::RECEIVED, g::NUMBER);
+    let behind = parts::span(rec, g::BRANCH, g::AUTHENTICATION);
+    let numbers = parts::span(rec, g::RECEIVED, g::NUMBER);
     if !parts_hold(parts::field_bytes(rec, g::ACCOUNT), behind, numbers) {
         return false;
     }
@@ -116,8 +94,7 @@ fn is_plain(rec: &[u8]) -> bool
 
 // Capture and payment form are codes of the version. A number that is no version has no codes, so this tests the
 // version too.
-fn is_coded(rec: &[u8], version: u64) -> bool
-    requires { length rec.now ≡ record_length }
+fn is_coded(rec: &[u8; layout::LENGTH], version: u64) -> bool
     ensures { result ≡ is_coded version rec.now }
 {
     if !kinds::is_capture(
@@ -130,8 +107,7 @@ fn is_coded(rec: &[u8], version: u64) -> bool
 }
 
 // Both dates are dates.
-fn is_dated(rec: &[u8]) -> bool
-    requires { length rec.now ≡ record_length }
+fn is_dated(rec: &[u8; layout::LENGTH]) -> bool
     ensures { result ≡ is_dated rec.now }
 {
     if !calendar::is_date_text(parts::field_bytes(rec, g::PAID)) {
@@ -144,19 +120,11 @@ fn is_dated(rec: &[u8]) -> bool
 fn is_payment(mark: u8) -> bool
     ensures { result ≡ is_payment (named_by mark) }
 {
-    match layout::named_by(mark) {
-        MaybeRecord::Is(which) => match which {
-            Record::Header => false,
-            Record::Payment => true,
-            Record::Trailer => false,
-        },
-        MaybeRecord::Other => false,
-    }
+    matches!(layout::named_by(mark), Some(Record::Payment))
 }
 
 // All fields of a G but its dates and its barcode.
-fn looks_like_payment(rec: &[u8], version: u64) -> bool
-    requires { length rec.now ≡ record_length }
+fn looks_like_payment(rec: &[u8; layout::LENGTH], version: u64) -> bool
     ensures { result ≡ looks_like_payment version rec.now }
 {
     if !is_payment(rec[0]) {
@@ -168,54 +136,53 @@ fn looks_like_payment(rec: &[u8], version: u64) -> bool
     is_coded(rec, version)
 }
 
-// The issuer, the centavos received and the tariff of an accepted G; Nothing for every other record, of any length.
-pub(crate) fn accepted_payment(rec: &[u8], version: u64, agreed: &[u64]) -> PaymentDue
+// The issuer, the centavos received and the tariff of an accepted G; none for every other record.
+fn due_of(rec: &[u8; layout::LENGTH], version: u64, agreed: &[u64]) -> Option<PaymentDue>
     ensures { result ≡ payment_due_of (decoded_record_under (told version agreed.now) rec.now) }
 {
-    if rec.len() != layout::LENGTH {
-        return PaymentDue::Nothing;
-    }
     if !looks_like_payment(rec, version) {
-        return PaymentDue::Nothing;
+        return None;
     }
     if !is_dated(rec) {
-        return PaymentDue::Nothing;
+        return None;
     }
-    match barcode::judged::accepted_issuer(parts::field_bytes(rec, g::BARCODE), agreed) {
-        MaybeIssuer::Is(issuer) => {
-            let received = parts::number_in(rec, g::RECEIVED);
-            let tariff = parts::number_in(rec, g::TARIFF);
-            PaymentDue::To(issuer, received, tariff)
-        }
-        MaybeIssuer::NoIssuer => PaymentDue::Nothing,
-    }
+    let issuer = barcode::judged::accepted_issuer(parts::field_bytes(rec, g::BARCODE), agreed)?;
+    let received = parts::number_in(rec, g::RECEIVED);
+    let tariff = parts::number_in(rec, g::TARIFF);
+    Some(PaymentDue {
+        issuer,
+        received,
+        tariff,
+    })
 }
 
-// All that an accepted G shows; Other for every other record, of any length.
-pub(crate) fn decode_payment(rec: &[u8], version: u64, agreed: &[u64]) -> FastDecoded
+// The same of any length.
+pub(crate) fn accepted_payment(rec: &[u8], version: u64, agreed: &[u64]) -> Option<PaymentDue>
+    ensures { result ≡ payment_due_of (decoded_record_under (told version agreed.now) rec.now) }
+{
+    due_of(parts::whole(rec).ok()?, version, agreed)
+}
+
+// All that an accepted G shows; none for every other record.
+fn payment_of(rec: &[u8; layout::LENGTH], version: u64, agreed: &[u64]) -> Option<Payment>
     ensures { result ≡ fast_decoded_of (decoded_record_under (told version agreed.now) rec.now) }
 {
-    if rec.len() != layout::LENGTH {
-        return FastDecoded::Other;
-    }
     if !looks_like_payment(rec, version) {
-        return FastDecoded::Other;
+        return None;
     }
-    let MaybeDate::On(paid) = parts::date_in(rec, g::PAID) else {
-        return FastDecoded::Other;
-    };
-    let MaybeDate::On(credited) = parts::date_in(rec, g::CREDITED) else {
-        return FastDecoded::Other;
-    };
-    match parts::barcode_in(rec, g::BARCODE, agreed) {
-        Barcoded::Read(barcode) => FastDecoded::Paid(Payment {
-            paid,
-            credited,
-            barcode,
-            received: parts::number_in(rec, g::RECEIVED),
-            tariff: parts::number_in(rec, g::TARIFF),
-            number: parts::number_in(rec, g::NUMBER),
-        }),
-        Barcoded::Refused(_, _) => FastDecoded::Other,
-    }
+    Some(Payment {
+        paid: parts::date_in(rec, g::PAID)?,
+        credited: parts::date_in(rec, g::CREDITED)?,
+        barcode: parts::barcode_in(rec, g::BARCODE, agreed).ok()?,
+        received: parts::number_in(rec, g::RECEIVED),
+        tariff: parts::number_in(rec, g::TARIFF),
+        number: parts::number_in(rec, g::NUMBER),
+    })
+}
+
+// The same of any length.
+pub(crate) fn decode_payment(rec: &[u8], version: u64, agreed: &[u64]) -> Option<Payment>
+    ensures { result ≡ fast_decoded_of (decoded_record_under (told version agreed.now) rec.now) }
+{
+    payment_of(parts::whole(rec).ok()?, version, agreed)
 }

@@ -13,13 +13,13 @@ ghost use Rattle.kinds.specs.Terms.{told};
 ghost use Rattle.record.specs.Records.{record_check};
 ghost use Rattle.record.specs.Values.{decoded_record, payment_due_of, shown_field};
 
-use answer::{Answer, Reason};
+use answer::{Answer, Refusal};
 use barcode::{Fields, Issuer};
 use calendar::Date;
 
-// What an accepted A shows. Its version is the one to pass with each G of the same file.
+// What an accepted A shows. Its version, a number since C reads it, is the one to pass with each G of the same file.
 #[repr(C)]
-#[derive(Clone, Copy)]
+#[derive(Clone, Copy, Debug, Default, PartialEq, Eq)]
 pub struct Header {
     pub bank: u64,
     pub date: Date,
@@ -28,7 +28,7 @@ pub struct Header {
 }
 
 // What an accepted G shows. Received and tariff are centavos; number is the record's own, which nobody counts.
-#[derive(Clone, Copy)]
+#[derive(Clone, Copy, Debug, PartialEq, Eq)]
 pub struct Payment {
     pub paid: Date,
     pub credited: Date,
@@ -40,27 +40,30 @@ pub struct Payment {
 
 // What an accepted Z shows: the count of all records, header and trailer included, and the centavos received.
 #[repr(C)]
-#[derive(Clone, Copy)]
+#[derive(Clone, Copy, Debug, Default, PartialEq, Eq)]
 pub struct Trailer {
     pub count: u64,
     pub total: u64,
 }
 
-// To whom an accepted G pays, the centavos received and the tariff; Nothing for every other record, accepted or not.
-#[derive(Clone, Copy)]
-pub enum PaymentDue {
-    To(Issuer, u64, u64),
-    Nothing,
+// To whom an accepted G pays, the centavos received and the tariff.
+#[derive(Clone, Copy, Debug, PartialEq, Eq)]
+pub struct PaymentDue {
+    pub issuer: Issuer,
+    pub received: u64,
+    pub tariff: u64,
 }
 
-// An accepted record with all that it shows, or why it is refused and at which place, 0 for none.
-#[derive(Clone, Copy)]
-pub enum Decoded {
+// All that an accepted record shows.
+#[derive(Clone, Copy, Debug, PartialEq, Eq)]
+pub enum Contents {
     Header(Header),
     Payment(Payment),
     Trailer(Trailer),
-    Refused(Reason, usize),
 }
+
+// An accepted record with all that it shows, or why it is refused and at which place, 0 for none.
+pub type Decoded = Result<Contents, Refusal>;
 
 // The answer to a record alone, of any length: accepted, or the first refusal with its place in the record; 25 for the
 // list, with no place, comes before everything. The version is that of the record's file, 4 or 6: a G that is told any
@@ -68,32 +71,25 @@ pub enum Decoded {
 pub fn check(rec: &[u8], version: u64, agreed: &[u64]) -> Answer
     ensures { result ≡ record_check (told version agreed.now) rec.now }
 {
-    let list = barcode::check_list(agreed);
-    match list {
-        Answer::Accepted => judged::check(rec, version, agreed),
-        Answer::Refused(_, _) => list,
-    }
+    barcode::check_list(agreed)?;
+    judged::check(rec, version, agreed)
 }
 
 // Everything that a record shows, or why and where it is refused; `check` gives the same refusal. Any length is taken.
 pub fn decode(rec: &[u8], version: u64, agreed: &[u64]) -> Decoded
     ensures { result ≡ decoded_record (told version agreed.now) rec.now }
 {
-    match barcode::check_list(agreed) {
-        Answer::Accepted => judged::decode(rec, version, agreed),
-        Answer::Refused(why, place) => Decoded::Refused(why, place),
-    }
+    barcode::check_list(agreed)?;
+    judged::decode(rec, version, agreed)
 }
 
-// The issuer, the centavos received and the tariff of an accepted G; Nothing for every other record and under a wrong
+// The issuer, the centavos received and the tariff of an accepted G; none for every other record and under a wrong
 // list.
-pub fn accepted_payment(rec: &[u8], version: u64, agreed: &[u64]) -> PaymentDue
+pub fn accepted_payment(rec: &[u8], version: u64, agreed: &[u64]) -> Option<PaymentDue>
     ensures { result ≡ payment_due_of (decoded_record (told version agreed.now) rec.now) }
 {
-    match barcode::check_list(agreed) {
-        Answer::Accepted => judged::accepted_payment(rec, version, agreed),
-        Answer::Refused(_, _) => PaymentDue::Nothing,
-    }
+    barcode::check_list(agreed).ok()?;
+    judged::accepted_payment(rec, version, agreed)
 }
 
 // A field of an accepted record by its row in layout's table, as a part of the caller's bytes. The part is empty if
@@ -101,8 +97,11 @@ pub fn accepted_payment(rec: &[u8], version: u64, agreed: &[u64]) -> PaymentDue
 pub fn field<'a>(rec: &'a [u8], version: u64, row: usize, agreed: &[u64]) -> &'a [u8]
     ensures { result.now ≡ shown_field (told version agreed.now) row rec.now }
 {
+    let Ok(whole) = parts::whole(rec) else {
+        return &rec[0..0];
+    };
     match check(rec, version, agreed) {
-        Answer::Accepted => parts::field_of_row(rec, row),
-        Answer::Refused(_, _) => &rec[0..0],
+        Ok(()) => parts::field_of_row(whole, row),
+        Err(_) => &rec[0..0],
     }
 }

@@ -1,4 +1,5 @@
 -- What a run takes, what it leaves, and that an input may be fed to it in parts. Assumes nothing.
+use Rattle.std.specs.Prelude.{Err}
 use Prim.Native.Nat.{ℕ, zero, suc, ◌+◌, ◌≤◌, ◌<◌}
 use mathlib.Core.Bool.{Bool, true, false, cond}
 use mathlib.Core.List.{List, [], ◌∷◌, ◌++◌}
@@ -10,8 +11,7 @@ use lib.ListN.{length, get_or, take, drop, length-append, length-take, length-dr
 use lib.Seq.{take-append-add, take-append-le, drop-append-le, drop-drop, length-take-le}
 use Rattle.answer.specs.declared.Reason.{Reason}
 use Rattle.answer.specs.declared.Reason.TheVariants.{WrongList}
-use Rattle.answer.specs.declared.Answer.{Answer}
-use Rattle.answer.specs.declared.Answer.TheVariants.{Accepted, Refused}
+use Rattle.answer.specs.Answers.{Answer, Accepted, Refused}
 use Rattle.answer.specs.Orders.{◌then◌}
 use Rattle.answer.proofs.Orders.{not_both, accepted_takes}
 use Rattle.answer.proofs.Tests.{lt_or_le}
@@ -59,7 +59,7 @@ taken_by agreed right (rec ∷ recs) s = go (take_answer agreed s rec) refl (tak
   where
     go : (a : Answer) → take_answer agreed s rec ≡ a → ((s : Session) → TakenBy agreed s recs (run_all agreed s recs))
         → TakenBy agreed s (rec ∷ recs) (stopped_if_refused a s (add_counts 1 (closed_by rec) (length rec) (run_all agreed (next_session agreed s rec) recs)))
-    go (Refused why p) e later = record { taken = tt; session = refl; size = refl; answer = sym (rw right e); whole = λ x. not_both _ refl x }
+    go (Err refusal) e later = record { taken = tt; session = refl; size = refl; answer = sym (rw right e); whole = λ x. not_both _ refl x }
     go Accepted e later =
         let answer : list_answer agreed then take_answer agreed s rec ≡ Accepted = rw right e in
         let next = accepted_takes (list_answer agreed then take_answer agreed s rec) (next_session agreed s rec) s answer in
@@ -147,7 +147,7 @@ by_turns agreed P more none refused on s bytes = up_to (length bytes) s bytes (o
         turn : (a : Answer) → take_answer agreed s (piece_of s bytes) ≡ a → least_left more ≤ length bytes
             → P (next_session agreed s (piece_of s bytes)) (drop (piece_length s bytes) bytes) → P s bytes
         turn Accepted e enough later = on s bytes enough e later
-        turn (Refused why p) e enough later = refused s bytes enough why p e
+        turn (Err refusal) e enough later = refused s bytes enough refusal.why refusal.place e
 
 pub leaves_few : (agreed : List ℕ) (s : Session) (more : Bool) (bytes : List ℕ) → (run_under agreed s more bytes).answer ≡ Accepted
     → length bytes < (run_under agreed s more bytes).bytes + least_left more

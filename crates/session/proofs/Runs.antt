@@ -1,4 +1,8 @@
 -- A run, piece by piece. Assumes nothing.
+use Rattle.std.specs.Prelude.{Ok, Err}
+use Rattle.answer.specs.declared.Refusal.{Refusal}
+use Rattle.answer.specs.Answers.{◌gives◌, Answer, Accepted, Refused}
+use Rattle.answer.proofs.Orders.{gives_tells, gives_refuses}
 use Prim.Native.Nat.{ℕ, zero, suc, ◌+◌, ◌-◌, ◌≤◌, ◌<◌, min}
 use mathlib.Core.Bool.{Bool, true, false, cond}
 use mathlib.Core.List.{List, [], ◌∷◌}
@@ -11,17 +15,14 @@ use lib.Dec.{ltb}
 use lib.ListN.{length, get_or, take, drop, length-take, length-drop, drop_of_length-le}
 use lib.Seq.{take_all, drop-drop, get_or-take, get_or-drop}
 use Rattle.answer.specs.declared.Reason.{Reason}
-use Rattle.answer.specs.declared.Answer.{Answer}
-use Rattle.answer.specs.declared.Answer.TheVariants.{Accepted, Refused}
 use Rattle.answer.proofs.Tests.{lt_or_le}
 use Rattle.layout.specs.Layouts.{named_by}
 use Rattle.file.specs.Forms.{is_next_lined}
 use Rattle.file.proofs.Forms.{at_least_bare}
 use Rattle.session.specs.declared.Session.{Session}
 use Rattle.session.specs.declared.RunResult.{RunResult}
-use Rattle.session.specs.declared.TakeResult.{TakeResult}
+use Rattle.session.specs.Sessions.{TakeResult, take_answer, next_session, take_under}
 use Rattle.session.specs.declared.leading.LeadingPayments.{LeadingPayments}
-use Rattle.session.specs.Sessions.{take_answer, next_session, take_under}
 use Rattle.session.specs.Runs.{piece_length, piece_of, least_left, pieces_up_to, pieces_of, files_closed, empty_run, add_counts, run_under}
 use Rattle.session.specs.LeadingPayments.{with_leading, LeadingPaymentsOf}
 
@@ -66,6 +67,16 @@ pieces_cons agreed s more (b ∷ bytes) h =
 
 pub run_none : (agreed : List ℕ) (s : Session) (more : Bool) (bytes : List ℕ) → length bytes < least_left more → run_under agreed s more bytes ≡ empty_run Accepted s
 run_none agreed s more bytes h = rw (none_up_to agreed (length bytes) s more bytes h)
+
+-- a record taken alone, as its answer and the session behind it
+module _ (agreed : List ℕ) (s : Session) (rec : List ℕ) where
+  pub session_given : {next : Session} → take_answer agreed s rec gives next_session agreed s rec ≡ Ok next
+      → ◌≡◌ {A = TakeResult} (record { answer = Accepted; session = next }) (take_under agreed s rec)
+  session_given e = let t = gives_tells (take_answer agreed s rec) e in rw (t.0, t.1)
+
+  pub session_refused : {refusal : Refusal} → take_answer agreed s rec gives next_session agreed s rec ≡ Err refusal
+      → ◌≡◌ {A = TakeResult} (record { answer = Err refusal; session = s }) (take_under agreed s rec)
+  session_refused e = rw (gives_refuses (take_answer agreed s rec) _ e)
 
 module _ (agreed : List ℕ) (s : Session) (more : Bool) (bytes : List ℕ) (enough : least_left more ≤ length bytes) where
   pub run_refused : {a : Answer} {why : Reason} {p : ℕ} → a ≡ take_answer agreed s (piece_of s bytes)

@@ -1,18 +1,16 @@
 -- Serves the run's fast path alone (src/leading.rt): the next payment, and what payments leave. Assumes nothing.
-use Rattle.std.specs.Prelude.{ℕ, ◌+◌, ◌-◌, ◌≤◌, Bool, true, cond, List, ◌≡◌, length, take, drop}
-use Rattle.answer.specs.declared.Answer.TheVariants.{Accepted}
+use Rattle.std.specs.Prelude.{None, Ok, Option, Some, ℕ, ◌+◌, ◌-◌, ◌≤◌, Bool, true, cond, List, ◌≡◌, length, take, drop}
+use Rattle.answer.specs.Answers.{Accepted}
 use Rattle.layout.specs.Layouts.{record_length}
 use Rattle.kinds.specs.Terms.{told}
 use Rattle.record.specs.declared.Payment.{Payment}
-use Rattle.record.specs.declared.Decoded.TheVariants as decoded
+use Rattle.record.specs.declared.Contents.TheVariants as contents
 use Rattle.record.specs.Values.{decoded_record_under}
 use Rattle.file.specs.Files.{file_answer, file_with}
 use Rattle.file.specs.Forms.{lined_length, length_of, end_answer}
 use Rattle.board.specs.declared.Lane.{Lane}
 use Rattle.session.specs.declared.Session.{Session}
 use Rattle.session.specs.declared.leading.Progress.{Progress}
-use Rattle.session.specs.declared.leading.MaybePayment.{MaybePayment}
-use Rattle.session.specs.declared.leading.MaybePayment.TheVariants.{Is, Other}
 use Rattle.session.specs.declared.leading.LeadingPayments.{LeadingPayments}
 use Rattle.session.specs.Sessions.{session_working, lane_of_payment}
 use Rattle.session.specs.Runs.{least_left, add_counts, run_under}
@@ -32,7 +30,7 @@ pub record Taken (agreed : List ℕ) (opened more : Bool) (before : Progress) (b
   pub shown : Payment
   pub is :
       decoded_record_under (told before.file.version agreed) (take record_length (drop before.at bytes))
-      ≡ decoded.Payment shown
+      ≡ Ok (contents.Payment shown)
   pub ended :
       end_answer true before.file.lined (take (next.at - before.at) (drop before.at bytes)) ≡ Accepted
   pub lane : payment ≡ lane_of_payment shown
@@ -41,9 +39,9 @@ pub record Taken (agreed : List ℕ) (opened more : Bool) (before : Progress) (b
   pub counts : next.records ≡ before.records + 1
 
 -- unspecified if there is no such payment: `take` then answers
-abbrev pub NextPaymentOf : List ℕ → Bool → Bool → Progress → List ℕ → MaybePayment → Type 0
-NextPaymentOf agreed opened more before bytes (Is payment next) = Taken agreed opened more before bytes payment next
-NextPaymentOf agreed opened more before bytes Other = Unit {0}
+abbrev pub NextPaymentOf : List ℕ → Bool → Bool → Progress → List ℕ → Option (Lane × Progress) → Type 0
+NextPaymentOf agreed opened more before bytes (Some (payment, next)) = Taken agreed opened more before bytes payment next
+NextPaymentOf agreed opened more before bytes None = Unit {0}
 
 -- the session with what the payments left of its working board and its file
 abbrev pub with_leading : Session → LeadingPayments → Session

@@ -1,11 +1,9 @@
 -- A run: many records of one slice, taken one by one until the first refusal (SPEC.md, "Sessions"). Assumes nothing.
-use Rattle.std.specs.Prelude.{ℕ, zero, suc, ◌+◌, ◌<◌, Bool, true, cond, List, [], ◌∷◌, ◌++◌, ◌≡◌, ltb, length, get_or, take, drop}
+use Rattle.std.specs.Prelude.{Err, None, Option, Some, ℕ, zero, suc, ◌+◌, ◌<◌, Bool, true, cond, List, [], ◌∷◌, ◌++◌, ◌≡◌, ltb, length, get_or, take, drop}
+use Rattle.layout.specs.declared.Record.{Record}
 use Rattle.answer.specs.declared.Reason.TheVariants.{WrongList}
-use Rattle.answer.specs.declared.Answer.{Answer}
-use Rattle.answer.specs.declared.Answer.TheVariants.{Accepted, Refused}
+use Rattle.answer.specs.Answers.{Answer, Accepted, Refused}
 use Rattle.barcode.specs.Agreed.{list_answer, RightList}
-use Rattle.layout.specs.declared.MaybeRecord.{MaybeRecord}
-use Rattle.layout.specs.declared.MaybeRecord.TheVariants.{Is, Other}
 use Rattle.layout.specs.declared.Record.TheVariants.{Header, Payment, Trailer}
 use Rattle.layout.specs.Layouts.{named_by}
 use Rattle.file.specs.Forms.{lined_length, next_length}
@@ -39,11 +37,11 @@ abbrev pub pieces_of : List ℕ → Session → Bool → List ℕ → List (List
 pieces_of agreed s more bytes = pieces_up_to agreed (length bytes) s more bytes
 
 -- how many files an accepted record closes
-abbrev pub files_closed : MaybeRecord → ℕ
-files_closed (Is Header) = 0
-files_closed (Is Payment) = 0
-files_closed (Is Trailer) = 1
-files_closed Other = 0
+abbrev pub files_closed : Option Record → ℕ
+files_closed (Some Header) = 0
+files_closed (Some Payment) = 0
+files_closed (Some Trailer) = 1
+files_closed None = 0
 
 -- no record taken
 abbrev pub empty_run : Answer → Session → RunResult
@@ -63,7 +61,7 @@ add_counts records files bytes r =
 -- a refused record ends the run and changes nothing; the records before it stay taken
 abbrev pub stopped_if_refused : Answer → Session → RunResult → RunResult
 stopped_if_refused Accepted s next = next
-stopped_if_refused (Refused why place) s next = empty_run (Refused why place) s
+stopped_if_refused (Err refusal) s next = empty_run (Err refusal) s
 
 abbrev pub run_all : List ℕ → Session → List (List ℕ) → RunResult
 run_all agreed s [] = empty_run Accepted s

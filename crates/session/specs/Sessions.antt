@@ -1,21 +1,18 @@
 -- Sessions: the answer to a record, and the session that follows (SPEC.md, "Sessions"). Assumes nothing.
-use Rattle.std.specs.Prelude.{ℕ, Bool, true, false, cond, not, List, get_or}
+use Rattle.std.specs.Prelude.{Err, None, Ok, Option, Some, ℕ, Bool, true, false, cond, not, List, get_or}
+use Rattle.answer.specs.Answers.{Answer}
+use Rattle.layout.specs.declared.Record.{Record}
 use Rattle.answer.specs.declared.Reason.TheVariants.{WrongLength, NotExpected, FileOpen}
-use Rattle.answer.specs.declared.Answer.{Answer}
-use Rattle.answer.specs.declared.Answer.TheVariants as answer
 use Rattle.answer.specs.Orders.{require, ◌then◌, if_accepted}
-use Rattle.layout.specs.declared.MaybeRecord.{MaybeRecord}
-use Rattle.layout.specs.declared.MaybeRecord.TheVariants.{Is, Other}
 use Rattle.layout.specs.declared.Record.TheVariants as layout
 use Rattle.layout.specs.Layouts.{record_length, named_by, row_at, agreement_row, bank_row, sequence_row}
 use Rattle.barcode.specs.Agreed.{list_answer}
 use Rattle.record.specs.declared.Payment.{Payment}
 use Rattle.record.specs.declared.Trailer.{Trailer}
-use Rattle.record.specs.declared.Decoded.{Decoded}
-use Rattle.record.specs.declared.Decoded.TheVariants as decoded
+use Rattle.record.specs.Values.{Decoded, number_in, decoded_record_under}
+use Rattle.record.specs.declared.Contents.TheVariants as contents
 use Rattle.kinds.specs.Terms.{Terms, told}
 use Rattle.record.specs.Records.{field_bytes}
-use Rattle.record.specs.Values.{number_in, decoded_record_under}
 use Rattle.file.specs.declared.File.{File}
 use Rattle.file.specs.declared.Figures.{Figures}
 use Rattle.file.specs.Forms.{body_of, has_line_end, fits_length, end_answer}
@@ -28,7 +25,6 @@ use Rattle.pairs.specs.declared.Pair.{Pair}
 use Rattle.pairs.specs.declared.Memory.{Memory}
 use Rattle.pairs.specs.Pairs.{most_pairs, no_pair, fresh_memory, memory_answer, memory_with}
 use Rattle.session.specs.declared.Session.{Session}
-use Rattle.session.specs.declared.TakeResult.{TakeResult}
 use Rattle.session.specs.declared.Limits.{Limits}
 
 -- the lanes of a board, the bytes of a record, the most payments and centavos of a file, the most a board's sums reach,
@@ -87,11 +83,11 @@ abbrev pub session_terms : List ℕ → Session → Terms
 session_terms agreed s = told s.file.version agreed
 
 -- with no file open A is expected; in an open file G or Z
-abbrev pub session_expects : Bool → MaybeRecord → Bool
-session_expects opened (Is layout.Header) = not opened
-session_expects opened (Is layout.Payment) = opened
-session_expects opened (Is layout.Trailer) = opened
-session_expects opened Other = false
+abbrev pub session_expects : Bool → Option Record → Bool
+session_expects opened (Some layout.Header) = not opened
+session_expects opened (Some layout.Payment) = opened
+session_expects opened (Some layout.Trailer) = opened
+session_expects opened None = false
 
 -- a G as a lane of one, and the figures that a Z shows
 abbrev pub lane_of_payment : Payment → Lane
@@ -114,37 +110,28 @@ session_closed s = closed_at s.work (memory_with s.memory s.opening)
 
 -- the answer to a record by what it was decoded as: its own refusal first; A: 26, 27; G: 15 to 18; Z: 13, 14
 abbrev pub session_answer : Session → List ℕ → Decoded → Answer
-session_answer s rec (decoded.Header h) = memory_answer s.memory (pair_numbered rec h.sequence)
-session_answer s rec (decoded.Payment p) = pay_answer s (lane_of_payment p)
-session_answer s rec (decoded.Trailer t) = figures_answer s.file (figures_in t)
-session_answer s rec (decoded.Refused why place) = answer.Refused why place
+session_answer s rec (Ok (contents.Header h)) = memory_answer s.memory (pair_numbered rec h.sequence)
+session_answer s rec (Ok (contents.Payment p)) = pay_answer s (lane_of_payment p)
+session_answer s rec (Ok (contents.Trailer t)) = figures_answer s.file (figures_in t)
+session_answer s rec (Err refusal) = Err refusal
 
 -- the session with an accepted record; `ended` is whether CR and LF follow it, which decides the form of a header's
 -- file
 abbrev pub session_with : Session → Bool → List ℕ → Decoded → Session
-session_with s ended rec (decoded.Header h) =
+session_with s ended rec (Ok (contents.Header h)) =
     opened_at s.shown s.memory h.version ended (pair_numbered rec h.sequence)
-session_with s ended rec (decoded.Payment p) = session_with_payment s (lane_of_payment p)
-session_with s ended rec (decoded.Trailer t) = session_closed s
-session_with s ended rec (decoded.Refused why place) = s
+session_with s ended rec (Ok (contents.Payment p)) = session_with_payment s (lane_of_payment p)
+session_with s ended rec (Ok (contents.Trailer t)) = session_closed s
+session_with s ended rec (Err refusal) = s
+
+-- the answer to a record, and the session behind it
+pub record TakeResult : Type 0 where
+  pub answer : Answer
+  pub session : Session
 
 -- an answer, and the new session if it is accepted, else the old one
 abbrev pub take_result : Answer → Session → Session → TakeResult
 take_result a new old = record { answer = a; session = if_accepted a new old }
-
--- the results of the parts of `take`, each with the answer to what follows the record behind its own
-abbrev pub payment_result : Session → Lane → Answer → TakeResult
-payment_result s p ending = take_result (pay_answer s p then ending) (session_with_payment s p) s
-
-abbrev pub trailer_result : Session → Figures → Answer → TakeResult
-trailer_result s shown ending = take_result (figures_answer s.file shown then ending) (session_closed s) s
-
-abbrev pub header_result : Session → ℕ → Bool → Pair → Answer → TakeResult
-header_result s version lined p ending =
-    take_result (memory_answer s.memory p then ending) (opened_at s.shown s.memory version lined p) s
-
-abbrev pub record_result : Session → Bool → Answer → List ℕ → Decoded → TakeResult
-record_result s ended ending rec d = take_result (session_answer s rec d then ending) (session_with s ended rec d) s
 
 -- taking a record, under a list of agreed issuers that was judged: 1; then, of its first 150 bytes, 9, its own
 -- refusals, under the version of the open file, and the session's; last 22

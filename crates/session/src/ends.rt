@@ -1,18 +1,18 @@
 // How long what is taken may be, what must follow a record, and where a run cuts, in a bare file and in a lined one.
-ghost use Rattle.std.specs.Prelude.{true, ◌≡◌, ◌<◌, ◌≤◌, min, length};
+ghost use Rattle.std.specs.Prelude.{true, false, ◌≡◌, ◌<◌, ◌≤◌, MatchOption, min, length};
 ghost use Rattle.layout.specs.Layouts.{record_length};
-ghost use Rattle.file.specs.Forms.{fits_length, end_answer, is_next_lined, next_length};
+ghost use Rattle.file.specs.Forms.{fits_length, body_of, end_answer, is_next_lined, next_length};
 ghost use Rattle.session.specs.Runs.{least_left};
 ghost use Rattle.session.specs.LeadingPayments.{record_needs};
 
-use answer::{Answer, Reason};
+use answer::{Answer, Reason, require};
 
 // The place of a record's line end.
 const END_PLACE: usize = layout::LENGTH + 1;
 
 // Whether a record may be so long: with no file open 150 bytes, or 152 that end in CR and LF; in an open bare file 150;
 // in an open lined file 150 to 152.
-pub(crate) fn fits_length(opened: bool, lined: bool, rec: &[u8]) -> bool
+fn fits_length(opened: bool, lined: bool, rec: &[u8]) -> bool
     ensures value { result ≡ fits_length opened lined rec.now }
     ensures long { result ≡ true → record_length ≤ length rec.now }
 {
@@ -31,20 +31,26 @@ pub(crate) fn fits_length(opened: bool, lined: bool, rec: &[u8]) -> bool
     rec.len() <= file::LINED
 }
 
+// The 150 bytes of a record, without what follows them; none if its length does not fit.
+pub(crate) fn record_of(opened: bool, lined: bool, rec: &[u8]) -> Option<&[u8; layout::LENGTH]>
+    ensures { MatchOption result (fits_length opened lined rec.now ≡ false)
+        (λ whole. (fits_length opened lined rec.now ≡ true) × (whole.now ≡ body_of rec.now)
+        × (record_length ≤ length rec.now)) }
+{
+    if fits_length(opened, lined, rec) {
+        return rec.first_chunk();
+    }
+    None
+}
+
 // 22 for a record of an open lined file, unless CR and LF and nothing more follow it.
 pub(crate) fn check_end(opened: bool, lined: bool, rec: &[u8]) -> Answer
     ensures { result ≡ end_answer opened lined rec.now }
 {
-    if !opened {
-        return Answer::Accepted;
+    if !opened || !lined {
+        return Ok(());
     }
-    if !lined {
-        return Answer::Accepted;
-    }
-    if !file::has_line_end(rec) {
-        return Answer::Refused(Reason::NoLineEnd, END_PLACE);
-    }
-    Answer::Accepted
+    require(file::has_line_end(rec), Reason::NoLineEnd, END_PLACE)
 }
 
 // The bytes that a run must have left to take one more record: one, or 152 if more bytes are to follow.

@@ -11,14 +11,15 @@
 // one copies it. So the loop itself reads and stores lanes, and the board's functions get numbers and one lane (board:
 // src/searching.rt, `Slot::post`).
 ghost use Rattle.std.specs.Prelude.{◌≡◌, ◌≤◌, length};
-ghost use Rattle.board.specs.Boards.{slot_result_of};
+ghost use Rattle.answer.specs.Answers.{◌gives◌};
+ghost use Rattle.board.specs.Boards.{slot_answer, grown_slot};
 ghost use Rattle.session.specs.LeadingPayments.{NextPaymentOf, LeadingPaymentsOf};
 
 use crate::{Session, ends};
-use answer::Answer;
-use board::{Board, Lane, Slot, SlotResult, Tally};
+use answer::Refusal;
+use board::{Board, Lane, Slot, Tally};
 use file::File;
-use record::{PaymentDue, judged};
+use record::judged;
 
 // How far the payments came: the open file with them, their number, and the index behind the last.
 #[derive(Clone, Copy)]
@@ -35,13 +36,6 @@ pub(crate) struct LeadingPayments {
     pub(crate) progress: Progress,
 }
 
-// A payment that the open file takes, as a lane of one, with the progress behind it.
-#[derive(Clone, Copy)]
-enum MaybePayment {
-    Is(Lane, Progress),
-    Other,
-}
-
 // The progress of no payments.
 fn no_progress(file: File) -> Progress
     ensures { result ≡ record { file = file; records = 0; at = 0 } }
@@ -53,51 +47,43 @@ fn no_progress(file: File) -> Progress
     }
 }
 
-// The next payment, if the file is open, its record is there whole and accepted, and the file takes it.
+// The next payment as a lane of one, and the progress behind it, if the file is open, its record is there whole and
+// accepted, and the file takes it.
 fn next_payment(
     opened: bool,
     more: bool,
     done: Progress,
     bytes: &[u8],
     agreed: &[u64],
-) -> MaybePayment
+) -> Option<(Lane, Progress)>
     requires { (done.records ≤ done.at) × (done.at ≤ length bytes.now) }
     ensures { NextPaymentOf agreed.now opened more done bytes.now result }
 {
     let at = done.at;
     let file = done.file;
     if !opened {
-        return MaybePayment::Other;
+        return None;
     }
     if bytes.len() - at < ends::record_needs(file.lined, more) {
-        return MaybePayment::Other;
+        return None;
     }
     let end = at + file::record_length(file.lined);
-    let Answer::Accepted = ends::check_end(true, file.lined, &bytes[at..end]) else {
-        return MaybePayment::Other;
-    };
-    let due = judged::accepted_payment(&bytes[at..at + layout::LENGTH], file.version, agreed);
-    let PaymentDue::To(issuer, received, tariff) = due else {
-        return MaybePayment::Other;
-    };
-    let taken = file.take(received);
-    let answer = taken.answer;
-    let Answer::Accepted = answer else {
-        return MaybePayment::Other;
-    };
-    let file = taken.file;
-    let records = done.records + 1;
+    ends::check_end(true, file.lined, &bytes[at..end]).ok()?;
+    let rec = &bytes[at..at + layout::LENGTH];
+    let due = judged::accepted_payment(rec, file.version, agreed)?;
+    let file = file.take(due.received).ok()?;
     let next = Progress {
         file,
-        records,
+        records: done.records + 1,
         at: end,
     };
-    MaybePayment::Is(Lane::of_payment(issuer, received, tariff), next)
+    Some((Lane::of_payment(due.issuer, due.received, due.tariff), next))
 }
 
 // A payment posted at an index of a board that has this lane there, so many lanes in use and this total.
-fn post_at(at: usize, lane: Lane, used: usize, total: Tally, payment: Lane) -> SlotResult
-    ensures { result ≡ slot_result_of (record { at = at; lane = lane; used = used; total = total }) payment }
+fn post_at(at: usize, lane: Lane, used: usize, total: Tally, payment: Lane) -> Result<Slot, Refusal>
+    ensures { result ≡ (slot_answer (record { at = at; lane = lane; used = used; total = total }) payment
+        gives grown_slot (record { at = at; lane = lane; used = used; total = total }) payment) }
 {
     let slot = Slot {
         at,
@@ -121,32 +107,30 @@ impl Session {
         let mut work = self.work;
         let mut progress = no_progress(self.file);
         // Where each issuer's lane was found last. No payment moves a lane, so an index once found stays right.
+        // An array, since the engine has no heap.
         let mut cache = [0u8; board::CACHE_LENGTH];
-        loop {
-            let found = next_payment(self.opened, more, progress, bytes, agreed);
-            let MaybePayment::Is(payment, next) = found else {
-                break;
-            };
+        while let Some((payment, next)) = next_payment(self.opened, more, progress, bytes, agreed) {
             let entry = board::cache_index(payment.issuer);
             let guess = cache[entry] as usize;
             let range = board::search_range(payment.issuer, guess, work.lanes[guess], work.used);
-            let mut at = range.from;
-            while at < range.to && !work.lanes[at].is_of(payment.issuer) {
-                at += 1;
+            // Not by `position`: over a slice of the lanes it takes 10 instructions more for each payment.
+            // Between the range's ends: over the range itself it is a loop over an iterator, with a longer proof.
+            let mut at = range.end;
+            for i in range.start..range.end {
+                if work.lanes[i].is_of(payment.issuer) {
+                    at = i;
+                    break;
+                }
             }
             if Self::LANES <= at {
                 break;
             }
-            let posted = post_at(at, work.lanes[at], work.used, work.total, payment);
-            let answer = posted.answer;
-            let Answer::Accepted = answer else {
+            let Ok(slot) = post_at(at, work.lanes[at], work.used, work.total, payment) else {
                 break;
             };
-            let lane = posted.slot.lane;
-            let total = posted.slot.total;
-            work.lanes[at] = lane;
-            work.used = posted.slot.used;
-            work.total = total;
+            work.lanes[at] = slot.lane;
+            work.used = slot.used;
+            work.total = slot.total;
             cache[entry] = at as u8;
             progress = next;
         }

@@ -21,9 +21,9 @@ use pairs::{Memory, Pair};
 // agreement and the number of the open file, all zeros with none open. The memory has the last accepted number of each
 // bank and agreement: it is plain data, and a session that starts tomorrow with today's refuses today's files. A
 // trailer whose file has neither a place there nor room for one is accepted and not remembered; no session that started
-// fresh comes to that.
+// fresh comes to that. `opened` beside `file`, and no Option: C reads the members.
 #[repr(C)]
-#[derive(Clone, Copy)]
+#[derive(Clone, Copy, Debug, PartialEq, Eq)]
 pub struct Session {
     pub shown: Board,
     pub work: Board,
@@ -33,16 +33,10 @@ pub struct Session {
     pub memory: Memory,
 }
 
-// The answer to one record. A refusal leaves the session as it was.
-#[derive(Clone, Copy)]
-pub struct TakeResult {
-    pub answer: Answer,
-    pub session: Session,
-}
-
 // The answer of a run, the first refusal, and how many records were accepted and files closed before it, and how many
-// bytes those records had, CR and LF included. The session is the one after those records.
-#[derive(Clone, Copy)]
+// bytes those records had, CR and LF included. The session is the one after those records. No Result: what comes before
+// a refusal keeps its effect (`RunIsItsTakes`), so session and counts are there beside it.
+#[derive(Clone, Copy, Debug, PartialEq, Eq)]
 pub struct RunResult {
     pub answer: Answer,
     pub session: Session,
@@ -54,7 +48,7 @@ pub struct RunResult {
 // The limits of a session: the lanes of its board, the bytes of a record, the most payments and the most centavos of a
 // file, the most that the payments, the centavos or the tariffs of the board may reach, and the pairs of its memory.
 #[repr(C)]
-#[derive(Clone, Copy)]
+#[derive(Clone, Copy, Debug, PartialEq, Eq)]
 pub struct Limits {
     pub lanes: usize,
     pub record_length: usize,

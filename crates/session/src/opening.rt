@@ -1,17 +1,18 @@
 // A header: its bank, agreement and number, and the file that it opens.
-ghost use Rattle.std.specs.Prelude.{◌≡◌, length};
-ghost use Rattle.layout.specs.Layouts.{record_length};
-ghost use Rattle.session.specs.Sessions.{pair_numbered, header_result};
+ghost use Rattle.std.specs.Prelude.{◌≡◌};
+ghost use Rattle.answer.specs.Answers.{◌gives◌};
+ghost use Rattle.answer.specs.Orders.{◌then◌};
+ghost use Rattle.pairs.specs.Pairs.{memory_answer};
+ghost use Rattle.session.specs.Sessions.{pair_numbered, opened_at};
 
-use crate::{Session, TakeResult};
-use answer::Answer;
+use crate::Session;
+use answer::{Answer, Refusal};
 use file::File;
 use layout::a;
 use pairs::Pair;
 
 // The bank and the agreement of a header, byte for byte, with its sequence number.
-pub(crate) fn pair_numbered(rec: &[u8], sequence: u64) -> Pair
-    requires { length rec.now ≡ record_length }
+pub(crate) fn pair_numbered(rec: &[u8; Session::RECORD], sequence: u64) -> Pair
     ensures { result ≡ pair_numbered rec.now sequence }
 {
     let mut bank = [0u8; 3];
@@ -38,30 +39,18 @@ impl Session {
         lined: bool,
         opening: Pair,
         ending: Answer,
-    ) -> TakeResult
-        ensures { result ≡ header_result self version lined opening ending }
+    ) -> Result<Session, Refusal>
+        ensures { result ≡ ((memory_answer self.memory opening then ending)
+            gives opened_at self.shown self.memory version lined opening) }
     {
-        let memory = self.memory;
-        let a = answer::first_refusal(memory.check(opening), ending);
-        match a {
-            Answer::Refused(_, _) => TakeResult {
-                answer: a,
-                session: self,
-            },
-            Answer::Accepted => {
-                let shown = self.shown;
-                TakeResult {
-                    answer: a,
-                    session: Session {
-                        shown,
-                        work: shown,
-                        opened: true,
-                        file: File::new(version, lined),
-                        opening,
-                        memory,
-                    },
-                }
-            }
-        }
+        self.memory.check(opening)?;
+        ending?;
+        Ok(Session {
+            work: self.shown,
+            opened: true,
+            file: File::new(version, lined),
+            opening,
+            ..self
+        })
     }
 }

@@ -9,7 +9,7 @@ use borrow.Author.Tests.{eqb-true, eq-eqb}
 use lib.Dec.{eqb}
 use lib.ListN.{length, get_or}
 use Rattle.answer.specs.declared.Reason.TheVariants.{WrongLength}
-use Rattle.answer.specs.declared.Answer.TheVariants.{Accepted}
+use Rattle.answer.specs.Answers.{Accepted}
 use Rattle.answer.specs.Orders.{Each}
 use Rattle.answer.proofs.Orders.{then_accepts}
 use Rattle.answer.proofs.Steps.{passed}

@@ -9,7 +9,7 @@ use native.Mathlib.Omega.{arith}
 use borrow.Author.Tests.{eqb-true, leb-true}
 use lib.Dec.{leb, eqb}
 use lib.ListN.{get_or}
-use Rattle.answer.specs.declared.Answer.TheVariants.{Accepted}
+use Rattle.answer.specs.Answers.{Accepted}
 use Rattle.decimal.specs.Bytes.{is_of}
 use Rattle.decimal.specs.Numbers.{value_of}
 use Rattle.decimal.proofs.Finite.{below, at}

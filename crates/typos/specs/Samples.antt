@@ -1,8 +1,7 @@
 -- Typos that show where the cases of SPEC.md, "Typing errors", begin and end. Assumes nothing.
 use Rattle.std.specs.Prelude.{ℕ, List, [], ◌∷◌, ◌≡◌, set}
 use Rattle.answer.specs.declared.Reason.TheVariants.{WrongBoxCheck, WrongGeneralCheck, NoDate}
-use Rattle.answer.specs.declared.Answer.{Answer}
-use Rattle.answer.specs.declared.Answer.TheVariants.{Accepted, Refused}
+use Rattle.answer.specs.Answers.{Answer, Accepted, Refused}
 use Rattle.answer.specs.Orders.{Each}
 use Rattle.decimal.specs.Numbers.{digits_of}
 use Rattle.modulus.specs.declared.Modulus.TheVariants.{Eleven}

@@ -1,7 +1,7 @@
 -- Typing errors in an accepted line (SPEC.md, "Typing errors"). A typo is at an index of the line, which counts from 0.
 -- Assumes nothing.
 use Rattle.std.specs.Prelude.{ℕ, ◌+◌, ◌*◌, ◌/◌, ◌≤◌, ◌<◌, true, List, [], ◌∷◌, ◌↔◌, ◌≢◌, ◌≡◌, length, get_or, set}
-use Rattle.answer.specs.declared.Answer.TheVariants.{Accepted}
+use Rattle.answer.specs.Answers.{Accepted}
 use Rattle.answer.specs.Orders.{Each}
 use Rattle.decimal.specs.declared.Class.TheVariants.{Digit}
 use Rattle.decimal.specs.Bytes.{is_of}

@@ -1,7 +1,7 @@
 -- Typing errors in a line that is accepted under a list of agreed issuers (SPEC.md, "Typing errors"): what the caller
 -- of `line::check` gets, whatever the list says of the line's issuer and of the changed line's. Assumes nothing.
 use Rattle.std.specs.Prelude.{ℕ, ◌+◌, ◌<◌, true, false, List, ◌↔◌, ◌⊎◌, ◌≢◌, ◌≡◌, length, get_or, set}
-use Rattle.answer.specs.declared.Answer.TheVariants.{Accepted}
+use Rattle.answer.specs.Answers.{Accepted}
 use Rattle.answer.specs.Refusals.{answer_number}
 use Rattle.decimal.specs.declared.Class.TheVariants.{Digit}
 use Rattle.decimal.specs.Bytes.{is_of}

@@ -8,7 +8,7 @@ use lib.Dec.{ltb}
 use lib.ListN.{length, get_or, take, drop}
 use lib.Seq.{take_at, drop_at, take-append_seam, drop-append_seam}
 use Rattle.answer.specs.declared.Reason.TheVariants.{TooWide}
-use Rattle.answer.specs.declared.Answer.TheVariants.{Accepted}
+use Rattle.answer.specs.Answers.{Accepted}
 use Rattle.answer.specs.Orders.{◌then◌, behind}
 use Rattle.answer.proofs.Orders.{require_accepts, then_accepts, moved_accepts}
 use Rattle.decimal.specs.Numbers.{number_of, digits_of, width_answer}

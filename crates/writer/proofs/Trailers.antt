@@ -1,4 +1,5 @@
 -- An accepted Z that shows the writer's own figures is the Z that it writes. Assumes nothing.
+use Rattle.std.specs.Prelude.{Some}
 use Prim.Native.Nat.{ℕ, ◌+◌}
 use mathlib.Core.Bool.{true}
 use mathlib.Core.List.{List, [], ◌∷◌}
@@ -6,12 +7,11 @@ use mathlib.Core.Path.{◌≡◌, refl, sym, ap, ◌∙◌}
 use native.Mathlib.Omega.{arith}
 use lib.Dec.{lit<}
 use lib.ListN.{length, get_or}
-use Rattle.answer.specs.declared.Answer.TheVariants.{Accepted}
+use Rattle.answer.specs.Answers.{Accepted}
 use Rattle.decimal.specs.declared.Class.TheVariants.{Digit}
 use Rattle.decimal.specs.Bytes.{is_of, all}
 use Rattle.decimal.specs.Numbers.{number_of, digits_of}
 use Rattle.decimal.proofs.Numbers.{digits_of_number, number_fits}
-use Rattle.layout.specs.declared.MaybeRecord.TheVariants.{Is}
 use Rattle.layout.specs.declared.Record.TheVariants.{Trailer}
 use Rattle.layout.specs.Layouts.{record_length, named_by, no_field, layout_of, given_length, joined_of, row_at, table, count_row, total_row}
 use Rattle.layout.proofs.Layouts.{row_lies}
@@ -54,7 +54,7 @@ one_amount : (t : Terms) (rec given : List ℕ)
 unfolding layout_of row_at table
 one_amount t rec given = (refl, refl)
 
-module _ (w : Writer) (t : Terms) (rec : List ℕ) (accepts : record_answer t rec ≡ Accepted) (named : named_by (get_or rec 0 0) ≡ Is Trailer) where
+module _ (w : Writer) (t : Terms) (rec : List ℕ) (accepts : record_answer t rec ≡ Accepted) (named : named_by (get_or rec 0 0) ≡ Some Trailer) where
   abbrev amounts : List ℕ
   amounts = (trailer_shown rec).total ∷ 0 ∷ []
 

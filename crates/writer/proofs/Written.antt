@@ -1,4 +1,5 @@
 -- What the writer wrote is an accepted record with the field bytes it was given. Assumes nothing.
+use Rattle.std.specs.Prelude.{Some}
 use Prim.Native.Nat.{ℕ, ◌+◌, ◌-◌}
 use mathlib.Core.Bool.{Bool, true, ◌&&◌, and-eq-true_iff}
 use mathlib.Core.List.{List, [], ◌∷◌}
@@ -9,11 +10,10 @@ use lib.Dec.{eqb, leb}
 use lib.ListN.{length, get_or, drop, length-append, length-drop}
 use lib.Seq.{length-take-le}
 use Rattle.answer.specs.declared.Reason.TheVariants.{WrongLength}
-use Rattle.answer.specs.declared.Answer.TheVariants.{Accepted}
+use Rattle.answer.specs.Answers.{Accepted}
 use Rattle.answer.specs.Orders.{require, ◌then◌}
 use Rattle.answer.proofs.Orders.{require_accepts, then_accepts}
 use Rattle.decimal.specs.Places.{Stretch, width_of, part_at, gather}
-use Rattle.layout.specs.declared.MaybeRecord.TheVariants.{Is}
 use Rattle.layout.specs.declared.Record.{Record}
 use Rattle.layout.specs.declared.Record.TheVariants.{Header, Payment, Trailer}
 use Rattle.layout.specs.Layouts.{record_length, mark_of, named_by, layout_of, plan_of, widths_of, given_length, joined_of, row_at, table}
@@ -98,7 +98,7 @@ unfolding given_length
 joined_length r rec n = gathered_length (plan_of r) rec (rw n (lies_inside r))
 
 -- The fields of an accepted record, with any amounts that make it as its own do.
-module _ (w : Writer) (t : Terms) (r : Record) (rec amounts : List ℕ) (accepts : record_answer t rec ≡ Accepted) (named : named_by (get_or rec 0 0) ≡ Is r) where
+module _ (w : Writer) (t : Terms) (r : Record) (rec amounts : List ℕ) (accepts : record_answer t rec ≡ Accepted) (named : named_by (get_or rec 0 0) ≡ Some r) where
   pub body : (length rec ≡ record_length) × (version_answer t.version r ≡ Accepted) × (layout_answer t r rec ≡ Accepted)
   body = accepted_named t r rec accepts named
 

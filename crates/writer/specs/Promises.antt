@@ -1,9 +1,7 @@
 -- Claims about the writer, beside the equations of its operations' contracts. Assumes nothing.
-use Rattle.std.specs.Prelude.{ℕ, ◌+◌, Bool, false, List, [], ◌∷◌, ◌≡◌, length, get_or}
+use Rattle.std.specs.Prelude.{Some, ℕ, ◌+◌, Bool, false, List, [], ◌∷◌, ◌≡◌, length, get_or}
 use Rattle.answer.specs.declared.Reason.TheVariants.{FixedDiffers}
-use Rattle.answer.specs.declared.Answer.{Answer}
-use Rattle.answer.specs.declared.Answer.TheVariants.{Accepted, Refused}
-use Rattle.layout.specs.declared.MaybeRecord.TheVariants.{Is}
+use Rattle.answer.specs.Answers.{Answer, Accepted, Refused}
 use Rattle.layout.specs.declared.Record.{Record}
 use Rattle.layout.specs.declared.Record.TheVariants.{Header, Payment, Trailer}
 use Rattle.layout.specs.Layouts.{named_by, layout_of, row_at, version_row, given_length, joined_of}
@@ -16,8 +14,7 @@ use Rattle.file.specs.Files.{fresh_file, file_answer}
 use Rattle.file.specs.Forms.{length_of}
 use Rattle.writer.specs.declared.Stage.TheVariants.{Fresh, Open}
 use Rattle.writer.specs.declared.Writer.{Writer}
-use Rattle.writer.specs.Writers.{writer_terms, write_result, header_answer, header_written, header_bytes}
-use Rattle.writer.specs.Writers.{payment_check, payment_bytes, trailer_answer, trailer_bytes}
+use Rattle.writer.specs.Writers.{writer_terms, write_result, header_answer, header_written, header_bytes, payment_check, payment_bytes, trailer_answer, trailer_bytes}
 
 -- what was written is a record that is accepted alone under the same version and list, and its field bytes are those
 -- that were given
@@ -48,7 +45,7 @@ TrailerShowsTheFigures =
 abbrev pub FieldsWriteTheHeader : Type 0
 FieldsWriteTheHeader =
     (t : Terms) (w : Writer) (lined : Bool) (rec : List ℕ) → record_check t rec ≡ Accepted
-    → named_by (get_or rec 0 0) ≡ Is Header → w.stage ≡ Fresh
+    → named_by (get_or rec 0 0) ≡ Some Header → w.stage ≡ Fresh
     → (header_answer w (joined_of Header rec) (length_of lined) ≡ Accepted)
     × (header_bytes (joined_of Header rec) ≡ rec)
     × ((header_written w (joined_of Header rec) (length_of lined)).writer
@@ -57,7 +54,7 @@ FieldsWriteTheHeader =
 abbrev pub FieldsWriteThePayment : Type 0
 FieldsWriteThePayment =
     (agreed : List ℕ) (w : Writer) (rec : List ℕ) → record_check (writer_terms agreed w) rec ≡ Accepted
-    → named_by (get_or rec 0 0) ≡ Is Payment → w.stage ≡ Open
+    → named_by (get_or rec 0 0) ≡ Some Payment → w.stage ≡ Open
     → let shown = payment_shown agreed rec in
     file_answer w.file shown.received ≡ Accepted
     → (payment_check agreed w (joined_of Payment rec) shown.received shown.tariff (length_of w.file.lined)
@@ -67,7 +64,7 @@ FieldsWriteThePayment =
 -- an accepted Z that shows the writer's own figures is the Z that it writes
 abbrev pub FieldsWriteTheTrailer : Type 0
 FieldsWriteTheTrailer =
-    (t : Terms) (w : Writer) (rec : List ℕ) → record_check t rec ≡ Accepted → named_by (get_or rec 0 0) ≡ Is Trailer
+    (t : Terms) (w : Writer) (rec : List ℕ) → record_check t rec ≡ Accepted → named_by (get_or rec 0 0) ≡ Some Trailer
     → w.stage ≡ Open → (trailer_shown rec).count ≡ w.file.taken + 2 → (trailer_shown rec).total ≡ w.file.total
     → (trailer_answer w (length_of w.file.lined) ≡ Accepted) × (trailer_bytes w ≡ rec)
 

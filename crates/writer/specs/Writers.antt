@@ -1,7 +1,7 @@
 -- The file writer (SPEC.md, "Writer"): A, then each G, then Z with its own count and total. Assumes nothing.
 use Rattle.std.specs.Prelude.{ℕ, Bool, true, false, ◌&&◌, ◌||◌, List, [], ◌∷◌, eqb, length}
 use Rattle.answer.specs.declared.Reason.TheVariants.{WrongLength, NotExpected}
-use Rattle.answer.specs.declared.Answer.{Answer}
+use Rattle.answer.specs.Answers.{Answer}
 use Rattle.answer.specs.Orders.{require, ◌then◌, if_accepted}
 use Rattle.decimal.specs.Numbers.{digits_of}
 use Rattle.barcode.specs.Agreed.{list_answer}
@@ -16,7 +16,6 @@ use Rattle.file.specs.Files.{fresh_file, no_file, file_answer, file_with, figure
 use Rattle.writer.specs.declared.Stage.{Stage}
 use Rattle.writer.specs.declared.Stage.TheVariants.{Fresh, Open, Closed}
 use Rattle.writer.specs.declared.Writer.{Writer}
-use Rattle.writer.specs.declared.WriteResult.{WriteResult}
 
 abbrev pub fresh_writer : Writer
 fresh_writer = record { stage = Fresh; file = no_file }
@@ -48,6 +47,11 @@ call_answer w r given size =
     require (fits_buffer w.stage w.file.lined size && eqb given (given_length r)) WrongLength 0
     then require (writer_expects w.stage r) NotExpected 1
 
+-- the answer to a call, and the writer behind it
+pub record WriteResult : Type 0 where
+  pub answer : Answer
+  pub writer : Writer
+
 -- the next writer where it is accepted, else the old one
 abbrev pub write_result : Answer → Writer → Writer → WriteResult
 write_result a new old = record { answer = a; writer = if_accepted a new old }
@@ -65,10 +69,12 @@ header_answer w given size =
 abbrev pub header_bytes : List ℕ → List ℕ
 header_bytes given = made_of (layout_of Header) given (0 ∷ 0 ∷ [])
 
+abbrev pub header_next : List ℕ → ℕ → Writer
+header_next given size =
+    record { stage = Open; file = fresh_file (version_in (header_bytes given)) (is_lined_buffer size) }
+
 abbrev pub header_written : Writer → List ℕ → ℕ → WriteResult
-header_written w given size =
-    write_result (header_answer w given size)
-    (record { stage = Open; file = fresh_file (version_in (header_bytes given)) (is_lined_buffer size) }) w
+header_written w given size = write_result (header_answer w given size) (header_next given size) w
 
 -- G, under a list of agreed issuers that was judged: 10 for a writer in an arbitrary state whose version is another
 -- number than 4 and 6, the fields, 21 in the money fields' turn, then 15 and 16
@@ -78,10 +84,12 @@ payment_answer agreed w given received tariff size =
     then make_answer (writer_terms agreed w) Payment given (received ∷ tariff ∷ []) record_length
     then file_answer w.file received
 
+abbrev pub payment_next : Writer → ℕ → Writer
+payment_next w received = record { stage = w.stage; file = file_with w.file received }
+
 abbrev pub payment_under : List ℕ → Writer → List ℕ → ℕ → ℕ → ℕ → WriteResult
 payment_under agreed w given received tariff size =
-    write_result (payment_answer agreed w given received tariff size)
-    (record { stage = w.stage; file = file_with w.file received }) w
+    write_result (payment_answer agreed w given received tariff size) (payment_next w received) w
 
 -- as a caller asks it: 25 before everything, of a closed writer too
 abbrev pub payment_check : List ℕ → Writer → List ℕ → ℕ → ℕ → ℕ → Answer
@@ -90,8 +98,7 @@ payment_check agreed w given received tariff size =
 
 abbrev pub payment_written : List ℕ → Writer → List ℕ → ℕ → ℕ → ℕ → WriteResult
 payment_written agreed w given received tariff size =
-    write_result (payment_check agreed w given received tariff size)
-    (record { stage = w.stage; file = file_with w.file received }) w
+    write_result (payment_check agreed w given received tariff size) (payment_next w received) w
 
 abbrev pub payment_bytes : List ℕ → ℕ → ℕ → List ℕ
 payment_bytes given received tariff = made_of (layout_of Payment) given (received ∷ tariff ∷ [])
@@ -107,8 +114,11 @@ trailer_answer w size =
     then closing_answer w.file
     then make_answer (writer_terms [] w) Trailer (count_bytes w) ((figures_of w.file).total ∷ 0 ∷ []) record_length
 
+abbrev pub trailer_next : Writer → Writer
+trailer_next w = record { stage = Closed; file = w.file }
+
 abbrev pub trailer_written : Writer → ℕ → WriteResult
-trailer_written w size = write_result (trailer_answer w size) (record { stage = Closed; file = w.file }) w
+trailer_written w size = write_result (trailer_answer w size) (trailer_next w) w
 
 abbrev pub trailer_bytes : Writer → List ℕ
 trailer_bytes w = made_of (layout_of Trailer) (count_bytes w) ((figures_of w.file).total ∷ 0 ∷ [])

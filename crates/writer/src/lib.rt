@@ -3,23 +3,22 @@
 #![tactic(auto)]
 
 ghost use Rattle.std.specs.Prelude.{◌||◌, ◌≡◌, eqb, length};
-ghost use Rattle.answer.specs.declared.Answer.TheVariants as answers;
+ghost use Rattle.answer.specs.Answers.{◌gives◌, answer_of};
 ghost use Rattle.answer.specs.Orders.{if_accepted};
 ghost use Rattle.layout.specs.Layouts.{record_length};
 ghost use Rattle.file.specs.Forms.{in_form, lined_length, length_of};
 ghost use Rattle.record.specs.Values.{version_in};
-ghost use Rattle.writer.specs.Writers.{fresh_writer, writer_expects, fits_buffer, is_lined_buffer};
-ghost use Rattle.writer.specs.Writers.{call_answer, write_result};
-ghost use Rattle.writer.specs.Writers.{header_written, header_bytes, payment_under, payment_written};
-ghost use Rattle.writer.specs.Writers.{payment_bytes};
-ghost use Rattle.writer.specs.Writers.{trailer_written, trailer_bytes};
+ghost use Rattle.writer.specs.Writers.{fresh_writer, writer_expects, fits_buffer, is_lined_buffer, call_answer};
+ghost use Rattle.writer.specs.Writers.{header_answer, header_next, header_bytes};
+ghost use Rattle.writer.specs.Writers.{payment_answer, payment_check, payment_next, payment_bytes};
+ghost use Rattle.writer.specs.Writers.{trailer_answer, trailer_next, trailer_bytes};
 
-use answer::{Answer, Reason};
+use answer::{Answer, Reason, Refusal, require};
 use file::File;
 use layout::{Record, a};
 
 // Before its header, between header and trailer, and after its trailer, when no record is expected any more.
-#[derive(Clone, Copy)]
+#[derive(Clone, Copy, Debug, PartialEq, Eq)]
 pub enum Stage {
     Fresh,
     Open,
@@ -28,17 +27,10 @@ pub enum Stage {
 
 // The stage, and what was written so far: how many payments, their centavos, the version that the header names, and
 // whether the file is lined.
-#[derive(Clone, Copy)]
+#[derive(Clone, Copy, Debug, PartialEq, Eq)]
 pub struct Writer {
     pub stage: Stage,
     pub file: File,
-}
-
-// The answer to a call, and the writer that follows: the same one where it is refused.
-#[derive(Clone, Copy)]
-pub struct WriteResult {
-    pub answer: Answer,
-    pub writer: Writer,
 }
 
 // Whether a writer at this stage takes this record.
@@ -46,16 +38,8 @@ fn is_expected(stage: Stage, which: Record) -> bool
     ensures { result ≡ writer_expects stage which }
 {
     match stage {
-        Stage::Fresh => match which {
-            Record::Header => true,
-            Record::Payment => false,
-            Record::Trailer => false,
-        },
-        Stage::Open => match which {
-            Record::Header => false,
-            Record::Payment => true,
-            Record::Trailer => true,
-        },
+        Stage::Fresh => matches!(which, Record::Header),
+        Stage::Open => matches!(which, Record::Payment | Record::Trailer),
         Stage::Closed => false,
     }
 }
@@ -64,10 +48,7 @@ fn is_expected(stage: Stage, which: Record) -> bool
 fn is_either_length(size: usize) -> bool
     ensures { result ≡ (eqb size record_length || eqb size lined_length) }
 {
-    if size == layout::LENGTH {
-        return true;
-    }
-    size == file::LINED
+    size == layout::LENGTH || size == file::LINED
 }
 
 // Whether a buffer of this length fits a call to a writer at this stage: one for a record of either form fits a fresh
@@ -83,9 +64,8 @@ fn fits_buffer(stage: Stage, lined: bool, size: usize) -> bool
 }
 
 // Puts the record's 150 bytes into a buffer of 150 or 152, and CR and LF behind them in one of 152.
-fn put_in_form(made: &[u8], out: &mut [u8])
-    requires { (length made.now ≡ record_length)
-        × (length out.old ≡ length_of (is_lined_buffer (length out.old))) }
+fn put_in_form(made: &[u8; layout::LENGTH], out: &mut [u8])
+    requires { length out.old ≡ length_of (is_lined_buffer (length out.old)) }
     ensures { out.new ≡ in_form (is_lined_buffer (length out.old)) made.now }
 {
     out[0..layout::LENGTH].copy_from_slice(made);
@@ -96,8 +76,7 @@ fn put_in_form(made: &[u8], out: &mut [u8])
 }
 
 // The version that a header names.
-fn version_in(header: &[u8]) -> u64
-    requires { length header.now ≡ record_length }
+fn version_in(header: &[u8; layout::LENGTH]) -> u64
     ensures { result ≡ version_in header.now }
 {
     let first = a::VERSION.first;
@@ -130,70 +109,30 @@ impl Writer {
     fn check_call(self, which: Record, given: usize, size: usize) -> Answer
         ensures { result ≡ call_answer self which given size }
     {
-        let stage = self.stage;
-        if !fits_buffer(stage, self.file.lined, size) {
-            return Answer::Refused(Reason::WrongLength, 0);
-        }
-        if given != layout::given_length(which) {
-            return Answer::Refused(Reason::WrongLength, 0);
-        }
-        if !is_expected(stage, which) {
-            return Answer::Refused(Reason::NotExpected, 1);
-        }
-        Answer::Accepted
-    }
-
-    // The end of every call: where it is accepted, the record is written, with CR and LF behind it in a buffer of 152,
-    // and the next writer follows; a refusal changes nothing.
-    fn finish(self, answer: Answer, next: Writer, made: &[u8], out: &mut [u8]) -> WriteResult
-        requires { (length made.now ≡ record_length)
-            × (answer ≡ answers.Accepted → length out.old ≡ length_of (is_lined_buffer (length out.old))) }
-        ensures answer { result ≡ write_result answer next self }
-        ensures bytes { out.new ≡ if_accepted answer
-            (in_form (is_lined_buffer (length out.old)) made.now) out.old }
-    {
-        match answer {
-            Answer::Accepted => {
-                put_in_form(made, out);
-                WriteResult {
-                    answer,
-                    writer: next,
-                }
-            }
-            Answer::Refused(_, _) => WriteResult {
-                answer,
-                writer: self,
-            },
-        }
+        let fits = fits_buffer(self.stage, self.file.lined, size);
+        require(fits, Reason::WrongLength, 0)?;
+        require(given == layout::given_length(which), Reason::WrongLength, 0)?;
+        require(is_expected(self.stage, which), Reason::NotExpected, 1)
     }
 
     // Writes the header with these 80 field bytes into the caller's buffer; the file is open then, under the version
     // that they name. A buffer of 150 bytes makes it bare; one of 152 makes it lined, and each of its records is
-    // written with CR and LF behind it. A refusal leaves buffer and writer unchanged: 1, 9, then the fields.
-    pub fn header(self, fields: &[u8], out: &mut [u8]) -> WriteResult
-        ensures answer { result ≡ header_written self fields.now (length out.old) }
-        ensures bytes { out.new ≡ if_accepted result.answer
-            (in_form (is_lined_buffer (length out.old)) (header_bytes fields.now))
-            out.old }
+    // written with CR and LF behind it. A refusal leaves the buffer unchanged: 1, 9, then the fields.
+    pub fn header(self, fields: &[u8], out: &mut [u8]) -> Result<Writer, Refusal>
+        ensures answer { result ≡ (header_answer self fields.now (length out.old)
+            gives header_next fields.now (length out.old)) }
+        ensures bytes { out.new ≡ if_accepted (answer_of result)
+            (in_form (is_lined_buffer (length out.old)) (header_bytes fields.now)) out.old }
     {
-        let call = self.check_call(Record::Header, fields.len(), out.len());
-        let none = [0u64; 0];
-        let mut made = [0u8; Self::RECORD];
-        let making = fields::judged::make(
-            Record::Header,
-            fields,
-            self.file.version,
-            0,
-            0,
-            &none,
-            &mut made,
-        );
-        let answer = answer::first_refusal(call, making);
-        let opened = Writer {
+        self.check_call(Record::Header, fields.len(), out.len())?;
+        let version = self.file.version;
+        let mut header = [0u8; Self::RECORD];
+        fields::judged::make(Record::Header, fields, version, 0, 0, &[], &mut header)?;
+        put_in_form(&header, out);
+        Ok(Writer {
             stage: Stage::Open,
-            file: File::new(version_in(&made), out.len() == Self::LINED),
-        };
-        self.finish(answer, opened, &made, out)
+            file: File::new(version_in(&header), out.len() == Self::LINED),
+        })
     }
 
     // The payment under a list of agreed issuers that was judged.
@@ -204,41 +143,31 @@ impl Writer {
         tariff: u64,
         agreed: &[u64],
         out: &mut [u8],
-    ) -> WriteResult
-        ensures answer { result ≡ payment_under agreed.now self fields.now received tariff
-            (length out.old) }
-        ensures bytes { out.new ≡ if_accepted result.answer
-            (in_form (is_lined_buffer (length out.old)) (payment_bytes fields.now received tariff))
-            out.old }
+    ) -> Result<Writer, Refusal>
+        ensures answer { result ≡ (payment_answer agreed.now self fields.now received tariff (length out.old)
+            gives payment_next self received) }
+        ensures bytes { out.new ≡ if_accepted (answer_of result)
+            (in_form (is_lined_buffer (length out.old)) (payment_bytes fields.now received tariff)) out.old }
     {
-        let call = self.check_call(Record::Payment, fields.len(), out.len());
-        let mut made = [0u8; Self::RECORD];
-        let making = fields::judged::make(
+        self.check_call(Record::Payment, fields.len(), out.len())?;
+        let mut payment = [0u8; Self::RECORD];
+        fields::judged::make(
             Record::Payment,
             fields,
             self.file.version,
             received,
             tariff,
             agreed,
-            &mut made,
-        );
-        let stage = self.stage;
-        let file = self.file;
-        let taken = file.take(received);
-        let counting = taken.answer;
-        let counted = taken.file;
-        let answer = answer::first_refusal(call, answer::first_refusal(making, counting));
-        let next = Writer {
-            stage,
-            file: counted,
-        };
-        self.finish(answer, next, &made, out)
+            &mut payment,
+        )?;
+        let file = self.file.take(received)?;
+        put_in_form(&payment, out);
+        Ok(Writer { file, ..self })
     }
 
     // Writes a payment with these 121 field bytes and amounts into the caller's buffer, as long as the header's, and
-    // counts it. A refusal leaves buffer and writer unchanged: 25 for the list, 1, 9, 10 at 80 for a writer in an
-    // arbitrary state whose version is another number than 4 and 6, then the fields with 21 in an amount's turn, then
-    // 15 and 16.
+    // counts it. A refusal leaves the buffer unchanged: 25 for the list, 1, 9, 10 at 80 for a writer in an arbitrary
+    // state whose version is another number than 4 and 6, then the fields with 21 in an amount's turn, then 15 and 16.
     pub fn payment(
         self,
         fields: &[u8],
@@ -246,54 +175,44 @@ impl Writer {
         tariff: u64,
         agreed: &[u64],
         out: &mut [u8],
-    ) -> WriteResult
-        ensures answer { result ≡ payment_written agreed.now self fields.now received tariff
-            (length out.old) }
-        ensures bytes { out.new ≡ if_accepted result.answer
-            (in_form (is_lined_buffer (length out.old)) (payment_bytes fields.now received tariff))
-            out.old }
+    ) -> Result<Writer, Refusal>
+        ensures answer { result ≡ (payment_check agreed.now self fields.now received tariff (length out.old)
+            gives payment_next self received) }
+        ensures bytes { out.new ≡ if_accepted (answer_of result)
+            (in_form (is_lined_buffer (length out.old)) (payment_bytes fields.now received tariff)) out.old }
     {
-        let list = barcode::check_list(agreed);
-        match list {
-            Answer::Accepted => self.payment_judged(fields, received, tariff, agreed, out),
-            Answer::Refused(_, _) => WriteResult {
-                answer: list,
-                writer: self,
-            },
-        }
+        barcode::check_list(agreed)?;
+        self.payment_judged(fields, received, tariff, agreed, out)
     }
 
     // Writes the trailer with the file's own count and total into the caller's buffer, as long as the header's; then
-    // the writer is closed. A refusal leaves buffer and writer unchanged: 1, 9, then 15 and 16, which only a writer in
-    // an arbitrary state can give.
-    pub fn trailer(self, out: &mut [u8]) -> WriteResult
-        ensures answer { result ≡ trailer_written self (length out.old) }
-        ensures bytes { out.new ≡ if_accepted result.answer
+    // the writer is closed. A refusal leaves the buffer unchanged: 1, 9, then 15 and 16, which only a writer in an
+    // arbitrary state can give.
+    pub fn trailer(self, out: &mut [u8]) -> Result<Writer, Refusal>
+        ensures answer { result ≡ (trailer_answer self (length out.old) gives trailer_next self) }
+        ensures bytes { out.new ≡ if_accepted (answer_of result)
             (in_form (is_lined_buffer (length out.old)) (trailer_bytes self)) out.old }
     {
-        let call = self.check_call(Record::Trailer, Self::COUNT, out.len());
-        let file = self.file;
-        let closed = file.close();
-        let closing = closed.answer;
-        let figures = closed.figures;
+        self.check_call(Record::Trailer, Self::COUNT, out.len())?;
+        let figures = self.file.close()?;
+        // The figures of a file that closes fit their fields.
         let mut count = [48u8; Self::COUNT];
-        decimal::put_number(figures.count, Self::COUNT, &mut count, 0);
-        let none = [0u64; 0];
-        let mut made = [0u8; Self::RECORD];
-        let making = fields::judged::make(
+        let _ = decimal::put_number(figures.count, Self::COUNT, &mut count, 0);
+        let version = self.file.version;
+        let mut trailer = [0u8; Self::RECORD];
+        fields::judged::make(
             Record::Trailer,
             &count,
-            file.version,
+            version,
             figures.total,
             0,
-            &none,
-            &mut made,
-        );
-        let answer = answer::first_refusal(call, answer::first_refusal(closing, making));
-        let ended = Writer {
+            &[],
+            &mut trailer,
+        )?;
+        put_in_form(&trailer, out);
+        Ok(Writer {
             stage: Stage::Closed,
-            file,
-        };
-        self.finish(answer, ended, &made, out)
+            ..self
+        })
     }
 }

@@ -1,41 +1,30 @@
-use Prim.Native.Nat.{◌+◌, ◌-◌}
+use Prim.Native.Nat.{◌-◌}
 use mathlib.Core.Bool.{true}
-use mathlib.Core.Path.{◌≡◌, refl, sym, ◌∙◌}
+use mathlib.Core.Path.{◌≡◌, sym, ◌∙◌}
 use native.Mathlib.Omega.{arith}
-use borrow.Author.Rules.{rules}
-use lib.ListN.{take}
-use Rattle.decimal.proofs.Bytes.{row_fails, row_passes, last_row}
+use lib.ListN.{take, length}
+use Rattle.decimal.proofs.Bytes.{last_row, one_failed, one_more_passed, rest_covered}
 use Rattle.decimal.specs.declared.Class.TheVariants.{Digit}
 use Rattle.decimal.specs.Bytes.{is_of, all}
 use Rattle.decimal.proofs.digit_rows.Goals as goal
 
+pub returns-then-all_of : goal.returns-then-all_of
+returns-then-all_of c =
+    let bs = c.args.part.now in
+    let front : all (is_of Digit) (take 8 bs) ≡ true = sym c.all_of-then-n-lt16.ensures ∙ c.if-all_of.true in
+    last_row (is_of Digit) bs 8 8 (omega arith) (omega arith) front c.all_of-then-all_of.ensures
+
 pub returns-then-not-all_of : goal.returns-then-not-all_of
-returns-then-not-all_of c = row_fails (is_of Digit) c.args.part.now 0 8 c.all_of-then-n-lt16.ensures c.if-not-all_of.true
+returns-then-not-all_of c =
+    one_failed (is_of Digit) c.args.part.now _ c.loop-row.invariant.rows c.in-Some.row.now _ c.in-Some.ensures.steps.1.0 c.all_of-in-loop-row.ensures c.if-not-all_of.true
 
-pub returns-then-n-lt16 : goal.returns-then-n-lt16
-returns-then-n-lt16 c =
-    let bs = c.args.part.now in
-    let front : all (is_of Digit) (take 8 bs) ≡ true = sym c.all_of-then-n-lt16.ensures ∙ c.if-not-all_of.false in
-    last_row (is_of Digit) bs 8 8 (omega arith) (omega arith) front c.all_of-then-n-lt16-2.ensures
-
-pub loop-i-init : goal.loop-i-init
-loop-i-init c = (search rules, refl)
-
-pub returns-then-not-all_of-2 : goal.returns-then-not-all_of-2
-returns-then-not-all_of-2 c =
-    let bs = c.args.part.now in
-    let i = c.loop-i.i in
-    row_fails (is_of Digit) bs i (i + 16 - i) c.all_of-in-loop-i.ensures c.if-not-all_of-2.true
-
-pub loop-i-preserved : goal.loop-i-preserved
-loop-i-preserved c =
-    let bs = c.args.part.now in
-    let l = c.loop-i in
-    let e : l.i + 16 - l.i ≡ 16 = omega arith in
-    (search rules, row_passes (is_of Digit) bs l.i 16 (rw e at c.all_of-in-loop-i.ensures) c.if-not-all_of-2.false l.invariant.1)
+pub loop-row-preserved : goal.loop-row-preserved
+loop-row-preserved c = record {
+  size = c.in-Some.ensures.steps.0 ∙ c.loop-row.invariant.size;
+  rows = one_more_passed (is_of Digit) c.args.part.now _ c.loop-row.invariant.rows c.in-Some.row.now _ c.in-Some.ensures.steps.1.0 c.all_of-in-loop-row.ensures c.if-not-all_of.false;
+}
 
 pub returns : goal.returns
 returns c =
-    let bs = c.args.part.now in
-    let l = c.loop-i in
-    last_row (is_of Digit) bs l.i 16 (omega arith) (omega arith) l.invariant.1 c.all_of-2.ensures
+    let n = length c.args.part.now in
+    rest_covered (is_of Digit) c.args.part.now (n - 1) c.loop-row.invariant.rows 16 (omega (arith, c.in-None.ensures.steps.1.0, c.loop-row.invariant.size)) (omega arith) (omega arith) c.all_of-2.ensures

@@ -1,21 +1,9 @@
-use Prim.Native.Nat.{◌+◌, ◌≤◌}
 use mathlib.Core.Path.{refl, sym}
-use borrow.Author.Rules.{rules}
-use lib.ListN.{length}
 use Rattle.decimal.proofs.Places.{put_none, put_middle, room, no_room}
 use Rattle.decimal.proofs.put.Goals as goal
 
 pub returns-then-not-has_room : goal.returns-then-not-has_room
 returns-then-not-has_room c = sym (put_none _ _ _ (no_room c.has_room.ensures c.if-not-has_room.true))
-
-pub overflow_add-end : goal.overflow_add-end
-overflow_add-end c =
-    let a = c.args in
-    let fits : a.at + length a.piece.now ≤ length a.out.now = room c.has_room.ensures c.if-not-has_room.false in
-    search rules
-
-pub slice_bounds-copy_from_slice-end : goal.slice_bounds-copy_from_slice-end
-slice_bounds-copy_from_slice-end c = room c.has_room.ensures c.if-not-has_room.false
 
 pub returns : goal.returns
 returns c =

@@ -1,19 +1,10 @@
-use mathlib.Core.Path.{refl, ◌∙◌}
+use mathlib.Core.Path.{◌∙◌}
 use native.Mathlib.Omega.{arith}
-use borrow.Author.Rules.{rules}
-use lib.ListN.{length-set}
-use Rattle.decimal.proofs.Numbers.{write_start, write_step, write_end}
+use Rattle.decimal.proofs.Numbers.{write_step, write_end}
 use Rattle.decimal.proofs.put_digits.Goals as goal
 
-pub loop-i-init : goal.loop-i-init
-loop-i-init c = (search rules, refl, write_start c.args.out.now c.args.n)
-
 pub loop-i-preserved : goal.loop-i-preserved
-loop-i-preserved c = (
-  simp length-set (omega arith),
-  simp length-set c.loop-i.invariant.1,
-  write_step _ _ _ c.loop-i-test.true c.loop-i.invariant.0 ∙ c.loop-i.invariant.2,
-)
+loop-i-preserved c = write_step _ _ _ (omega arith) (omega arith) ∙ c.loop-i.invariant
 
 pub returns : goal.returns
-returns c = write_end _ _ _ c.loop-i-test.false c.loop-i.invariant.2
+returns c = write_end _ _ _ (omega arith) c.loop-i.invariant

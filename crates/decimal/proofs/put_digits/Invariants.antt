@@ -1,4 +1,3 @@
-use Prim.Native.Nat.{◌≤◌}
 use mathlib.Core.List.{◌++◌}
 use mathlib.Core.Path.{◌≡◌}
 use lib.ListN.{length, drop}
@@ -6,7 +5,4 @@ use Rattle.decimal.specs.Numbers.{digits_of}
 use Rattle.decimal.proofs.put_digits.Given as goal
 
 abbrev pub invariant-loop-i : goal.invariant-loop-i
-invariant-loop-i l = (l.i ≤ length l.out) × (length l.out ≡ length l.initial.out) × (digits_of l.i l.rest ++ drop l.i l.out ≡ digits_of (length l.initial.out) l.n)
-
-abbrev pub decreases-loop-i : goal.decreases-loop-i
-decreases-loop-i l = l.i
+invariant-loop-i l = digits_of l.i l.rest ++ drop l.i l.out ≡ digits_of (length l.initial.out) l.n

@@ -1,37 +1,23 @@
-use Prim.Native.Nat.{◌+◌, ◌-◌, ◌%◌}
-use mathlib.Core.Path.{◌≡◌, ◌∙◌}
+use mathlib.Core.Path.{ap, ◌∙◌}
 use native.Mathlib.Omega.{arith}
-use borrow.Author.Rules.{rules}
-use lib.ListN.{length, take, drop}
-use Rattle.decimal.proofs.Places.{length_piece}
-use Rattle.modulus.proofs.Sums.{blocks_start, blocks_step, sum_small, remainder_small}
+use Prim.Native.Nat.{◌%◌, min}
+use lib.ListN.{length}
+use Rattle.std.specs.Slice.Iter.{rchunks_rest}
+use Rattle.modulus.proofs.Sums.{one_more_summed, summed_small, sum_small}
 use Rattle.modulus.proofs.weighted_remainder.Goals as goal
-
-pub loop-end-init : goal.loop-end-init
-loop-end-init c = (search rules, search rules, blocks_start c.args.m c.args.right c.args.digits.now)
 
 pub overflow_add-sum : goal.overflow_add-sum
 overflow_add-sum c =
-    let a = c.args in
-    let bs = a.digits.now in
-    let end = c.loop-end.end in
-    let start = c.block_start-start.result in
-    let behind = (a.right % 8 + (length bs - end)) % 8 in
-    let l : length (take (end - start) (drop start bs)) ≡ end - start = length_piece start (end - start) bs (omega arith) in
-    let small = sum_small a.m behind (take (end - start) (drop start bs)) in
+    let few = c.in-Some.ensures.steps.1.1 in
+    let so_far = summed_small c.loop-block.invariant.sum in
+    let more = sum_small c.args.m (c.args.right % 8) c.in-Some.block.now in
     record { fits = rw c.short_sum.ensures (omega arith) }
 
-pub loop-end-preserved : goal.loop-end-preserved
-loop-end-preserved c =
-    let a = c.args in
-    let bs = a.digits.now in
-    let l = c.loop-end in
-    let start = c.block_start-start.result in
-    let behind = (a.right % 8 + (length bs - l.end)) % 8 in
-    let step = blocks_step a.m a.right bs start l.end behind l.sum (omega arith) (omega arith) (omega arith) c.short_sum.ensures l.invariant.2 in
-    (omega arith, rw c.remainder-sum.ensures (remainder_small a.m _), c.remainder-sum.ensures ∙ step)
-
-pub returns : goal.returns
-returns c =
-    let e : c.loop-end.end ≡ 0 = omega arith in
-    rw e at c.loop-end.invariant.2
+pub loop-block-preserved : goal.loop-block-preserved
+loop-block-preserved c =
+    let l = c.loop-block in
+    let step = c.in-Some.ensures.steps in
+    record {
+      size = step.0 ∙ l.invariant.size;
+      sum = rw c.remainder-sum.ensures (one_more_summed l.invariant.sum c.in-Some.block.now _ step.1.0 (step.1.1 ∙ ap (λ n. min n (length (rchunks_rest l.block-iterator))) l.invariant.size) step.1.2 c.short_sum.ensures);
+    }

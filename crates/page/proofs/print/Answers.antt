@@ -1,23 +1,26 @@
-use mathlib.Core.Path.{sym}
+use mathlib.Core.Path.{◌≡◌}
 use native.Mathlib.Omega.{arith}
-use Rattle.page.proofs.Pages.{printed, wrong_buffer_keeps}
-use Rattle.page.proofs.Steps.{wrote_then}
-use Rattle.page.specs.Pages.{head_lines, page_of}
+use borrow.Author.Rules.{rules}
+use lib.ListN.{length}
+use Rattle.page.proofs.Pages.{lanes_shown, printed}
+use Rattle.page.proofs.Steps.{printed_then}
+use Rattle.page.specs.Pages.{sums_lines, head_lines, page_of, page_length}
+use Rattle.page.specs.Pieces.{most_sums, Printed}
 use Rattle.page.proofs.print.Goals as goal
 
-pub returns-then-out-ne-PAGE : goal.returns-then-out-ne-PAGE
-returns-then-out-ne-PAGE c =
-    let a = c.args in
-    let page = page_of a.number a.place a.records a.files a.board in
-    let kept = wrong_buffer_keeps page a.out.now c.if-out-ne-PAGE.true in
-    record { value = sym kept.0; bytes = sym kept.1; bounded = omega arith }
-
 pub returns : goal.returns
+unfolding head_lines
 returns c =
     let a = c.args in
     let page = page_of a.number a.place a.records a.files a.board in
-    let lines = head_lines a.number a.place a.records a.files a.board in
-    let lanes = c.put_lanes-end.ensures in
-    let whole = wrote_then {xs = lines} (omega arith) c.put_head-next.ensures lanes in
-    let p = printed page a.out.now c.if-out-ne-PAGE.false whole in
-    record { value = p.0; bytes = p.1.0; bounded = p.1.1 }
+    let long : length a.out.now ≡ page_length = search rules in
+    let in_use = lanes_shown a.board (search rules) c.lanes_in_use.ensures in
+    let count = rw in_use at c.line-5.ensures in
+    let lanes = rw in_use at c.lanes.ensures in
+    let sums : Printed most_sums (sums_lines a.board) c.line-4.new.self c.tally.new.self
+    = printed_then (omega arith) count c.tally.ensures in
+    let counts = printed_then (omega arith) c.line-3.ensures (printed_then (omega arith) c.line-4.ensures sums) in
+    let head = printed_then (omega arith) c.line.ensures (printed_then (omega arith) c.line-2.ensures counts) in
+    let whole = printed_then (omega arith) head lanes in
+    let p = printed page a.out.now long whole.wrote in
+    record { value = p.0; bytes = grind (arith, whole.same_buffer, p.1.0); bounded = p.1.1 }

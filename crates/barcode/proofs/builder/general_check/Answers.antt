@@ -1,4 +1,5 @@
 use native.Mathlib.Omega.{arith}
+use borrow.Author.Rules.{rules}
 use lib.ListN.{take, drop}
 use Rattle.barcode.proofs.Codes.{general_as}
 use Rattle.modulus.proofs.Sums.{remainder_small, rule_is_one_digit}
@@ -15,7 +16,7 @@ overflow_add-left c =
 pub returns : goal.returns
 returns c =
     record {
-      value = general_as c.args.code.now c.requires c.digit.ensures c.modulus_of_kind-m.ensures
+      value = general_as c.args.code.now (search rules) c.digit.ensures c.modulus_of_kind-m.ensures
           c.weighted_remainder-left.ensures c.weighted_remainder-right.ensures c.remainder.ensures c.digit_of_remainder.ensures;
       small = rw c.digit_of_remainder.ensures (rule_is_one_digit c.modulus_of_kind-m.result c.remainder.result);
     }

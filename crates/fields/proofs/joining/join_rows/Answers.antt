@@ -1,62 +1,42 @@
 use Prim.Native.Nat.{ℕ, ◌+◌}
-use mathlib.Core.List.{List, map}
-use mathlib.Core.Path.{ap, ◌∙◌}
+use mathlib.Core.Path.{ap}
 use native.Mathlib.Omega.{arith}
 use borrow.Author.Rules.{rules}
-use Rattle.decimal.specs.Places.{gather}
-use Rattle.layout.specs.Layouts.{row, given_at}
-use Rattle.layout.specs.declared.Field.{Field}
+use Rattle.layout.specs.Layouts.{row}
 use Rattle.layout.specs.declared.Kind.TheVariants.{Mark}
-use Rattle.fields.proofs.Joins.{at_row, at_end, begin, in_out, in_field, gap, on}
-use Rattle.record.proofs.Walks.{in_order, in_table, row_placed, rows_here}
+use Rattle.fields.proofs.Joins.{at_row, at_end, begin, in_field, on}
+use Rattle.record.proofs.Walks.{in_order, in_table, part_placed, rows_here}
 use Rattle.fields.proofs.joining.join_rows.Goals as goal
 
-pub loop-i-init : goal.loop-i-init
-loop-i-init c =
-    let table = c.table-table.ensures in
-    let rows = c.rows_of-rows.ensures in
-    (in_order _ table rows, begin _ _ _ (rows_here _ table rows) c.requires.out_len)
+pub offset_bounds-table-rows_of : goal.offset_bounds-table-rows_of
+offset_bounds-table-rows_of c = omega (arith, in_order _ c.table-table.ensures c.rows_of.ensures, in_table _ c.table-table.ensures c.rows_of.ensures)
 
-pub offset_bounds-table-i : goal.offset_bounds-table-i
-offset_bounds-table-i c = omega (arith, in_table _ c.table-table.ensures c.rows_of-rows.ensures, c.loop-i-test.true)
+pub slice_bounds-f-items-count : goal.slice_bounds-f-items-count
+slice_bounds-f-items-count c = in_order _ c.table-table.ensures c.rows_of.ensures
 
-pub bounds-table-i : goal.bounds-table-i
-bounds-table-i c = omega (arith, in_table _ c.table-table.ensures c.rows_of-rows.ensures, c.loop-i-test.true)
+pub slice_bounds-f-items-start : goal.slice_bounds-f-items-start
+slice_bounds-f-items-start c = in_order _ c.table-table.ensures c.rows_of.ensures
+
+pub slice_bounds-f-items-end : goal.slice_bounds-f-items-end
+slice_bounds-f-items-end c = in_table _ c.table-table.ensures c.rows_of.ensures
+
+pub loop-f-init : goal.loop-f-init
+loop-f-init c = begin _ _ _ (rows_here _ c.table-table.ensures c.rows_of.ensures) c.requires
 
 pub given_width-requires : goal.given_width-requires
-given_width-requires c = row_placed _ c.table-table.ensures c.rows_of-rows.ensures _ (row 0 0 (Mark 0)) c.loop-i-test.true
+given_width-requires c = part_placed _ c.table-table.ensures c.rows_of.ensures _ (row 0 0 (Mark 0)) c.loop-f-test.true
 
-pub overflow_add-next : goal.overflow_add-next
-overflow_add-next c =
-    let here = at_row _ c.table-table.ensures c.rows_of-rows.ensures c.loop-i-test.true c.loop-i.invariant.1 in
-    omega (arith, in_out here, c.given_width.ensures, c.well_formed)
+pub join_field-requires-clause-placed : goal.join_field-requires-clause-placed
+join_field-requires-clause-placed c =
+    let placed = part_placed _ c.table-table.ensures c.rows_of.ensures _ (row 0 0 (Mark 0)) c.loop-f-test.true in
+    (placed, in_field (at_row _ _ c.loop-f-test.true c.loop-f.invariant) placed)
 
-pub slice_bounds-join_field-end : goal.slice_bounds-join_field-end
-slice_bounds-join_field-end c =
-    let here = at_row _ c.table-table.ensures c.rows_of-rows.ensures c.loop-i-test.true c.loop-i.invariant.1 in
-    omega (arith, in_out here, c.given_width.ensures)
-
-pub join_field-requires : goal.join_field-requires
-join_field-requires c =
-    let table = c.table-table.ensures in
-    let rows = c.rows_of-rows.ensures in
-    let here = at_row _ table rows c.loop-i-test.true c.loop-i.invariant.1 in
-    let placed = row_placed _ table rows _ (row 0 0 (Mark 0)) c.loop-i-test.true in
-    let next = ap (λ (w : ℕ). c.loop-i.at + w) c.given_width.ensures in
-    record { rec_len = c.requires.rec_len; in_record = (placed, in_field here placed); out_len = gap here next }
-
-pub loop-i-preserved : goal.loop-i-preserved
-loop-i-preserved c =
-    let table = c.table-table.ensures in
-    let rows = c.rows_of-rows.ensures in
-    let here = at_row _ table rows c.loop-i-test.true c.loop-i.invariant.1 in
-    let placed = row_placed _ table rows _ (row 0 0 (Mark 0)) c.loop-i-test.true in
-    let next = ap (λ (w : ℕ). c.loop-i.at + w) c.given_width.ensures in
-    (search rules, on here placed c.requires.rec_len next c.join_field.ensures)
+pub loop-f-preserved : goal.loop-f-preserved
+loop-f-preserved c =
+    let here = at_row _ _ c.loop-f-test.true c.loop-f.invariant in
+    let placed = part_placed _ c.table-table.ensures c.rows_of.ensures _ (row 0 0 (Mark 0)) c.loop-f-test.true in
+    let next = ap (λ (w : ℕ). c.loop-f.at + w) c.given_width.ensures in
+    on here placed (search rules) next c.join_field.ensures
 
 pub returns : goal.returns
-returns c =
-    let whole = rows_here _ c.table-table.ensures c.rows_of-rows.ensures in
-    let joined = at_end _ _ _ c.loop-i.invariant.0 c.loop-i-test.false c.loop-i.invariant.1 in
-    let rec = c.args.rec.now in
-    joined ∙ ap (λ (l : List Field). gather (map given_at l) rec) whole
+returns c = at_end _ _ c.loop-f-test.false c.loop-f.invariant

@@ -1,16 +1,8 @@
-use Prim.Native.Nat.{◌≤◌, ◌-◌}
-use mathlib.Core.List.{map}
-use lib.ListN.{length}
-use lib.Seq.{slice}
-use Rattle.decimal.specs.Places.{gather}
-use Rattle.layout.specs.Layouts.{given_at}
+use lib.ListN.{length, drop}
+use Rattle.layout.specs.Layouts.{joined_of}
 use Rattle.fields.proofs.Joins.{Joining}
 use Rattle.fields.proofs.joining.join_rows.Given as goal
 
-abbrev pub invariant-loop-i : goal.invariant-loop-i
-invariant-loop-i l =
-    (l.i ≤ l.to)
-    × Joining (slice l.i l.to l.table) l.rec l.out l.at (length l.initial.out) (gather (map given_at (slice l.initial.i l.to l.table)) l.rec)
-
-abbrev pub decreases-loop-i : goal.decreases-loop-i
-decreases-loop-i l = l.to - l.i
+abbrev pub invariant-loop-f : goal.invariant-loop-f
+invariant-loop-f l =
+    Joining (drop l.f-index l.f-items) l.rec l.out l.at (length l.initial.out) (joined_of l.fn.which l.rec)

@@ -16,7 +16,7 @@ pub put_bytes-requires : goal.put_bytes-requires
 put_bytes-requires c =
     let a = c.args in
     let other = sym c.is_money.ensures ∙ c.if-is_money.false in
-    record { kind_value = other; given_len = ap length (sym (other_is a.kind (length a.out.now) a.given.now a.amount other)) ∙ c.requires }
+    record { no_amount = other; sized = ap length (sym (other_is a.kind (length a.out.now) a.given.now a.amount other)) ∙ c.requires }
 
 pub returns : goal.returns
 returns c =

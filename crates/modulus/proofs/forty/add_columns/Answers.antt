@@ -1,5 +1,5 @@
 use Rattle.modulus.specs.declared.Modulus.TheVariants.{Ten, Eleven}
-use Rattle.modulus.proofs.Columns.{digits_step, sum_goes, digits_end, sum_ends}
+use Rattle.modulus.proofs.Columns.{digits_step, sum_goes}
 use borrow.Author.Rules.{rules}
 use Rattle.modulus.proofs.forty.add_columns.Goals as goal
 
@@ -16,22 +16,9 @@ loop-i-preserved c =
     let late = c.last_row_value-c.ensures.value in (
       search rules,
       search rules,
-      search rules,
-      digits_step x y z p.0 p.1 p.2 l.i more l.error c.column_error_bit-error.ensures l.invariant.3,
+      digits_step x y z p.0 p.1 p.2 l.i more l.error c.column_error_bit-error.ensures l.invariant.2,
       λ d. (
-        sum_goes x y z p.0 p.1 p.2 l.i more Ten l.tens d low low2 late c.column_ten-tens.ensures.value (l.invariant.4 d).0,
-        sum_goes x y z p.0 p.1 p.2 l.i more Eleven l.elevens d low low2 late (λ _ _ _. c.column_eleven-elevens.ensures.value) (l.invariant.4 d).1,
+        sum_goes x y z p.0 p.1 p.2 l.i more Ten l.tens d low low2 late c.column_ten-tens.ensures.value (l.invariant.3 d).0,
+        sum_goes x y z p.0 p.1 p.2 l.i more Eleven l.elevens d low low2 late (λ _ _ _. c.column_eleven-elevens.ensures.value) (l.invariant.3 d).1,
       ),
     )
-
-pub returns : goal.returns
-returns c =
-    let a = c.args in
-    let p = c.requires in
-    let l = c.loop-i in
-    let none = c.loop-i-test.false in
-    record {
-      digits = digits_end a.x.now a.y.now a.z.now p.0 p.1 p.2 l.i none l.error l.invariant.3;
-      tens = λ d. sum_ends a.x.now a.y.now a.z.now p.0 p.1 p.2 l.i none Ten l.tens (l.invariant.4 d).0;
-      elevens = λ d. sum_ends a.x.now a.y.now a.z.now p.0 p.1 p.2 l.i none Eleven l.elevens (l.invariant.4 d).1;
-    }

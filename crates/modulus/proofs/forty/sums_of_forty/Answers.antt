@@ -1,9 +1,5 @@
-use borrow.Author.Tests.{ne_eqb}
 use Rattle.modulus.proofs.Columns.{no_sum, both_sums_holds}
 use Rattle.modulus.proofs.forty.sums_of_forty.Goals as goal
-
-pub returns-then-digits-ne40 : goal.returns-then-digits-ne40
-returns-then-digits-ne40 c = simp (ne_eqb _ _ c.if-digits-ne40.true)
 
 pub returns-then-sums-ne0 : goal.returns-then-sums-ne0
 returns-then-sums-ne0 c =

@@ -1,13 +1,8 @@
-use Prim.Native.Nat.{◌-◌, min}
+use Prim.Native.Nat.{◌+◌}
 use mathlib.Core.Path.{◌≡◌}
-use lib.ListN.{length}
-use Rattle.pairs.specs.Pairs.{most_pairs}
-use Rattle.pairs.proofs.Searches.{Searched}
+use lib.ListN.{drop}
+use Rattle.pairs.specs.Pairs.{pairs_of, index_of}
 use Rattle.pairs.proofs.Memory.pair_index.Given as goal
 
 abbrev pub invariant-loop-i : goal.invariant-loop-i
-invariant-loop-i l =
-    (length l.self.pairs ≡ most_pairs) × (l.end ≡ min l.self.used most_pairs) × Searched l.self l.pair l.i
-
-abbrev pub decreases-loop-i : goal.decreases-loop-i
-decreases-loop-i l = l.end - l.i
+invariant-loop-i l = index_of l.pair (pairs_of l.self) ≡ l.i + index_of l.pair (drop l.i (pairs_of l.self))

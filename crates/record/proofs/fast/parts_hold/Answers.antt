@@ -6,9 +6,9 @@ use Rattle.record.proofs.fast.parts_hold.Goals as goal
 pub returns : goal.returns
 returns c =
     let a = c.args in
-    let all-text = two_rows (is_of Text) a.text.now c.requires.two_rows.0 c.requires.two_rows.1 in
-    let all-other = two_rows (is_of Text) a.other.now c.requires.two_rows_2.0 c.requires.two_rows_2.1 in
-    let all_digits = two_rows (is_of Digit) a.digits.now c.requires.two_rows_3.0 c.requires.two_rows_3.1 in
+    let all-text = two_rows (is_of Text) a.text.now c.requires.text_rows.0 c.requires.text_rows.1 in
+    let all-other = two_rows (is_of Text) a.other.now c.requires.other_rows.0 c.requires.other_rows.1 in
+    let all_digits = two_rows (is_of Digit) a.digits.now c.requires.digit_rows.0 c.requires.digit_rows.1 in
     rw (
       ← all-text,
       ← all-other,

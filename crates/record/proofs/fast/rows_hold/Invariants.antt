@@ -1,4 +1,3 @@
-use Prim.Native.Nat.{◌-◌, ◌≤◌}
 use mathlib.Core.Bool.{◌&&◌}
 use mathlib.Core.Path.{◌≡◌}
 use lib.Dec.{eqb}
@@ -7,7 +6,4 @@ use Rattle.record.proofs.FastPath.{from}
 use Rattle.record.proofs.fast.rows_hold.Given as goal
 
 abbrev pub invariant-loop-i : goal.invariant-loop-i
-invariant-loop-i l = (l.i ≤ 16) × ((eqb l.flags 0 && from l.i l.a l.b l.c l.d l.e l.f) ≡ rows_hold l.a l.b l.c l.d l.e l.f)
-
-abbrev pub decreases-loop-i : goal.decreases-loop-i
-decreases-loop-i l = 16 - l.i
+invariant-loop-i l = (eqb l.flags 0 && from l.i l.a l.b l.c l.d l.e l.f) ≡ rows_hold l.a l.b l.c l.d l.e l.f

@@ -1,6 +1,5 @@
 use mathlib.Core.List.{[]}
 use mathlib.Core.Path.{sym, ◌∙◌}
-use native.Mathlib.Omega.{arith}
 use lib.ListN.{get_or}
 use Rattle.layout.specs.declared.Record.TheVariants.{Header, Trailer}
 use Rattle.layout.specs.Layouts.{named_by}
@@ -8,13 +7,10 @@ use Rattle.kinds.specs.Terms.{told}
 use Rattle.record.proofs.Shown.{accepted_is, accepted_named, trailer_named, header_named}
 use Rattle.record.proofs.judged.header_or_trailer.Goals as goal
 
-pub bounds-rec-0 : goal.bounds-rec-0
-bounds-rec-0 c = omega (arith, (accepted_is (told 0 []) c.args.rec.now (c.requires.rec_value (told 0 []))).0)
-
 pub read_trailer-requires : goal.read_trailer-requires
 read_trailer-requires c =
     let named = trailer_named _ (sym c.is_trailer.ensures ∙ c.if-is_trailer.true) in
-    record { rec_len = (accepted_named (told 0 []) Trailer _ (c.requires.rec_value (told 0 [])) named).0; rec_value = λ t. (accepted_named t Trailer _ (c.requires.rec_value t) named).2 }
+    λ t. (accepted_named t Trailer _ (c.requires.accepted t) named).2
 
 pub returns-then-is_trailer : goal.returns-then-is_trailer
 returns-then-is_trailer c =
@@ -23,12 +19,12 @@ returns-then-is_trailer c =
 
 pub read_header-requires : goal.read_header-requires
 read_header-requires c =
-    let accepted = (accepted_is (told 0 []) c.args.rec.now (c.requires.rec_value (told 0 []))).1 in
-    let named = header_named (told 0 []) _ c.args.rec.now accepted c.requires.rec_value_2 (sym c.is_trailer.ensures ∙ c.if-is_trailer.false) in
-    record { rec_len = (accepted_named (told 0 []) Header _ (c.requires.rec_value (told 0 [])) named).0; rec_value = λ t. (accepted_named t Header _ (c.requires.rec_value t) named).2 }
+    let accepted = (accepted_is (told 0 []) c.args.rec.now (c.requires.accepted (told 0 []))).1 in
+    let named = header_named (told 0 []) _ c.args.rec.now accepted c.requires.other (sym c.is_trailer.ensures ∙ c.if-is_trailer.false) in
+    λ t. (accepted_named t Header _ (c.requires.accepted t) named).2
 
 pub returns : goal.returns
 returns c =
-    let accepted = (accepted_is (told 0 []) c.args.rec.now (c.requires.rec_value (told 0 []))).1 in
-    let named = header_named (told 0 []) (named_by (get_or c.args.rec.now 0 0)) c.args.rec.now accepted c.requires.rec_value_2 (sym c.is_trailer.ensures ∙ c.if-is_trailer.false) in
+    let accepted = (accepted_is (told 0 []) c.args.rec.now (c.requires.accepted (told 0 []))).1 in
+    let named = header_named (told 0 []) (named_by (get_or c.args.rec.now 0 0)) c.args.rec.now accepted c.requires.other (sym c.is_trailer.ensures ∙ c.if-is_trailer.false) in
     rw (named, c.read_header.ensures)

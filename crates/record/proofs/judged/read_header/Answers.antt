@@ -1,5 +1,6 @@
 use mathlib.Core.List.{[]}
 use mathlib.Core.Path.{ap, ◌∙◌}
+use borrow.Author.Rules.{rules}
 use Rattle.layout.specs.Layouts.{row_at, table, layout_of}
 use Rattle.kinds.specs.Terms.{told}
 use Rattle.record.specs.Values.{day_of}
@@ -9,5 +10,5 @@ use Rattle.record.proofs.judged.read_header.Goals as goal
 pub returns : goal.returns
 unfolding row_at table layout_of
 returns c =
-    header_read (told 0 []) c.args.rec.now c.requires.rec_len (c.requires.rec_value (told 0 [])) c.number_in.ensures
+    header_read (told 0 []) c.args.rec.now (search rules) (c.requires (told 0 [])) c.number_in.ensures
     (c.day_of.ensures ∙ ap day_of c.date_in.ensures) c.number_in-2.ensures c.number_in-3.ensures

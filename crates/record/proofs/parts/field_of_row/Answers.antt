@@ -1,12 +1,11 @@
 use mathlib.Core.Path.{sym, ◌∙◌}
-use borrow.Author.Rules.{rules}
 use Rattle.record.proofs.Walks.{row_of_named}
 use Rattle.record.proofs.parts.field_of_row.Goals as goal
 
 pub field_bytes-requires : goal.field_bytes-requires
 field_bytes-requires c =
     let has = sym c.has_row.ensures ∙ c.if-has_row.true in
-    record { rec_len = search rules; in_record = row_of_named c.named_by.result c.args.row has c.row.ensures }
+    row_of_named c.named_by.result c.args.row has c.row.ensures
 
 pub returns-then-has_row : goal.returns-then-has_row
 returns-then-has_row c =

@@ -1,32 +1,34 @@
-use mathlib.Core.Path.{sym, ◌∙◌, refl}
 use native.Mathlib.Omega.{arith}
-use borrow.Author.Rules.{rules}
-use Rattle.record.proofs.Walks.{later, here, none, in_order, in_table, row_placed, walked}
+use mathlib.Core.Path.{sym, ◌∙◌}
+use Rattle.std.proofs.lemmas.Result.{err_from_is_err_and}
+use Rattle.record.proofs.Walks.{later, here, none, in_order, in_table, part_placed, walked}
 use Rattle.record.proofs.walk.layout_answer.Goals as goal
 
-pub loop-i-init : goal.loop-i-init
-loop-i-init c = (in_order _ c.table-table.ensures c.rows_of-rows.ensures, refl)
+pub offset_bounds-table-rows_of : goal.offset_bounds-table-rows_of
+offset_bounds-table-rows_of c = omega (arith, in_order _ c.table-table.ensures c.rows_of.ensures, in_table _ c.table-table.ensures c.rows_of.ensures)
 
-pub offset_bounds-table-i : goal.offset_bounds-table-i
-offset_bounds-table-i c = omega (arith, c.loop-i-test.true, in_table _ c.table-table.ensures c.rows_of-rows.ensures)
+pub slice_bounds-f-items-count : goal.slice_bounds-f-items-count
+slice_bounds-f-items-count c = in_order _ c.table-table.ensures c.rows_of.ensures
 
-pub bounds-table-i : goal.bounds-table-i
-bounds-table-i c = omega (arith, c.loop-i-test.true, in_table _ c.table-table.ensures c.rows_of-rows.ensures)
+pub slice_bounds-f-items-start : goal.slice_bounds-f-items-start
+slice_bounds-f-items-start c = in_order _ c.table-table.ensures c.rows_of.ensures
 
-pub field_answer-a-requires : goal.field_answer-a-requires
-field_answer-a-requires c = record { rec_len = search rules; in_record = row_placed _ c.table-table.ensures c.rows_of-rows.ensures _ _ c.loop-i-test.true }
+pub slice_bounds-f-items-end : goal.slice_bounds-f-items-end
+slice_bounds-f-items-end c = in_table _ c.table-table.ensures c.rows_of.ensures
 
-pub loop-i-preserved : goal.loop-i-preserved
-loop-i-preserved c =
-    let fits = in_table _ c.table-table.ensures c.rows_of-rows.ensures in
-    let accepted = sym c.field_answer-a.ensures ∙ c.in-Accepted.is in
-    (search rules, later _ _ _ _ _ c.loop-i-test.true fits accepted c.loop-i.invariant.1)
+pub loop-f-init : goal.loop-f-init
+loop-f-init c = walked _ c.table-table.ensures c.rows_of.ensures _ _
 
-pub returns-in-Refused : goal.returns-in-Refused
-returns-in-Refused c =
-    let fits = in_table _ c.table-table.ensures c.rows_of-rows.ensures in
-    let all = c.loop-i.invariant.1 ∙ walked _ c.table-table.ensures c.rows_of-rows.ensures _ _ in
-    here _ _ _ _ _ c.loop-i-test.true fits c.field_answer-a.ensures c.in-Refused.is all
+pub field_answer-requires : goal.field_answer-requires
+field_answer-requires c = part_placed _ c.table-table.ensures c.rows_of.ensures _ _ c.loop-f-test.true
+
+pub loop-f-preserved : goal.loop-f-preserved
+loop-f-preserved c = later _ _ _ _ c.loop-f-test.true (sym c.field_answer.ensures ∙ c.in_ok-field_answer.was) c.loop-f.invariant
+
+pub returns-in_err-field_answer : goal.returns-in_err-field_answer
+returns-in_err-field_answer c =
+    let p = err_from_is_err_and c.from_residual.result c.from_residual.ensures.1 in
+    rw (p.1, p.2) (sym c.in_err-field_answer.was ∙ here _ _ _ _ c.loop-f-test.true c.field_answer.ensures c.in_err-field_answer.was c.loop-f.invariant)
 
 pub returns : goal.returns
-returns c = none _ _ _ _ c.loop-i.invariant.0 c.loop-i-test.false (c.loop-i.invariant.1 ∙ walked _ c.table-table.ensures c.rows_of-rows.ensures _ _)
+returns c = none _ _ _ c.loop-f-test.false c.loop-f.invariant

@@ -8,11 +8,8 @@ use Rattle.board.proofs.Caches.{Caches}
 use Rattle.session.specs.LeadingPayments.{LeadingPaymentsOf}
 use Rattle.session.proofs.Session.take_leading_payments.Given as goal
 
-abbrev pub invariant-loop-at : goal.invariant-loop-at
-invariant-loop-at l = Searched l.work l.payment.issuer l.range.to l.at
-
-abbrev pub decreases-loop-at : goal.decreases-loop-at
-decreases-loop-at l = l.range.to - l.at
+abbrev pub invariant-loop-i : goal.invariant-loop-i
+invariant-loop-i l = Searched l.work l.payment.issuer l.i-end l.i × (l.at ≡ l.i-end)
 
 abbrev pub invariant-loop-payment : goal.invariant-loop-payment
 invariant-loop-payment l =

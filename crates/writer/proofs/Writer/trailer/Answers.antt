@@ -1,25 +1,30 @@
-use Rattle.layout.specs.Layouts.{record_length}
-use mathlib.Core.Path.{◌≡◌, refl}
+use mathlib.Core.Path.{sym, refl, ◌∙◌}
 use borrow.Author.Rules.{rules}
-use lib.ListN.{length}
-use Rattle.layout.specs.declared.Record.TheVariants.{Trailer}
-use Rattle.writer.proofs.Calls.{size_is, trailer_ends}
+use Rattle.answer.proofs.Orders.{gives_tells}
+use Rattle.file.specs.Files.{closing_answer}
+use Rattle.writer.proofs.Calls.{six, count_written}
 use Rattle.writer.proofs.Writer.trailer.Goals as goal
 
-pub finish-requires : goal.finish-requires
-finish-requires c =
-    let a = c.args in
-    let made : length c.make-making.new.out ≡ record_length = search rules in (
-      made,
-      size_is a.self Trailer 6 (length a.out.now)
-          c.first_refusal.result c.check_call-call.ensures c.first_refusal-answer.ensures,
-    )
+pub returns-in_err-check_call-clause-answer : goal.returns-in_err-check_call-clause-answer
+returns-in_err-check_call-clause-answer c = let n = six in search rules
 
-pub returns : goal.returns
-returns c =
-    let a = c.args in
-    let r = trailer_ends a.self a.out.now _ c.check_call-call.ensures c.close-closed.ensures
-    refl c.put_number.ensures.answer c.put_number.ensures.bytes c.make-making.ensures.answer
-    c.make-making.ensures.bytes c.first_refusal.ensures c.first_refusal-answer.ensures
-    c.finish.ensures.answer c.finish.ensures.bytes in
-    record { answer = r.0; bytes = r.1 }
+pub returns-in_err-make-clause-answer : goal.returns-in_err-make-clause-answer
+returns-in_err-make-clause-answer c =
+    let n = six in
+    let closed = gives_tells (closing_answer c.args.self.file) (sym c.close.ensures ∙ c.in_ok-figures.was) in
+    let count = count_written c.args.self _ closed refl c.put_number.ensures.answer c.put_number.ensures.bytes in
+    search rules
+
+pub returns-clause-answer : goal.returns-clause-answer
+returns-clause-answer c =
+    let n = six in
+    let closed = gives_tells (closing_answer c.args.self.file) (sym c.close.ensures ∙ c.in_ok-figures.was) in
+    let count = count_written c.args.self _ closed refl c.put_number.ensures.answer c.put_number.ensures.bytes in
+    search rules
+
+pub returns-clause-bytes : goal.returns-clause-bytes
+returns-clause-bytes c =
+    let n = six in
+    let closed = gives_tells (closing_answer c.args.self.file) (sym c.close.ensures ∙ c.in_ok-figures.was) in
+    let count = count_written c.args.self _ closed refl c.put_number.ensures.answer c.put_number.ensures.bytes in
+    search rules

@@ -1,9 +1,0 @@
-use Rattle.barcode.proofs.Building.{ranges_of, finished}
-use Rattle.barcode.proofs.builder.finish.Goals as goal
-
-pub returns : goal.returns
-returns c =
-    let a = c.args in
-    let fit = ranges_of _ _ _ _ c.requires.free_value in
-    finished a.issuer a.kind a.value a.free.now fit a.out.now c.requires.out_len
-    c.put_fields.ensures c.general_check-check.ensures.value c.put.ensures

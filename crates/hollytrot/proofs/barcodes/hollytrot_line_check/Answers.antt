@@ -1,6 +1,0 @@
-use mathlib.Core.Path.{ap, ◌∙◌}
-use Rattle.hollytrot.specs.Forms.{c_answer_of}
-use Rattle.hollytrot.proofs.barcodes.hollytrot_line_check.Goals as goal
-
-pub returns : goal.returns
-returns c = c.c_answer.ensures ∙ ap c_answer_of c.check.ensures

@@ -1,7 +1,0 @@
-use Rattle.hollytrot.proofs.Steps.{crossed}
-use Rattle.hollytrot.proofs.barcodes.hollytrot_line_from_barcode.Goals as goal
-
-pub returns : goal.returns
-returns c =
-    let r = crossed _ _ c.c_answer.ensures c.from_barcode.ensures.answer c.from_barcode.ensures.bytes in
-    record { answer = r.0; bytes = r.1 }

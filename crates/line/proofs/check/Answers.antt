@@ -1,9 +1,0 @@
-use Rattle.answer.proofs.Steps.{handed, onward}
-use Rattle.line.proofs.check.Goals as goal
-
-pub returns-in-Accepted : goal.returns-in-Accepted
-returns-in-Accepted c =
-    onward c.check_list-list.ensures c.in-Accepted.is c.check_judged.ensures
-
-pub returns-in-Refused : goal.returns-in-Refused
-returns-in-Refused c = handed _ c.check_list-list.ensures c.in-Refused.is
