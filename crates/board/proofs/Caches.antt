@@ -8,12 +8,12 @@ use borrow.Author.Tests.{eqb-true, eqb-false, ltb-true}
 use lib.Dec.{eqb, ltb}
 use lib.ListN.{length, get_or, set, take, replicate}
 use lib.Seq.{get_or-take, get_or-set_same, get_or-set_other}
-use Rattle.std.specs.declared.ops.Range.{Range}
 use Rattle.answer.specs.Answers.{Accepted}
 use Rattle.barcode.specs.declared.Issuer.{Issuer}
 use Rattle.board.specs.declared.Board.{Board}
 use Rattle.board.specs.Boards.{SlotResult, blank, lanes_of, index_of, slot_at, slot_result_of}
 use Rattle.board.specs.declared.Lane.{Lane}
+use Rattle.board.specs.declared.SearchRange.{SearchRange}
 use Rattle.board.specs.Lanes.{most_lanes, is_lane_of}
 use Rattle.board.specs.Searches.{search_range_of}
 use Rattle.board.proofs.Searches.{in_use, Searched, search_starts}
@@ -34,9 +34,9 @@ zeros_cache b n k = rw (zeros n k) (omega arith, first_zero (lanes_of b))
 -- a search from a cached index
 module _ (b : Board) (full : length b.lanes ≡ most_lanes) (i : Issuer) (guess : ℕ) (here : guess < most_lanes)
     (first : FirstAt (lanes_of b) guess) where
-  starts : (t : Bool) → (ltb guess b.used && is_lane_of i (get_or b.lanes guess blank)) ≡ t → (s : Range ℕ)
-      → s ≡ cond t (record { start = guess; end = guess }) (record { start = 0; end = min b.used most_lanes })
-      → Searched b i s.end s.start
+  starts : (t : Bool) → (ltb guess b.used && is_lane_of i (get_or b.lanes guess blank)) ≡ t → (s : SearchRange)
+      → s ≡ cond t (record { from = guess; to = guess }) (record { from = 0; to = min b.used most_lanes })
+      → Searched b i s.to s.from
   starts true t s e =
       let both = (and-eq-true_iff (ltb guess b.used) (is_lane_of i (get_or b.lanes guess blank))).0 t in
       let used : guess < b.used = ltb-true guess b.used both.0 in
@@ -46,8 +46,8 @@ module _ (b : Board) (full : length b.lanes ≡ most_lanes) (i : Issuer) (guess 
       rw e (omega arith, omega arith, rw none (first i (omega (arith, in_use b full)) own ∙ omega arith))
   starts false t s e = rw e (search_starts b full i refl)
 
-  pub cached_starts : {s : Range ℕ} → s ≡ search_range_of i guess (get_or b.lanes guess blank) b.used
-      → Searched b i s.end s.start
+  pub cached_starts : {s : SearchRange} → s ≡ search_range_of i guess (get_or b.lanes guess blank) b.used
+      → Searched b i s.to s.from
   unfolding search_range_of
   cached_starts {s} e = starts (ltb guess b.used && is_lane_of i (get_or b.lanes guess blank)) refl s e
 

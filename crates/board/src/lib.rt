@@ -45,6 +45,13 @@ pub struct Slot {
     pub total: Tally,
 }
 
+// The indices at which an issuer's lane is searched: `from` and those behind it, up to `to` and without it.
+#[derive(Clone, Copy, Debug, PartialEq, Eq)]
+pub struct SearchRange {
+    pub from: usize,
+    pub to: usize,
+}
+
 // The entries of a cache of lane indices; see `cache_index`.
 pub const CACHE_LENGTH: usize = 256;
 

@@ -9,9 +9,8 @@ ghost use Rattle.board.specs.Lanes.{most_lanes};
 ghost use Rattle.board.specs.Boards.{lanes_of, index_of};
 ghost use Rattle.board.specs.Searches.{cache_length, search_range_of};
 
-use crate::{Board, CACHE_LENGTH, Lane};
+use crate::{Board, CACHE_LENGTH, Lane, SearchRange};
 use barcode::Issuer;
-use std::ops::Range;
 
 // How many lanes of a board are in use: its `used`, at most LANES for a board in an arbitrary state.
 pub fn lanes_in_use(used: usize) -> usize
@@ -28,18 +27,23 @@ pub fn cache_index(issuer: Issuer) -> usize
     (issuer.number % CACHE_LENGTH as u64) as usize
 }
 
-// Where to search an issuer's lane: the indices to test. If the guess is in use and `seen`, the lane there, is the
-// issuer's, the search is over: no index is left, and the range ends at the guess. Else it goes over all lanes in use.
-// The guess may be any number.
-pub fn search_range(issuer: Issuer, guess: usize, seen: Lane, used: usize) -> Range<usize>
+// Where to search an issuer's lane. If the guess is in use and `seen`, the lane there, is the issuer's, the search is
+// over: `from` and `to` are the guess. Else it goes over all lanes in use. The guess may be any number.
+pub fn search_range(issuer: Issuer, guess: usize, seen: Lane, used: usize) -> SearchRange
     ensures { result ≡ search_range_of issuer guess seen used }
 {
     if guess < used {
         if seen.is_of(issuer) {
-            return guess..guess;
+            return SearchRange {
+                from: guess,
+                to: guess,
+            };
         }
     }
-    0..lanes_in_use(used)
+    SearchRange {
+        from: 0,
+        to: lanes_in_use(used),
+    }
 }
 
 impl Board {

@@ -86,7 +86,7 @@ module _ {t : Terms} {f : Field} {fs : List Field} {given amounts made : List �
   pub placed : InRecord f
   placed = record { start = omega (arith, here.here); order = omega (arith, here.here, here.wide); end = ends.1 }
 
-  piece_length_holds : length (take (given_width f) (drop at given)) ≡ (given_of f.kind (width_of (stretch_of f))).end - (given_of f.kind (width_of (stretch_of f))).start
+  piece_length_holds : length (take (given_width f) (drop at given)) ≡ (given_of f.kind (width_of (stretch_of f))).to - (given_of f.kind (width_of (stretch_of f))).from
   piece_length_holds = length-take-le (given_width f) (drop at given) (omega (arith, length-drop at given, m.left)) ∙ sym (given_width_is f placed.start)
 
   -- the bytes of the record up to it, and all of them

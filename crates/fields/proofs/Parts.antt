@@ -8,10 +8,10 @@ use borrow.Author.Tests.{eqb-true}
 use lib.Dec.{eqb}
 use lib.ListN.{length, drop, length-drop, length-replicate}
 use lib.Seq.{length-take-le}
-use Rattle.std.specs.declared.ops.Range.{Range}
 use Rattle.decimal.proofs.Numbers.{digits_fill}
 use Rattle.decimal.specs.Places.{width_of, part_at}
 use Rattle.layout.specs.declared.Field.{Field}
+use Rattle.layout.specs.declared.Given.{Given}
 use Rattle.layout.specs.declared.Kind.{Kind}
 use Rattle.layout.specs.declared.Kind.TheVariants as kind
 use Rattle.layout.specs.declared.Record.{Record}
@@ -20,7 +20,7 @@ use Rattle.layout.specs.Layouts.{record_length, layout_of, stretch_of, given_of,
 use Rattle.layout.proofs.Tables.{every}
 use Rattle.fields.specs.Making.{written_of, given_width}
 
-pub given_order : (k : Kind) (w : ℕ) → (given_of k w).start ≤ (given_of k w).end
+pub given_order : (k : Kind) (w : ℕ) → (given_of k w).from ≤ (given_of k w).to
 given_order (kind.Mark byte) w = omega arith
 given_order kind.Version w = omega arith
 given_order kind.Service w = omega arith
@@ -33,7 +33,7 @@ given_order kind.Barcode w = omega arith
 given_order kind.Capture w = omega arith
 given_order kind.Form w = omega arith
 
-pub given_width_is : (f : Field) → 1 ≤ f.first → (given_of f.kind (width_of (stretch_of f))).end - (given_of f.kind (width_of (stretch_of f))).start ≡ given_width f
+pub given_width_is : (f : Field) → 1 ≤ f.first → (given_of f.kind (width_of (stretch_of f))).to - (given_of f.kind (width_of (stretch_of f))).from ≡ given_width f
 given_width_is f h = omega (arith, given_order f.kind (width_of (stretch_of f)))
 
 pub part_length : {f : Field} (rec : List ℕ) → InRecord f → length rec ≡ record_length → (given_at f).last ≤ f.last → length (part_at (given_at f) rec) ≡ given_width f
@@ -55,7 +55,7 @@ fits_kind kind.Barcode w = true
 fits_kind kind.Capture w = true
 fits_kind kind.Form w = true
 
-pub written_length : (k : Kind) (w : ℕ) (piece : List ℕ) (n : ℕ) → fits_kind k w ≡ true → length piece ≡ (given_of k w).end - (given_of k w).start
+pub written_length : (k : Kind) (w : ℕ) (piece : List ℕ) (n : ℕ) → fits_kind k w ≡ true → length piece ≡ (given_of k w).to - (given_of k w).from
     → length (written_of k w piece n) ≡ w
 unfolding fits_kind
 written_length (kind.Mark byte) w piece n t e = sym (eqb-true w 1 t)
@@ -80,7 +80,7 @@ layout_fits Payment = (refl, omega arith)
 layout_fits Trailer = (refl, omega arith)
 
 -- what is given of a field lies in it
-pub given_in : (k : Kind) (w : ℕ) → fits_kind k w ≡ true → (given_of k w).end ≤ w
+pub given_in : (k : Kind) (w : ℕ) → fits_kind k w ≡ true → (given_of k w).to ≤ w
 unfolding fits_kind
 given_in (kind.Mark byte) w t = omega arith
 given_in kind.Version w t = omega arith
@@ -94,7 +94,10 @@ given_in kind.Barcode w t = omega arith
 given_in kind.Capture w t = omega arith
 given_in kind.Form w t = omega arith
 
--- how wide the part of a field is that is given, as the code has it
-pub part_width : {f : Field} → InRecord f → {g : Range ℕ} → g ≡ given_of f.kind (f.last - (f.first - 1))
-    → g.end - g.start ≡ given_width f
-part_width {f} l e = rw e (given_width_is f l.start)
+-- The part of a field that is given, as the code has it.
+module _ {f : Field} (l : InRecord f) {g : Given} (e : g ≡ given_of f.kind (f.last - (f.first - 1))) where
+  pub part_order : g.from ≤ g.to
+  part_order = rw e (given_order f.kind (width_of (stretch_of f)))
+
+  pub part_width : g.to - g.from ≡ given_width f
+  part_width = rw e (given_width_is f l.start)

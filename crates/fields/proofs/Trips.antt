@@ -43,7 +43,7 @@ blanks (b ∷ bs) t =
 
 -- an accepted field's bytes are written again from what is given of them, and from their number
 written_back : (t : Terms) (k : Kind) (w : ℕ) (bs : List ℕ) → length bs ≡ w → fits_kind k w ≡ true → kind_answer t k bs ≡ Accepted
-    → written_of k w (take ((given_of k w).end - (given_of k w).start) (drop (given_of k w).start bs)) (number_of bs) ≡ bs
+    → written_of k w (take ((given_of k w).to - (given_of k w).from) (drop (given_of k w).from bs)) (number_of bs) ≡ bs
 unfolding kind_answer is_service
 written_back t (kind.Mark byte) w bs n q a = sym (same_equal bs (byte ∷ []) ((require_accepts (same bs (byte ∷ [])) FixedDiffers 1).0 a))
 written_back t kind.Version w bs n q a = take_all (w - 0) bs (omega arith)
@@ -72,12 +72,12 @@ number_fits_back k w bs n =
 
 -- what is given of a field, from the field's bytes
 given_part : (f : Field) (rec : List ℕ) → 1 ≤ f.first → fits_field f ≡ true
-    → take ((given_of f.kind (width_of (stretch_of f))).end - (given_of f.kind (width_of (stretch_of f))).start) (drop (given_of f.kind (width_of (stretch_of f))).start (field_bytes f rec))
+    → take ((given_of f.kind (width_of (stretch_of f))).to - (given_of f.kind (width_of (stretch_of f))).from) (drop (given_of f.kind (width_of (stretch_of f))).from (field_bytes f rec))
     ≡ part_at (given_at f) rec
 given_part f rec h t =
     let w = width_of (stretch_of f) in
-    let from = (given_of f.kind w).start in
-    let to = (given_of f.kind w).end in
+    let from = (given_of f.kind w).from in
+    let to = (given_of f.kind w).to in
     let o : from ≤ to = given_order f.kind w in
     let i : to ≤ w = given_in f.kind w t in
     let a : f.first - 1 + from ≡ f.first + from - 1 = omega arith in
@@ -86,7 +86,7 @@ given_part f rec h t =
 given_length_holds : (f : Field) (rec : List ℕ) → 1 ≤ f.first → fits_field f ≡ true → f.first ≤ f.last → f.last ≤ record_length → length rec ≡ record_length
     → length (part_at (given_at f) rec) ≡ given_width f
 given_length_holds f rec h t o e n =
-    let i : (given_of f.kind (width_of (stretch_of f))).end ≤ width_of (stretch_of f) = given_in f.kind (width_of (stretch_of f)) t in
+    let i : (given_of f.kind (width_of (stretch_of f))).to ≤ width_of (stretch_of f) = given_in f.kind (width_of (stretch_of f)) t in
     part_length {f = f} rec (record { start = h; order = o; end = e }) n (omega arith)
 
 -- the amount in a field's turn, and those after it
@@ -157,8 +157,8 @@ joint : (p w a z : ℕ) → a ≡ p + 1 → p + 1 ≤ z → w ≡ z - (a - 1) �
 joint p w a z e h k = omega arith
 
 -- what is given of a field that was written is what was given for it
-written_given : (k : Kind) (w : ℕ) (piece : List ℕ) (n : ℕ) → length piece ≡ (given_of k w).end - (given_of k w).start
-    → take ((given_of k w).end - (given_of k w).start) (drop (given_of k w).start (written_of k w piece n)) ≡ piece
+written_given : (k : Kind) (w : ℕ) (piece : List ℕ) (n : ℕ) → length piece ≡ (given_of k w).to - (given_of k w).from
+    → take ((given_of k w).to - (given_of k w).from) (drop (given_of k w).from (written_of k w piece n)) ≡ piece
 written_given (kind.Mark byte) w piece n e = sym (length_zero piece e)
 written_given kind.Version w piece n e = take_all (w - 0) piece (omega arith)
 written_given kind.Service w piece n e = one_byte piece e

@@ -12,5 +12,6 @@ pub(crate) fn given_width(f: Field) -> usize
     ensures { result ≡ given_width f }
 {
     let kind = f.kind;
-    layout::given_of(kind, f.last - (f.first - 1)).len()
+    let given = layout::given_of(kind, f.last - (f.first - 1));
+    given.to - given.from
 }

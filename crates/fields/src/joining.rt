@@ -28,7 +28,7 @@ fn join_field(f: Field, rec: &[u8; layout::LENGTH], out: &mut [u8])
     let kind = f.kind;
     let before = f.first - 1;
     let part = layout::given_of(kind, f.last - before);
-    out.copy_from_slice(&rec[before + part.start..before + part.end]);
+    out.copy_from_slice(&rec[before + part.from..before + part.to]);
 }
 
 // The given parts of all fields of a record, one after the other.
@@ -38,7 +38,8 @@ fn join_rows(which: Record, rec: &[u8; layout::LENGTH], out: &mut [u8])
 {
     let table = layout::table();
     let mut at = 0;
-    for f in &table[layout::rows_of(which)] {
+    let rows = layout::rows_of(which);
+    for f in &table[rows.from..rows.to] {
         let next = at + given_width(*f);
         join_field(*f, rec, &mut out[at..next]);
         at = next;

@@ -119,10 +119,11 @@ fn make_rows(
         → made.new ≡ made_of (layout_of which) given.now (first ∷ second ∷ []) }
 {
     let table = layout::table();
+    let rows = layout::rows_of(which);
     let mut done = 0;
     let mut at = 0;
     let mut used = 0;
-    for f in &table[layout::rows_of(which)] {
+    for f in &table[rows.from..rows.to] {
         let kind = f.kind;
         let end = f.last;
         let next = at + given_width(*f);

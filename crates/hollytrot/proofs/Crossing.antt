@@ -111,7 +111,7 @@ module _ (row : ℕ) (rec : List ℕ) where
       → let x = if_accepted a (field_in n row rec) [] in take (length x) (drop start rec) ≡ x
   field_shown (Err refusal) n = refl
   field_shown Accepted None = refl
-  field_shown Accepted (Some r) = field_where (leb (rows_of r).start row && ltb row (rows_of r).end)
+  field_shown Accepted (Some r) = field_where (leb (rows_of r).from row && ltb row (rows_of r).to)
 
 pub field_part_is_shown : FieldPartIsShown
 unfolding field_part

@@ -80,7 +80,7 @@ pub record_is_its_fields : RecordIsItsFields
 record_is_its_fields r rec k = joined_from (layout_of r) 1 rec (omega arith) k (fields_cover r)
 
 -- the rows of each record in the table
-pub rows_are : (r : Record) → take ((rows_of r).end - (rows_of r).start) (drop (rows_of r).start table) ≡ layout_of r
+pub rows_are : (r : Record) → take ((rows_of r).to - (rows_of r).from) (drop (rows_of r).from table) ≡ layout_of r
 unfolding rows_of table layout_of
 rows_are Header = refl
 rows_are Payment = refl

@@ -1,12 +1,13 @@
 -- The layouts of the three records (SPEC.md, "Records"): one table. Places count from 1. Assumes nothing.
 use Rattle.std.specs.Prelude.{None, Option, Some, ℕ, ◌+◌, ◌-◌, ◌≤◌, Bool, true, cond, ◌&&◌, List, [], ◌∷◌, ◌++◌, map, ◌≡◌, leb, eqb, length, get_or}
-use Rattle.std.specs.declared.ops.Range.{Range}
 use Rattle.decimal.specs.Places.{Stretch, width_of, gather}
 use Rattle.layout.specs.declared.Field.{Field}
+use Rattle.layout.specs.declared.Given.{Given}
 use Rattle.layout.specs.declared.Kind.{Kind}
 use Rattle.layout.specs.declared.Kind.TheVariants.{Mark, Version, Service, Blank, Text, Digits, Money, Date, Barcode, Capture, Form}
 use Rattle.layout.specs.declared.Record.{Record}
 use Rattle.layout.specs.declared.Record.TheVariants.{Header, Payment, Trailer}
+use Rattle.layout.specs.declared.Rows.{Rows}
 
 abbrev pub record_length : ℕ
 record_length = 150
@@ -86,8 +87,8 @@ rows_before Header = []
 rows_before Payment = layout_of Header
 rows_before Trailer = layout_of Header ++ layout_of Payment
 
-unfoldable pub rows_of : Record → Range ℕ
-rows_of r = record { start = length (rows_before r); end = length (rows_before r) + length (layout_of r) }
+unfoldable pub rows_of : Record → Rows
+rows_of r = record { from = length (rows_before r); to = length (rows_before r) + length (layout_of r) }
 
 -- the rows of the fields that are read by name
 abbrev pub agreement_row : ℕ
@@ -150,18 +151,18 @@ total_row = 26
 -- What a caller of the writer gives (SPEC.md, "Writer").
 
 -- of a field of so many bytes: nothing of what is fixed and of money, the service field's second byte, else all
-abbrev pub given_of : Kind → ℕ → Range ℕ
-given_of (Mark byte) width = record { start = 0; end = 0 }
-given_of Version width = record { start = 0; end = width }
-given_of Service width = record { start = 1; end = 2 }
-given_of Blank width = record { start = 0; end = 0 }
-given_of Text width = record { start = 0; end = width }
-given_of Digits width = record { start = 0; end = width }
-given_of Money width = record { start = 0; end = 0 }
-given_of Date width = record { start = 0; end = width }
-given_of Barcode width = record { start = 0; end = width }
-given_of Capture width = record { start = 0; end = width }
-given_of Form width = record { start = 0; end = width }
+abbrev pub given_of : Kind → ℕ → Given
+given_of (Mark byte) width = record { from = 0; to = 0 }
+given_of Version width = record { from = 0; to = width }
+given_of Service width = record { from = 1; to = 2 }
+given_of Blank width = record { from = 0; to = 0 }
+given_of Text width = record { from = 0; to = width }
+given_of Digits width = record { from = 0; to = width }
+given_of Money width = record { from = 0; to = 0 }
+given_of Date width = record { from = 0; to = width }
+given_of Barcode width = record { from = 0; to = width }
+given_of Capture width = record { from = 0; to = width }
+given_of Form width = record { from = 0; to = width }
 
 abbrev pub stretch_of : Field → Stretch
 stretch_of f = record { first = f.first; last = f.last }
@@ -170,7 +171,7 @@ stretch_of f = record { first = f.first; last = f.last }
 abbrev pub given_at : Field → Stretch
 given_at f =
     let g = given_of f.kind (width_of (stretch_of f)) in
-    record { first = f.first + g.start; last = f.first - 1 + g.end }
+    record { first = f.first + g.from; last = f.first - 1 + g.to }
 
 abbrev pub plan_of : Record → List Stretch
 plan_of r = map given_at (layout_of r)

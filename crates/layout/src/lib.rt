@@ -8,8 +8,6 @@ pub mod z;
 ghost use Rattle.std.specs.Prelude.{◌≡◌};
 ghost use Rattle.layout.specs.Layouts.{table, row_at, named_by, rows_of, given_of, given_length};
 
-use std::ops::Range;
-
 // The header, A, the payment, G, and the trailer, Z.
 #[derive(Clone, Copy, Debug, PartialEq, Eq)]
 pub enum Record {
@@ -41,6 +39,20 @@ pub struct Field {
     pub first: usize,
     pub last: usize,
     pub kind: Kind,
+}
+
+// Rows of the table, from `from` up to `to`, which is not included.
+#[derive(Clone, Copy, Debug, PartialEq, Eq)]
+pub struct Rows {
+    pub from: usize,
+    pub to: usize,
+}
+
+// A part of a field, from index `from` up to `to`, which is not included.
+#[derive(Clone, Copy, Debug, PartialEq, Eq)]
+pub struct Given {
+    pub from: usize,
+    pub to: usize,
 }
 
 // How many bytes a record has.
@@ -116,27 +128,27 @@ pub fn named_by(mark: u8) -> Option<Record>
 }
 
 // The rows of the table that are a record's fields.
-pub fn rows_of(which: Record) -> Range<usize>
+pub fn rows_of(which: Record) -> Rows
     ensures { result ≡ rows_of which }
 {
     match which {
-        Record::Header => 0..11,
-        Record::Payment => 11..24,
-        Record::Trailer => 24..28,
+        Record::Header => Rows { from: 0, to: 11 },
+        Record::Payment => Rows { from: 11, to: 24 },
+        Record::Trailer => Rows { from: 24, to: 28 },
     }
 }
 
 // The part of a field, of this kind and this many bytes, that a caller of the writer gives as bytes: all of it, but
 // nothing of what is fixed or money, and of the service field the second byte.
-pub fn given_of(kind: Kind, width: usize) -> Range<usize>
+pub fn given_of(kind: Kind, width: usize) -> Given
     ensures { result ≡ given_of kind width }
 {
-    let none = 0..0;
-    let all = 0..width;
+    let none = Given { from: 0, to: 0 };
+    let all = Given { from: 0, to: width };
     match kind {
         Kind::Mark(_) => none,
         Kind::Version => all,
-        Kind::Service => 1..2,
+        Kind::Service => Given { from: 1, to: 2 },
         Kind::Blank => none,
         Kind::Text => all,
         Kind::Digits => all,

@@ -104,7 +104,7 @@ payment_due_of (Err refusal) = None
 -- past the table.
 
 abbrev pub has_row : Option Record → ℕ → Bool
-has_row (Some r) row = leb (rows_of r).start row && ltb row (rows_of r).end
+has_row (Some r) row = leb (rows_of r).from row && ltb row (rows_of r).to
 has_row None row = false
 
 abbrev pub field_in : Option Record → ℕ → List ℕ → List ℕ

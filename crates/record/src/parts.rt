@@ -75,7 +75,10 @@ fn has_row(named: Option<Record>, row: usize) -> bool
     ensures { result ≡ has_row named row }
 {
     match named {
-        Some(which) => layout::rows_of(which).contains(&row),
+        Some(which) => {
+            let rows = layout::rows_of(which);
+            rows.from <= row && row < rows.to
+        }
         None => false,
     }
 }

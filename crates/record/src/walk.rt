@@ -24,7 +24,8 @@ fn layout_answer(which: Record, rec: &[u8; layout::LENGTH], version: u64, agreed
     ensures { result ≡ layout_answer (told version agreed.now) which rec.now }
 {
     let table = layout::table();
-    for f in &table[layout::rows_of(which)] {
+    let rows = layout::rows_of(which);
+    for f in &table[rows.from..rows.to] {
         field_answer(rec, version, agreed, *f)?;
     }
     Ok(())

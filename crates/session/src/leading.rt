@@ -114,9 +114,8 @@ impl Session {
             let guess = cache[entry] as usize;
             let range = board::search_range(payment.issuer, guess, work.lanes[guess], work.used);
             // Not by `position`: over a slice of the lanes it takes 10 instructions more for each payment.
-            // Between the range's ends: over the range itself it is a loop over an iterator, with a longer proof.
-            let mut at = range.end;
-            for i in range.start..range.end {
+            let mut at = range.to;
+            for i in range.from..range.to {
                 if work.lanes[i].is_of(payment.issuer) {
                     at = i;
                     break;

@@ -8,21 +8,21 @@ use Rattle.fields.proofs.Makes.{at_row, at_end, ends, placed, fits_part, refuses
 use Rattle.record.proofs.Walks.{in_order, in_table, rows_here}
 use Rattle.fields.proofs.making.make_rows.Goals as goal
 
-pub offset_bounds-table-rows_of : goal.offset_bounds-table-rows_of
-offset_bounds-table-rows_of c = omega (arith, in_order _ c.table-table.ensures c.rows_of.ensures, in_table _ c.table-table.ensures c.rows_of.ensures)
+pub offset_bounds-table-rows : goal.offset_bounds-table-rows
+offset_bounds-table-rows c = omega (arith, in_order _ c.table-table.ensures c.rows_of-rows.ensures, in_table _ c.table-table.ensures c.rows_of-rows.ensures)
 
 pub slice_bounds-f-items-count : goal.slice_bounds-f-items-count
-slice_bounds-f-items-count c = in_order _ c.table-table.ensures c.rows_of.ensures
+slice_bounds-f-items-count c = in_order _ c.table-table.ensures c.rows_of-rows.ensures
 
 pub slice_bounds-f-items-start : goal.slice_bounds-f-items-start
-slice_bounds-f-items-start c = in_order _ c.table-table.ensures c.rows_of.ensures
+slice_bounds-f-items-start c = in_order _ c.table-table.ensures c.rows_of-rows.ensures
 
 pub slice_bounds-f-items-end : goal.slice_bounds-f-items-end
-slice_bounds-f-items-end c = in_table _ c.table-table.ensures c.rows_of.ensures
+slice_bounds-f-items-end c = in_table _ c.table-table.ensures c.rows_of-rows.ensures
 
 pub loop-f-init : goal.loop-f-init
 loop-f-init c =
-    start _ _ _ _ _ (rows_here _ c.table-table.ensures c.rows_of.ensures) (search rules) c.requires
+    start _ _ _ _ _ (rows_here _ c.table-table.ensures c.rows_of-rows.ensures) (search rules) c.requires
 
 pub given_width-requires : goal.given_width-requires
 given_width-requires c = placed (at_row _ _ c.loop-f-test.true c.loop-f.invariant)

@@ -45,7 +45,7 @@ loop-i-preserved c =
     let l = c.loop-i in
     let o = c.loop-payment in
     let inv = l.invariant in
-    (search_on o.work o.invariant.0 c.in-Some.payment.issuer c.search_range-range.result.end l.i inv.0 c.loop-i-test.true (sym c.is_of.ensures ∙ c.if-is_of.false), inv.1)
+    (search_on o.work o.invariant.0 c.in-Some.payment.issuer c.search_range-range.result.to l.i inv.0 c.loop-i-test.true (sym c.is_of.ensures ∙ c.if-is_of.false), inv.1)
 
 pub loop-payment-smaller : goal.loop-payment-smaller
 loop-payment-smaller c =
@@ -56,7 +56,7 @@ pub loop-payment-preserved : goal.loop-payment-preserved
 loop-payment-preserved c =
     let l = c.loop-i in
     let at = c.loop-i-test.at in
-    let to = c.search_range-range.result.end in
+    let to = c.search_range-range.result.to in
     let o = c.loop-payment in
     let took = next_told _ c.next_payment.ensures c.in-Some.is in
     let p = c.in-Some.payment in
