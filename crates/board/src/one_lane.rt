@@ -1,8 +1,8 @@
 // One lane: sums within the limit, and a payment posted to a slot.
 ghost use Rattle.std.specs.Prelude.{◌&&◌, ◌≡◌, ◌+◌, ◌≤◌, ◌<◌, leb};
-ghost use Rattle.answer.specs.Answers.{◌gives◌};
+ghost use Rattle.answer.specs.Answers.{◌gives◌, answer_of, state_behind};
 ghost use Rattle.board.specs.Lanes.{limit, most_lanes, plus, is_lane_of, lane_of_one};
-ghost use Rattle.board.specs.Boards.{own_of, used_after, grown_slot, sums_answer, slot_answer};
+ghost use Rattle.board.specs.Boards.{own_of, used_after, grown_slot, sums_answer, slot_answer, slot_result_of};
 
 use crate::{Board, Lane, Slot, Tally};
 use answer::{Answer, Reason, Refusal, require};
@@ -109,7 +109,9 @@ impl Slot {
     // searches the index; the lane gets the payment's issuer whatever was there.
     #[tactic(auto, unfolding(crate::specs::Boards::slot_answer))]
     pub fn post(self, payment: Lane) -> Result<Slot, Refusal>
-        ensures { result ≡ (slot_answer self payment gives grown_slot self payment) }
+        ensures answer { result ≡ (slot_answer self payment gives grown_slot self payment) }
+        ensures kept { slot_result_of self payment
+            ≡ record { answer = answer_of result; slot = state_behind self result } }
     {
         require(
             self.at < Board::LANES,

@@ -1,8 +1,8 @@
 // A board by value: a fresh one, and one payment posted.
 ghost use Rattle.std.specs.Prelude.{◌≡◌};
-ghost use Rattle.answer.specs.Answers.{◌gives◌};
+ghost use Rattle.answer.specs.Answers.{◌gives◌, answer_of, state_behind};
 ghost use Rattle.board.specs.Lanes.{lane_of_one};
-ghost use Rattle.board.specs.Boards.{fresh_board, post_answer, board_with};
+ghost use Rattle.board.specs.Boards.{fresh_board, post_answer, board_with, post_result_of};
 
 use crate::{Board, Lane, Slot, Tally};
 use answer::{Reason, Refusal, require};
@@ -24,8 +24,10 @@ impl Board {
     // and no lane left) or 18 (a number of the lane or of the total would pass the limit).
     #[tactic(auto, unfolding(crate::specs::Boards::slot_answer))]
     pub fn post(mut self, issuer: Issuer, centavos: u64, tariff: u64) -> Result<Board, Refusal>
-        ensures { result ≡ (post_answer self (lane_of_one issuer centavos tariff)
+        ensures answer { result ≡ (post_answer self (lane_of_one issuer centavos tariff)
             gives board_with self (lane_of_one issuer centavos tariff)) }
+        ensures kept { post_result_of self (lane_of_one issuer centavos tariff)
+            ≡ record { answer = answer_of result; board = state_behind self result } }
     {
         let at = self.lane_index(issuer);
         require(at < Self::LANES, Reason::BoardFull, answer::ISSUER_PLACE)?;

@@ -3,8 +3,9 @@
 #![tactic(auto)]
 
 ghost use Rattle.std.specs.Prelude.{◌≡◌};
-ghost use Rattle.answer.specs.Answers.{◌gives◌};
-ghost use Rattle.file.specs.Files.{fresh_file, file_answer, file_with, figures_answer, closing_answer, figures_of};
+ghost use Rattle.answer.specs.Answers.{◌gives◌, answer_of, state_behind};
+ghost use Rattle.file.specs.Files.{fresh_file, file_answer, file_with, file_result_of, figures_answer, closing_answer};
+ghost use Rattle.file.specs.Files.{figures_of, close_result_of};
 ghost use Rattle.file.specs.Forms.{length_of, has_line_end};
 
 use answer::{Answer, Reason, Refusal, require};
@@ -87,7 +88,9 @@ impl File {
     // then 16 where the total would pass the most centavos; both also of a file in an arbitrary state.
     #[tactic(auto, unfolding(crate::specs::Files::file_answer))]
     pub fn take(self, received: u64) -> Result<File, Refusal>
-        ensures { result ≡ (file_answer self received gives file_with self received) }
+        ensures answer { result ≡ (file_answer self received gives file_with self received) }
+        ensures kept { file_result_of self received
+            ≡ record { answer = answer_of result; file = state_behind self result } }
     {
         require(self.taken < Self::MOST_PAYMENTS, Reason::FileFull, 1)?;
         // A sum past 64 bits stays at the largest number, which is past the most centavos too.
@@ -109,7 +112,7 @@ impl File {
         ensures { result ≡ figures_answer self shown }
     {
         require(
-            self.taken.checked_add(2) == Some(shown.count),
+            shown.count.checked_sub(2) == Some(self.taken),
             Reason::CountDiffers,
             COUNT_PLACE,
         )?;
@@ -120,7 +123,9 @@ impl File {
     // to a file in an arbitrary state.
     #[tactic(auto, unfolding(crate::specs::Files::closing_answer))]
     pub fn close(self) -> Result<Figures, Refusal>
-        ensures { result ≡ (closing_answer self gives figures_of self) }
+        ensures answer { result ≡ (closing_answer self gives figures_of self) }
+        ensures zeros { close_result_of self
+            ≡ record { answer = answer_of result; figures = state_behind (record { count = 0; total = 0 }) result } }
     {
         require(self.taken <= Self::MOST_PAYMENTS, Reason::FileFull, 1)?;
         require(

@@ -3,12 +3,12 @@
 #![tactic(auto)]
 
 ghost use Rattle.std.specs.Prelude.{◌≡◌, ◌+◌, ◌*◌, ◌≤◌, length, IfOk};
-ghost use Rattle.answer.specs.Answers.{◌gives◌};
+ghost use Rattle.answer.specs.Answers.{◌gives◌, answer_of, state_behind};
 ghost use Rattle.board.specs.Lanes.{most_lanes};
 ghost use Rattle.barcode.specs.Codes.{issuer};
 ghost use Rattle.page.specs.Plain.{needed, shown};
 ghost use Rattle.page.specs.Pages.{number_line, issuer_line, tally_lines, lane_lines, lanes_lines};
-ghost use Rattle.page.specs.Pages.{page_of, most_lane, page_length, buffer_answer, bytes_with};
+ghost use Rattle.page.specs.Pages.{page_of, most_lane, page_length, buffer_answer, print_result_of, bytes_with};
 ghost use Rattle.page.specs.Pieces.{most_digits, most_line, most_issuer, most_tally, HasRoom, Printed};
 
 use answer::{Reason, Refusal, require};
@@ -117,6 +117,8 @@ pub fn print(
 ) -> Result<usize, Refusal>
     ensures value { result ≡ (buffer_answer out.old gives length (page_of number place records files board)) }
     ensures bytes { out.new ≡ bytes_with (page_of number place records files board) out.old }
+    ensures zero { print_result_of (page_of number place records files board) out.old
+        ≡ record { answer = answer_of result; length = state_behind 0 result } }
     ensures bounded { IfOk result (λ n. n ≤ page_length) }
 {
     require(out.len() == PAGE, Reason::WrongLength, 0)?;

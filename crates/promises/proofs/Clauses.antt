@@ -22,15 +22,15 @@ module _ (w : World) where
       fact_use w.𝓤 φ (via w.𝓤 P (fst∗ w.𝓤 P Q) p) (λ x.
       fact_use w.𝓤 χ (via w.𝓤 Q (snd∗ w.𝓤 P Q) q) (λ y. fact_i w.𝓤 ψ (both P Q) (f x y)))
 
-  -- two clauses; the same with a bound behind them
+  -- two clauses; the same with more behind them
   abbrev pub clauses : Type 0 → Type 0 → Pr w
   clauses φ χ = both (says φ) (says χ)
 
-  abbrev pub bounded_clauses : Type 0 → Type 0 → Type 0 → Pr w
-  bounded_clauses φ χ β = both (says φ) (clauses χ β)
+  abbrev pub bounded_clauses : Type 0 → Type 0 → Pr w → Pr w
+  bounded_clauses φ χ β = both (says φ) (both (says χ) β)
 
-  without_bound : (χ β : Type 0) → Gives (clauses χ β) χ
-  without_bound χ β = fst∗ w.𝓤 (says χ) (says β)
+  without_bound : (χ : Type 0) (β : Pr w) → Gives (both (says χ) β) χ
+  without_bound χ β = fst∗ w.𝓤 (says χ) β
 
   -- of one outcome
   pub by_one : (φ ψ : Type 0) → (φ → ψ) → Gives (says φ) ψ
@@ -39,8 +39,8 @@ module _ (w : World) where
   pub by_two : (φ χ ψ : Type 0) → (φ → χ → ψ) → Gives (clauses φ χ) ψ
   by_two φ χ ψ f = from_both (says φ) (says χ) φ χ ψ (itself φ) (itself χ) f
 
-  pub by_bounded : (φ χ β ψ : Type 0) → (φ → χ → ψ) → Gives (bounded_clauses φ χ β) ψ
-  by_bounded φ χ β ψ f = from_both (says φ) (clauses χ β) φ χ ψ (itself φ) (without_bound χ β) f
+  pub by_bounded : (φ χ : Type 0) (β : Pr w) (ψ : Type 0) → (φ → χ → ψ) → Gives (bounded_clauses φ χ β) ψ
+  by_bounded φ χ β ψ f = from_both (says φ) (both (says χ) β) φ χ ψ (itself φ) (without_bound χ β) f
 
   -- of two outcomes
   pub one : (φ φ' ψ : Type 0) → (φ → φ' → ψ) → Gives (both (says φ) (says φ')) ψ
@@ -52,7 +52,7 @@ module _ (w : World) where
       (by_two φ χ (φ × χ) (λ x y. (x, y))) (by_two φ' χ' (φ' × χ') (λ x y. (x, y))) f
 
   pub bounded :
-      (φ χ β φ' χ' β' ψ : Type 0) → (φ × χ → φ' × χ' → ψ)
+      (φ χ : Type 0) (β : Pr w) (φ' χ' : Type 0) (β' : Pr w) (ψ : Type 0) → (φ × χ → φ' × χ' → ψ)
       → Gives (both (bounded_clauses φ χ β) (bounded_clauses φ' χ' β')) ψ
   bounded φ χ β φ' χ' β' ψ f =
       from_both (bounded_clauses φ χ β) (bounded_clauses φ' χ' β') (φ × χ) (φ' × χ') ψ

@@ -6,7 +6,7 @@
 use Prim.Native.Nat.{ℕ, zero, suc}
 use mathlib.Core.List.{List}
 use mathlib.Core.Path.{◌≡◌, refl, sym, ◌∙◌, ap}
-use borrow.Fn.World.{World}
+use borrow.Fn.World.{World, Pr}
 use Rattle.std.specs.Prelude.{Result}
 use Rattle.answer.specs.declared.Refusal.{Refusal}
 use Rattle.answer.specs.Answers.{Answer, answer_of}
@@ -25,7 +25,7 @@ value :
     → Gives w (both w (says w (r ≡ x)) (says w (r' ≡ x))) ((r ≡ r') × (left ≡ left))
 value w A L x r r' left = one w (r ≡ x) (r' ≡ x) ((r ≡ r') × (left ≡ left)) (λ p p'. (same p p', refl))
 
--- the same with a bound behind the equation
+-- the same with another clause behind the equation
 value_bounded :
     (w : World) (A L : Type 0) (x r r' : A) (left : L) (β β' : Type 0)
     → Gives w (both w (clauses w (r ≡ x) β) (clauses w (r' ≡ x) β')) ((r ≡ r') × (left ≡ left))
@@ -57,7 +57,7 @@ module _ (before behind : ℕ) (w : World) where
   bytes : (A : Type 0) (r : A) (y b b' : List ℕ) → Gives w (both w (says w (b ≡ y)) (says w (b' ≡ y))) (Equal r r b b')
   bytes A r y b b' = one w _ _ _ (λ p p'. (refl, ap (around before behind) (same p p')))
 
-  -- the bytes do not depend on the result; the same with a bound behind the two clauses
+  -- the bytes do not depend on the result; the same with more behind the two clauses
   fixed :
       (A : Type 0) (x r r' : A) (y b b' : List ℕ)
       → Gives w (both w (clauses w (r ≡ x) (b ≡ y)) (clauses w (r' ≡ x) (b' ≡ y))) (Equal r r' b b')
@@ -65,11 +65,11 @@ module _ (before behind : ℕ) (w : World) where
       two w _ _ _ _ _ (λ p p'. (same p.0 p'.0, ap (around before behind) (same p.1 p'.1)))
 
   fixed_bounded :
-      (A : Type 0) (x r r' : A) (y b b' : List ℕ) (β β' : Type 0)
+      (A : Type 0) (x r r' : A) (y b b' : List ℕ) (β β' : Pr w)
       → Gives w (both w (bounded_clauses w (r ≡ x) (b ≡ y) β) (bounded_clauses w (r' ≡ x) (b' ≡ y) β'))
       (Equal r r' b b')
   fixed_bounded A x r r' y b b' β β' =
-      bounded w _ _ _ _ _ _ _ (λ p p'. (same p.0 p'.0, ap (around before behind) (same p.1 p'.1)))
+      bounded w _ _ β _ _ β' _ (λ p p'. (same p.0 p'.0, ap (around before behind) (same p.1 p'.1)))
 
   module _ (new old b b' : List ℕ) where
     -- the bytes are new if the result, or its answer, is acceptance
@@ -82,13 +82,13 @@ module _ (before behind : ℕ) (w : World) where
         two w _ _ _ _ _ (λ p p'. let e = same p.0 p'.0 in (e, ap (around before behind) (cc (p.1, p'.1, e))))
 
     written :
-        (x r r' : Result Writer Refusal)
+        (x r r' : Result Writer Refusal) (β β' : Pr w)
         → Gives w
-        (both w (clauses w (r ≡ x) (b ≡ if_accepted (answer_of r) new old))
-        (clauses w (r' ≡ x) (b' ≡ if_accepted (answer_of r') new old)))
+        (both w (bounded_clauses w (r ≡ x) (b ≡ if_accepted (answer_of r) new old) β)
+        (bounded_clauses w (r' ≡ x) (b' ≡ if_accepted (answer_of r') new old) β'))
         (Equal r r' b b')
-    written x r r' =
-        two w _ _ _ _ _ (λ p p'. let e = same p.0 p'.0 in (e, ap (around before behind) (cc (p.1, p'.1, e))))
+    written x r r' β β' =
+        bounded w _ _ β _ _ β' _ (λ p p'. let e = same p.0 p'.0 in (e, ap (around before behind) (cc (p.1, p'.1, e))))
 
 of_answer_holds : outcomes.AnswerOutcomes
 of_answer_holds = search value
@@ -121,16 +121,16 @@ of_fields_holds : outcomes.FieldsOutcomes
 of_fields_holds = search (answered 3 0, answered 6 0)
 
 of_file_holds : outcomes.FileOutcomes
-of_file_holds = search value
+of_file_holds = search (value, value_bounded)
 
 of_board_holds : outcomes.BoardOutcomes
-of_board_holds = search value
+of_board_holds = search (value, value_bounded)
 
 of_pairs_holds : outcomes.PairsOutcomes
 of_pairs_holds = search value
 
 of_session_holds : outcomes.SessionOutcomes
-of_session_holds = search value
+of_session_holds = search (value, value_bounded)
 
 of_writer_holds : outcomes.WriterOutcomes
 of_writer_holds = search (value, written 1 0, written 2 0, written 5 0)

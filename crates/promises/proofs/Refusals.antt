@@ -2,7 +2,7 @@
 use Prim.Native.Nat.{ℕ}
 use mathlib.Core.List.{List}
 use mathlib.Core.Path.{◌≡◌, refl, ◌∙◌, ap}
-use borrow.Fn.World.{World}
+use borrow.Fn.World.{World, Pr}
 use Rattle.answer.specs.Answers.{Answer, Accepted, ◌gives◌, answer_of, state_behind}
 use Rattle.std.specs.Prelude.{Result, Ok, Err}
 use Rattle.answer.specs.declared.Refusal.{Refusal}
@@ -17,7 +17,7 @@ use Rattle.hollytrot.specs.declared.CWriter.{CWriter}
 use Rattle.hollytrot.specs.declared.CWriteResult.{CWriteResult}
 use Rattle.hollytrot.specs.Forms.{c_answer_of}
 use Rattle.promises.specs.Refusals.{RefusalsChangeNothing, first, second, third, fifth, sixth}
-use Rattle.promises.proofs.Clauses.{Gives, clauses, by_one, by_two, by_bounded}
+use Rattle.promises.proofs.Clauses.{Gives, clauses, bounded_clauses, by_one, by_two, by_bounded}
 
 -- a refusal keeps the old
 stays : {S : Type 0} (a : Answer) (new old x : S) → x ≡ if_accepted a new old → (a ≡ Accepted → ⊥) → x ≡ old
@@ -43,12 +43,22 @@ buffer w x r new old bytes = by_two w _ _ _ (λ p. stays r new old bytes)
 
 -- the writer and its buffer
 writer :
-    (w : World) (x r : Result Writer Refusal) (old : Writer) (made held bytes : List ℕ)
+    (w : World) (x r : Result Writer Refusal) (old : Writer) (made held bytes : List ℕ) (β : Pr w)
     → Gives w
-    (clauses w (r ≡ x) (bytes ≡ if_accepted (answer_of r) made held))
+    (bounded_clauses w (r ≡ x) (bytes ≡ if_accepted (answer_of r) made held) β)
     ((answer_of r ≡ Accepted → ⊥) → ◌≡◌ {A = Writer × List ℕ} (state_behind old r, bytes) (old, held))
-writer w x r old made held bytes =
-    by_two w _ _ _ (λ p b not. paired (stays_behind old r not) (stays (answer_of r) made held bytes b not))
+writer w x r old made held bytes β =
+    by_bounded w _ _ β _ (λ p b not. paired (stays_behind old r not) (stays (answer_of r) made held bytes b not))
+
+-- the buffer of a page
+page :
+    (w : World) (a : Answer) (n : ℕ) (r : Result ℕ Refusal) (new old bytes : List ℕ) (β : Pr w)
+    → Gives w
+    (bounded_clauses w (r ≡ (a gives n)) (bytes ≡ if_accepted a new old) β)
+    ((answer_of r ≡ Accepted → ⊥) → bytes ≡ old)
+page w a n r new old bytes β =
+    by_bounded w _ _ β _ (λ p b not.
+    stays a new old bytes b (λ e. not (ap answer_of p ∙ gives_accepts a n e)))
 
 -- The exported operations: a number that is not 0 is that of a refusal.
 
@@ -80,17 +90,15 @@ refusals_change_nothing =
       fields·join = search buffer;
       fields·make = search buffer;
       fields·judged·make = search buffer;
-      file·File·take = λ w κs given g r left. by_one w _ _ (λ p. stays_behind (first given) r);
-      board·Slot·post = λ w κs given g r left. by_one w _ _ (λ p. stays_behind (first given) r);
-      board·Board·post = λ w κs given g r left. by_one w _ _ (λ p. stays_behind (first given) r);
-      session·Session·take = λ w κs given g r left. by_one w _ _ (λ p. stays_behind (first given) r);
-      session·Session·finish = λ w κs given g r left. by_one w _ _ (λ p. stays_behind (first given) r);
+      file·File·take = λ w κs given g r left. by_two w _ _ _ (λ p q. stays_behind (first given) r);
+      board·Slot·post = λ w κs given g r left. by_two w _ _ _ (λ p q. stays_behind (first given) r);
+      board·Board·post = λ w κs given g r left. by_two w _ _ _ (λ p q. stays_behind (first given) r);
+      session·Session·take = λ w κs given g r left. by_two w _ _ _ (λ p q. stays_behind (first given) r);
+      session·Session·finish = λ w κs given g r left. by_two w _ _ _ (λ p q. stays_behind (first given) r);
       writer·Writer·header = search writer;
       writer·Writer·payment = search writer;
       writer·Writer·trailer = search writer;
-      page·print = λ w κs given g r left.
-          let a = buffer_answer (sixth given).now in
-          by_bounded w _ _ _ _ (λ p b not. stays a _ _ _ b (λ e. not (ap answer_of p ∙ gives_accepts a _ e)));
+      page·print = search page;
       hollytrot·hollytrot_barcode_build = search exported_buffer;
       hollytrot·hollytrot_line_to_barcode = search exported_buffer;
       hollytrot·hollytrot_line_from_barcode = search exported_buffer;

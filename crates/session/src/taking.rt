@@ -1,6 +1,6 @@
 // One record at a time, in the order of SPEC.md, "Refusals".
 ghost use Rattle.std.specs.Prelude.{◌≡◌};
-ghost use Rattle.answer.specs.Answers.{◌gives◌};
+ghost use Rattle.answer.specs.Answers.{◌gives◌, answer_of, state_behind};
 ghost use Rattle.answer.specs.Orders.{◌then◌};
 ghost use Rattle.barcode.specs.Agreed.{list_answer};
 ghost use Rattle.record.specs.Values.{decoded_record_under};
@@ -8,7 +8,7 @@ ghost use Rattle.file.specs.Files.{figures_answer};
 ghost use Rattle.board.specs.Lanes.{lane_of_one};
 ghost use Rattle.session.specs.Sessions.{closed_at, fresh_session, session_terms, session_expects, pay_answer};
 ghost use Rattle.session.specs.Sessions.{session_with_payment, session_closed, session_answer, session_with};
-ghost use Rattle.session.specs.Sessions.{take_answer, next_session, abandon_of, finish_of};
+ghost use Rattle.session.specs.Sessions.{take_answer, next_session, take_of, abandon_of, finish_of};
 
 use crate::{Session, ends, opening};
 use answer::{Answer, Reason, Refusal, require};
@@ -136,8 +136,10 @@ impl Session {
     // the first refusal, 25 for the list before everything. The list is that of this record alone. For many records use
     // `run`: it judges the list once and copies no board for a payment.
     pub fn take(self, rec: &[u8], agreed: &[u64]) -> Result<Session, Refusal>
-        ensures { result ≡ ((list_answer agreed.now then take_answer agreed.now self rec.now)
+        ensures answer { result ≡ ((list_answer agreed.now then take_answer agreed.now self rec.now)
             gives next_session agreed.now self rec.now) }
+        ensures kept { take_of agreed.now self rec.now
+            ≡ record { answer = answer_of result; session = state_behind self result } }
     {
         barcode::check_list(agreed)?;
         self.take_judged(rec, agreed)
@@ -156,7 +158,9 @@ impl Session {
 
     // The end of the input: 19 while a file is open, else this very session.
     pub fn finish(self) -> Result<Session, Refusal>
-        ensures { result ≡ ((finish_of self).answer gives self) }
+        ensures answer { result ≡ ((finish_of self).answer gives self) }
+        ensures kept { finish_of self
+            ≡ record { answer = answer_of result; session = state_behind self result } }
     {
         require(!self.opened, Reason::FileOpen, 0)?;
         Ok(self)

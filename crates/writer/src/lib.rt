@@ -3,15 +3,16 @@
 #![tactic(auto)]
 
 ghost use Rattle.std.specs.Prelude.{◌||◌, ◌≡◌, eqb, length};
-ghost use Rattle.answer.specs.Answers.{◌gives◌, answer_of};
+ghost use Rattle.answer.specs.Answers.{◌gives◌, answer_of, state_behind};
 ghost use Rattle.answer.specs.Orders.{if_accepted};
 ghost use Rattle.layout.specs.Layouts.{record_length};
 ghost use Rattle.file.specs.Forms.{in_form, lined_length, length_of};
 ghost use Rattle.record.specs.Values.{version_in};
 ghost use Rattle.writer.specs.Writers.{fresh_writer, writer_expects, fits_buffer, is_lined_buffer, call_answer};
-ghost use Rattle.writer.specs.Writers.{header_answer, header_next, header_bytes};
-ghost use Rattle.writer.specs.Writers.{payment_answer, payment_check, payment_next, payment_bytes};
-ghost use Rattle.writer.specs.Writers.{trailer_answer, trailer_next, trailer_bytes};
+ghost use Rattle.writer.specs.Writers.{header_answer, header_next, header_written, header_bytes};
+ghost use Rattle.writer.specs.Writers.{payment_answer, payment_check, payment_next, payment_under, payment_written};
+ghost use Rattle.writer.specs.Writers.{payment_bytes};
+ghost use Rattle.writer.specs.Writers.{trailer_answer, trailer_next, trailer_written, trailer_bytes};
 
 use answer::{Answer, Reason, Refusal, require};
 use file::File;
@@ -123,6 +124,8 @@ impl Writer {
             gives header_next fields.now (length out.old)) }
         ensures bytes { out.new ≡ if_accepted (answer_of result)
             (in_form (is_lined_buffer (length out.old)) (header_bytes fields.now)) out.old }
+        ensures kept { header_written self fields.now (length out.old)
+            ≡ record { answer = answer_of result; writer = state_behind self result } }
     {
         self.check_call(Record::Header, fields.len(), out.len())?;
         let version = self.file.version;
@@ -148,6 +151,8 @@ impl Writer {
             gives payment_next self received) }
         ensures bytes { out.new ≡ if_accepted (answer_of result)
             (in_form (is_lined_buffer (length out.old)) (payment_bytes fields.now received tariff)) out.old }
+        ensures kept { payment_under agreed.now self fields.now received tariff (length out.old)
+            ≡ record { answer = answer_of result; writer = state_behind self result } }
     {
         self.check_call(Record::Payment, fields.len(), out.len())?;
         let mut payment = [0u8; Self::RECORD];
@@ -180,6 +185,8 @@ impl Writer {
             gives payment_next self received) }
         ensures bytes { out.new ≡ if_accepted (answer_of result)
             (in_form (is_lined_buffer (length out.old)) (payment_bytes fields.now received tariff)) out.old }
+        ensures kept { payment_written agreed.now self fields.now received tariff (length out.old)
+            ≡ record { answer = answer_of result; writer = state_behind self result } }
     {
         barcode::check_list(agreed)?;
         self.payment_judged(fields, received, tariff, agreed, out)
@@ -192,6 +199,8 @@ impl Writer {
         ensures answer { result ≡ (trailer_answer self (length out.old) gives trailer_next self) }
         ensures bytes { out.new ≡ if_accepted (answer_of result)
             (in_form (is_lined_buffer (length out.old)) (trailer_bytes self)) out.old }
+        ensures kept { trailer_written self (length out.old)
+            ≡ record { answer = answer_of result; writer = state_behind self result } }
     {
         self.check_call(Record::Trailer, Self::COUNT, out.len())?;
         let figures = self.file.close()?;

@@ -1,10 +1,11 @@
-use mathlib.Core.Path.{◌≡◌}
+use mathlib.Core.Path.{◌≡◌, sym}
 use native.Mathlib.Omega.{arith}
 use borrow.Author.Rules.{rules}
 use lib.ListN.{length}
+use Rattle.answer.proofs.Orders.{gives_tells}
 use Rattle.page.proofs.Pages.{lanes_shown, printed}
 use Rattle.page.proofs.Steps.{printed_then}
-use Rattle.page.specs.Pages.{sums_lines, head_lines, page_of, page_length}
+use Rattle.page.specs.Pages.{sums_lines, head_lines, page_of, page_length, buffer_answer}
 use Rattle.page.specs.Pieces.{most_sums, Printed}
 use Rattle.page.proofs.print.Goals as goal
 
@@ -23,4 +24,5 @@ returns c =
     let head = printed_then (omega arith) c.line.ensures (printed_then (omega arith) c.line-2.ensures counts) in
     let whole = printed_then (omega arith) head lanes in
     let p = printed page a.out.now long whole.wrote in
-    record { value = p.0; bytes = grind (arith, whole.same_buffer, p.1.0); bounded = p.1.1 }
+    let told = gives_tells (buffer_answer a.out.now) (sym p.0) in
+    record { value = p.0; zero = rw (told.0, told.1); bytes = grind (arith, whole.same_buffer, p.1.0); bounded = p.1.1 }

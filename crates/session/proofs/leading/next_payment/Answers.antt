@@ -33,4 +33,4 @@ returns c =
     next_is a.agreed.now {opened = a.opened} {more = a.more} {before = a.done} {bytes = a.bytes.now} {end = a.done.at + c.record_length.result}
     c.if-not-opened.false (omega (arith, least, c.record_needs.ensures, c.if-bytes-at.false, c.requires.1)) (omega (arith, size))
     (omega (arith, own, size, c.record_needs.ensures, c.if-bytes-at.false, c.requires.1)) (sym c.check_end.ensures ∙ ended)
-    c.accepted_payment.ensures c.in_ok-due.was (sym c.take.ensures ∙ sym took) c.of_payment.ensures
+    c.accepted_payment.ensures c.in_ok-due.was (sym c.take.ensures.answer ∙ sym took) c.of_payment.ensures
