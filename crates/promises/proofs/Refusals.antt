@@ -16,7 +16,7 @@ use Rattle.hollytrot.specs.declared.CAnswer.{CAnswer}
 use Rattle.hollytrot.specs.declared.CWriter.{CWriter}
 use Rattle.hollytrot.specs.declared.CWriteResult.{CWriteResult}
 use Rattle.hollytrot.specs.Forms.{c_answer_of}
-use Rattle.promises.specs.Refusals.{RefusalsChangeNothing, first, second, third, fifth, sixth}
+use Rattle.promises.specs.Refusals.{RefusalsChangeNothing, first, second, third, fifth}
 use Rattle.promises.proofs.Clauses.{Gives, clauses, bounded_clauses, by_one, by_two, by_bounded}
 
 -- a refusal keeps the old
